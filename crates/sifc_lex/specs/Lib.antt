@@ -1,0 +1,6 @@
+pub mod Base
+pub mod Kind
+pub mod Reserved
+pub mod Lex
+pub mod Place
+pub mod LexCases
