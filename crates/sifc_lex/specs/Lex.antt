@@ -159,17 +159,19 @@ unfoldable pub ended : Ending → ℕ → Lexed
 unfolding endKind endLen
 ended e off = record { toks = token (endKind e) off (endLen e) ∷ []; ending = e }
 
+-- What a turn gives, where next lexes the bytes that are left from an offset on.
+unfoldable pub onStep : (ℕ → List ℕ → Lexed) → ℕ → List ℕ → Step → Lexed
+unfolding ended
+onStep next off s (Skip n) = next (off + n) (drop n s)
+onStep next off s (Word k n) = before (token k off n) (next (off + n) (drop n s))
+onStep next off s (Stop n e) = ended e (off + n)
+
 -- The tokens of the bytes s that stand at offset off. The first argument bounds the turns; each takes a byte or ends, so the
 -- number of bytes and one are enough (LexLaws.antt).
 unfoldable pub lexFrom : ℕ → ℕ → List ℕ → Lexed
-unfolding step ended
+unfolding step onStep ended
 lexFrom zero off s = ended TrueEnd off
-lexFrom (suc f) off s =
-    elim (step s) [
-      | Skip n ↦ lexFrom f (off + n) (drop n s)
-      | Word k n ↦ before (token k off n) (lexFrom f (off + n) (drop n s))
-      | Stop n e ↦ ended e (off + n)
-    ]
+lexFrom (suc f) off s = onStep (lexFrom f) off s (step s)
 
 -- Every token of a script, the last of kind 47 or 48, and why they end.
 unfoldable pub lexed : List ℕ → Lexed
