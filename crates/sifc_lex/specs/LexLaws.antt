@@ -9,6 +9,7 @@ use mathlib.Core.Logic.{_⊎_, inl, inr}
 use native.Mathlib.Omega.{arith}
 use native.Mathlib.Nat.{not-suc-le-zero, zero-add}
 use lib.Dec.{T, eqb, leb, leb→le}
+use borrow.Author.Tests.{eqb-false}
 use lib.ListN.{take, drop, length, length-drop}
 use Rattle.sifc_err.specs.declared.Token.{Token}
 use Rattle.sifc_err.specs.declared.Ending.{Ending}
@@ -16,19 +17,14 @@ use Rattle.sifc_err.specs.declared.Ending.the-variants.{TrueEnd, UnknownChar, U
 use Rattle.sifc_lex.specs.declared.lex.Step.{Step}
 use Rattle.sifc_lex.specs.declared.lex.Step.the-variants.{Skip, Word, Stop}
 use Rattle.sifc_lex.specs.Base.{if_then_else_, span, same}
+use Rattle.sifc_lex.specs.BaseLaws.{and-left, and-right, span-le, rest-of}
 use Rattle.sifc_lex.specs.Reserved.{reservedWords, kindAmong, nameKind}
 use Rattle.sifc_lex.specs.Reserved as Reserved
-use Rattle.sifc_lex.specs.Lex.{white, digit, letter, alnum, inLine, inStr, Sign, doubles, singles, single, double, lexSign, hashComment, lineEnd, slashComment, closed, lexStr, pointed, fraction, lexNum, lexIdent, nextIs, step, endKind, endLen, Lexed, before, ended, token, onStep, lexFrom, lexed, lex}
+use Rattle.sifc_lex.specs.Lex.{white, digit, letter, alnum, inLine, inStr, Sign, doubles, singles, singleKind, doubleKind, oneSign, lexSign, hashComment, lineEnd, slashComment, closed, lexStr, pointed, fraction, lexNum, lexIdent, nextIs, lexSlash, step, endKind, endLen, Lexed, before, ended, token, onStep, lexFrom, lexed, lex}
 
--- A run of bytes that pass a test is no longer than the bytes.
-pub span-le : (p : ℕ → Bool) (s : List ℕ) → span p s ≤ length s
-unfolding span
-span-le p [] = omega arith
-span-le p (b ∷ bs) = go (p b) (span-le p bs)
-  where
-    go : (q : Bool) → span p bs ≤ length bs → (elim q as (λ z. ℕ) [ true ↦ suc (span p bs) | false ↦ 0 ]) ≤ suc (length bs)
-    go true h = omega arith
-    go false h = omega arith
+pos-of-ne-zero : (k : ℕ) → (k ≡ 0 → ⊥) → 0 < k
+pos-of-ne-zero zero h = absurd (h refl)
+pos-of-ne-zero (suc k) h = omega arith
 
 -- What a turn on m bytes gives: it takes at least one byte and none that is not there; a token's kind is from 1 to 45; a panic stands at a byte.
 pub Fair : ℕ → Step → Type 0
@@ -40,9 +36,6 @@ fair-if : (m : ℕ) (q : Bool) (x y : Step) → Fair m x → Fair m y → Fair m
 unfolding if_then_else_
 fair-if m true x y f g = f
 fair-if m false x y f g = g
-
-rest-of : (p : ℕ → Bool) (bs : List ℕ) → span p bs + length (drop (span p bs) bs) ≡ length bs
-rest-of p bs = let l = length-drop (span p bs) bs in let h = span-le p bs in omega arith
 
 fair-hash : (bs : List ℕ) → Fair (suc (length bs)) (hashComment bs)
 unfolding hashComment Fair
@@ -56,6 +49,10 @@ fair-lineEnd n m (c ∷ r) h k = (h, omega arith)
 fair-slash : (bs : List ℕ) → Fair (suc (length bs)) (slashComment bs)
 unfolding slashComment
 fair-slash bs = let h = rest-of inLine bs in fair-lineEnd (1 + span inLine bs) (length bs) (drop (span inLine bs) bs) (omega arith) (omega arith)
+
+fair-lexSlash : (bs : List ℕ) → Fair (suc (length bs)) (lexSlash bs)
+unfolding lexSlash Fair
+fair-lexSlash bs = fair-if (suc (length bs)) (nextIs 47 bs) _ _ (fair-slash bs) (omega arith, omega arith, omega arith, omega arith)
 
 absurd-kind : {X : Type 0} → _≡_ {A = ℕ} 47 48 → X
 absurd-kind e = absurd (let z : ⊥ = omega arith in z)
@@ -90,14 +87,6 @@ goodKinds : List ℕ → Bool
 goodKinds [] = true
 goodKinds (k ∷ ks) = (leb 1 k && leb k 45) && goodKinds ks
 
-and-left : (p q : Bool) → T (p && q) → T p
-and-left true q t = tt
-and-left false q t = absurd t
-
-and-right : (p q : Bool) → T (p && q) → T q
-and-right true q t = t
-and-right false q t = absurd t
-
 good-head : (k : ℕ) (ks : List ℕ) → T (goodKinds (k ∷ ks)) → (0 < k) × (k ≤ 45)
 unfolding goodKinds
 good-head k ks t =
@@ -125,34 +114,45 @@ fair-ident b bs =
     let k = fair-kind reservedWords (b ∷ take (span alnum bs) bs) tt in
     (omega arith, omega arith, k .0, k .1)
 
-fair-single : (ss : List Sign) (b m : ℕ) → T (goodKinds (map (λ (s : Sign). s .kind) ss)) → Fair (suc m) (single ss b)
-unfolding single Fair endKind
-fair-single [] b m t = (omega arith, λ e. absurd-kind e)
-fair-single (s ∷ ss) b m t = go (eqb (s .first) b) (good-head (s .kind) _ t) (fair-single ss b m (good-tail (s .kind) _ t))
+-- a kind out of a table of signs, where it is not 0
+signKinds : List Sign → List ℕ
+signKinds ss = map (λ (s : Sign). s .kind) ss
+
+fair-singleKind : (ss : List Sign) (b : ℕ) → T (goodKinds (signKinds ss)) → singleKind ss b ≤ 45
+unfolding singleKind signKinds
+fair-singleKind [] b t = omega arith
+fair-singleKind (s ∷ ss) b t = go (eqb b (s .first)) (good-head (s .kind) _ t) (fair-singleKind ss b (good-tail (s .kind) _ t))
   where
-    go : (q : Bool) → (0 < s .kind) × (s .kind ≤ 45) → Fair (suc m) (single ss b) → Fair (suc m) (elim q as (λ z. Step) [ true ↦ Word (s .kind) 1 | false ↦ single ss b ])
-    go true h k = (omega arith, omega arith, h .0, h .1)
+    go : (q : Bool) → (0 < s .kind) × (s .kind ≤ 45) → singleKind ss b ≤ 45 → (elim q as (λ z. ℕ) [ true ↦ s .kind | false ↦ singleKind ss b ]) ≤ 45
+    go true h k = h .1
     go false h k = k
 
-fair-singles : (b m : ℕ) → Fair (suc m) (single singles b)
-unfolding goodKinds singles
-fair-singles b m = fair-single singles b m tt
-
-fair-double : (ss : List Sign) (b : ℕ) (bs : List ℕ) → T (goodKinds (map (λ (s : Sign). s .kind) ss)) → Fair (suc (length bs)) (double ss b bs)
-unfolding double Fair
-fair-double [] b [] t = fair-singles b 0
-fair-double (s ∷ ss) b [] t = fair-singles b 0
-fair-double [] b (c ∷ bs) t = fair-singles b (suc (length bs))
-fair-double (s ∷ ss) b (c ∷ bs) t = go (eqb (s .first) b && eqb (s .second) c) (good-head (s .kind) _ t) (fair-double ss b (c ∷ bs) (good-tail (s .kind) _ t))
+fair-doubleKind : (ss : List Sign) (b c : ℕ) → T (goodKinds (signKinds ss)) → doubleKind ss b c ≤ 45
+unfolding doubleKind signKinds
+fair-doubleKind [] b c t = omega arith
+fair-doubleKind (s ∷ ss) b c t = go (eqb b (s .first) && eqb c (s .second)) (good-head (s .kind) _ t) (fair-doubleKind ss b c (good-tail (s .kind) _ t))
   where
-    go : (q : Bool) → (0 < s .kind) × (s .kind ≤ 45) → Fair (suc (suc (length bs))) (double ss b (c ∷ bs))
-        → Fair (suc (suc (length bs))) (elim q as (λ z. Step) [ true ↦ Word (s .kind) 2 | false ↦ double ss b (c ∷ bs) ])
-    go true h k = (omega arith, omega arith, h .0, h .1)
+    go : (q : Bool) → (0 < s .kind) × (s .kind ≤ 45) → doubleKind ss b c ≤ 45 → (elim q as (λ z. ℕ) [ true ↦ s .kind | false ↦ doubleKind ss b c ]) ≤ 45
+    go true h k = h .1
     go false h k = k
+
+-- a sign of n bytes out of m, whose kind is k, or what else there is where k is 0
+fair-kinded : (k n m : ℕ) (x : Step) → k ≤ 45 → 0 < n → n ≤ m → Fair m x → Fair m (if eqb k 0 then x else Word k n)
+unfolding if_then_else_ Fair
+fair-kinded k n m x h p l f = go (eqb k 0) refl
+  where
+    go : (q : Bool) → eqb k 0 ≡ q → Fair m (if q then x else Word k n)
+    go true e = f
+    go false e = let z = eqb-false k 0 e in (p, l, pos-of-ne-zero k z, h)
+
+fair-one : (b m : ℕ) → Fair (suc m) (oneSign b)
+unfolding oneSign goodKinds singles signKinds
+fair-one b m = fair-kinded (singleKind singles b) 1 (suc m) (Stop 0 UnknownChar) (fair-singleKind singles b tt) (omega arith) (omega arith) (unfold Fair endKind in (omega arith, λ e. absurd-kind e))
 
 fair-sign : (b : ℕ) (bs : List ℕ) → Fair (suc (length bs)) (lexSign b bs)
-unfolding lexSign goodKinds doubles
-fair-sign b bs = fair-double doubles b bs tt
+unfolding lexSign goodKinds doubles signKinds
+fair-sign b [] = fair-one b 0
+fair-sign b (c ∷ bs) = fair-kinded (doubleKind doubles b c) 2 (suc (suc (length bs))) (oneSign b) (fair-doubleKind doubles b c tt) (omega arith) (omega arith) (fair-one b (suc (length bs)))
 
 pub fair-step : (s : List ℕ) → Fair (length s) (step s)
 unfolding step Fair endKind
@@ -160,7 +160,7 @@ fair-step [] = (omega arith, λ e. absurd-kind e)
 fair-step (b ∷ bs) =
     fair-if _ (white b) _ _ (omega arith, omega arith)
     (fair-if _ (eqb b 35) _ _ (fair-hash bs)
-    (fair-if _ (eqb b 47 && nextIs 47 bs) _ _ (fair-slash bs)
+    (fair-if _ (eqb b 47) _ _ (fair-lexSlash bs)
     (fair-if _ (eqb b 34) _ _ (fair-str bs)
     (fair-if _ (digit b) _ _ (fair-num bs) (fair-if _ (letter b) _ _ (fair-ident b bs) (fair-sign b bs))))))
 

@@ -6,6 +6,7 @@ use mathlib.Core.Bool.{Bool, true, false, _&&_, _||_, not}
 use native.Mathlib.Omega.{arith}
 use native.Mathlib.Nat.{zero-add, suc-add, add-suc, add-zero, not-suc-le-zero}
 use native.Mathlib.Numerals.{add-one, one-add}
+use borrow.Author.Tests.{eqb-true, eqb-false}
 use lib.Dec.{T, eqb, leb, ltb, eqb→eq, leb→le}
 use lib.ListN.{take, drop, length, getD, length-append}
 use lib.Seq.{drop-drop, take-add, take-at, drop-at, drop-append-seam, take-append-seam}
@@ -15,8 +16,9 @@ use Rattle.sifc_err.specs.declared.Ending.the-variants.{TrueEnd, UnknownChar, U
 use Rattle.sifc_lex.specs.declared.lex.Step.{Step}
 use Rattle.sifc_lex.specs.declared.lex.Step.the-variants.{Skip, Word, Stop}
 use Rattle.sifc_lex.specs.Base.{if_then_else_, within, same, span, part}
+use Rattle.sifc_lex.specs.BaseLaws.{and-left, and-right, true-of, false-of, span-yes, span-no, span-again, length-span, span-stop}
 use Rattle.sifc_lex.specs.Reserved.{nameKind}
-use Rattle.sifc_lex.specs.Lex.{token, white, digit, letter, alnum, inLine, inStr, Sign, doubles, singles, single, double, nextIs, lineEnd, hashComment, slashComment, closed, lexStr, pointed, fraction, lexNum, lexIdent, lexSign, step, onStep, ended, endKind, Lexed, lexFrom, lexed, lex}
+use Rattle.sifc_lex.specs.Lex.{token, white, digit, letter, alnum, inLine, inStr, Sign, doubles, singles, singleKind, doubleKind, oneSign, nextIs, lexSlash, lineEnd, hashComment, slashComment, closed, lexStr, pointed, fraction, lexNum, lexIdent, lexSign, step, onStep, ended, endKind, Lexed, lexFrom, lexed, lex}
 use Rattle.sifc_lex.specs.LexLaws.{lexAt, lexAt-turn}
 
 pub record Spelt : Type 0 where
@@ -102,40 +104,6 @@ unfolding if_then_else_
 if-case true x y z f g e = f tt e
 if-case false x y z f g e = g tt e
 
-true-of : (b : Bool) → T b → b ≡ true
-true-of true t = refl
-true-of false t = absurd t
-
-false-of : (b : Bool) → T (not b) → b ≡ false
-false-of true t = absurd t
-false-of false t = refl
-
-span-yes : (p : ℕ → Bool) (b : ℕ) (bs : List ℕ) → p b ≡ true → span p (b ∷ bs) ≡ suc (span p bs)
-unfolding span
-span-yes p b bs h = rw (h, span) refl
-
-span-no : (p : ℕ → Bool) (b : ℕ) (bs : List ℕ) → p b ≡ false → span p (b ∷ bs) ≡ 0
-unfolding span
-span-no p b bs h = rw (h, span) refl
-
--- what passes the test is found again, however it goes on
-span-again : (p : ℕ → Bool) (bs : List ℕ) (c : ℕ) (r : List ℕ) → p c ≡ false → span p (take (span p bs) bs ++ (c ∷ r)) ≡ span p bs
-span-again p [] c r e = unfold span in span-no p c r e
-span-again p (b ∷ bs) c r e = go (p b) refl (span-again p bs c r e)
-  where
-    go : (q : Bool) → p b ≡ q → span p (take (span p bs) bs ++ (c ∷ r)) ≡ span p bs → span p (take (span p (b ∷ bs)) (b ∷ bs) ++ (c ∷ r)) ≡ span p (b ∷ bs)
-    go true h ih = rw (span-yes p b bs h, span-yes p b (take (span p bs) bs ++ (c ∷ r)) h) (ap suc ih)
-    go false h ih = rw (span-no p b bs h) (span-no p c r e)
-
-length-span : (p : ℕ → Bool) (bs : List ℕ) → length (take (span p bs) bs) ≡ span p bs
-unfolding span
-length-span p [] = refl
-length-span p (b ∷ bs) = go (p b) (length-span p bs)
-  where
-    go : (q : Bool) → length (take (span p bs) bs) ≡ span p bs → length (take (elim q as (λ z. ℕ) [ true ↦ suc (span p bs) | false ↦ 0 ]) (b ∷ bs)) ≡ (elim q as (λ z. ℕ) [ true ↦ suc (span p bs) | false ↦ 0 ])
-    go true h = ap suc h
-    go false h = refl
-
 eqb-not : (a b : ℕ) → (a ≡ b → ⊥) → eqb a b ≡ false
 eqb-not a b h = go (eqb a b) refl
   where
@@ -167,15 +135,6 @@ good-name b bs w h s d l q rest =
     rw (name-step b X w h s d l) (rw (m, t, length-span alnum bs, one-add (span alnum bs)) refl)
 
 -- ── strings and numbers ──
-
--- what ends a run fails the test
-span-stop : (p : ℕ → Bool) (bs : List ℕ) (c : ℕ) (r : List ℕ) → drop (span p bs) bs ≡ c ∷ r → p c ≡ false
-span-stop p [] c r e = absurd (let z : _≡_ {A = ℕ} 0 1 = unfold span in cc in let y : ⊥ = omega arith in y)
-span-stop p (b ∷ bs) c r e = go (p b) refl (span-stop p bs c r)
-  where
-    go : (q : Bool) → p b ≡ q → (drop (span p bs) bs ≡ c ∷ r → p c ≡ false) → p c ≡ false
-    go true h ih = ih (rw (span-yes p b bs h) at e)
-    go false h ih = let z : b ∷ bs ≡ c ∷ r = rw (span-no p b bs h) at e in let y : b ≡ c = cc in ap p (sym y) ∙ h
 
 take-one-more : (m : ℕ) (bs : List ℕ) (c : ℕ) (r : List ℕ) → drop m bs ≡ c ∷ r → take (suc m) bs ≡ take m bs ++ (c ∷ [])
 take-one-more zero [] c r e = absurd (let z : _≡_ {A = ℕ} 0 1 = cc in let y : ⊥ = omega arith in y)
@@ -268,7 +227,7 @@ AllDouble (x ∷ xs) = Good (same-kind (x .kind) (x .first ∷ x .second ∷ [])
 
 all-singles : AllSingle singles
 unfolding AllSingle singles Good step sep if_then_else_
-all-singles = (either _ (λ rest. refl) (λ rest. refl), (either _ (λ rest. refl) (λ rest. refl), (either _ (λ rest. refl) (λ rest. refl), (either _ (λ rest. refl) (λ rest. refl), (either _ (λ rest. refl) (λ rest. refl), (either _ (λ rest. refl) (λ rest. refl), (either _ (λ rest. refl) (λ rest. refl), (either _ (λ rest. refl) (λ rest. refl), (either _ (λ rest. refl) (λ rest. refl), (either _ (λ rest. refl) (λ rest. refl), (either _ (λ rest. refl) (λ rest. refl), (either _ (λ rest. refl) (λ rest. refl), (either _ (λ rest. refl) (λ rest. refl), (either _ (λ rest. refl) (λ rest. refl), (either _ (λ rest. refl) (λ rest. refl), (either _ (λ rest. refl) (λ rest. refl), (either _ (λ rest. refl) (λ rest. refl), (either _ (λ rest. refl) (λ rest. refl), (either _ (λ rest. refl) (λ rest. refl), (either _ (λ rest. refl) (λ rest. refl), (either _ (λ rest. refl) (λ rest. refl), tt)))))))))))))))))))))
+all-singles = ((either _ (λ rest. refl) (λ rest. refl), (either _ (λ rest. refl) (λ rest. refl), (either _ (λ rest. refl) (λ rest. refl), (either _ (λ rest. refl) (λ rest. refl), (either _ (λ rest. refl) (λ rest. refl), (either _ (λ rest. refl) (λ rest. refl), (either _ (λ rest. refl) (λ rest. refl), (either _ (λ rest. refl) (λ rest. refl), (either _ (λ rest. refl) (λ rest. refl), (either _ (λ rest. refl) (λ rest. refl), (either _ (λ rest. refl) (λ rest. refl), (either _ (λ rest. refl) (λ rest. refl), (either _ (λ rest. refl) (λ rest. refl), (either _ (λ rest. refl) (λ rest. refl), (either _ (λ rest. refl) (λ rest. refl), (either _ (λ rest. refl) (λ rest. refl), (either _ (λ rest. refl) (λ rest. refl), (either _ (λ rest. refl) (λ rest. refl), (either _ (λ rest. refl) (λ rest. refl), (either _ (λ rest. refl) (λ rest. refl), tt)))))))))))))))))))))
 
 all-doubles : AllDouble doubles
 unfolding AllDouble doubles Good step sep if_then_else_
@@ -278,46 +237,60 @@ record IsWord (k n : ℕ) (s : List ℕ) : Type 0 where
   good : Good (same-kind k (take n s))
   nonempty : 0 < n
 
-single-lexed : (ss : List Sign) → AllSingle ss → (b : ℕ) (bs : List ℕ) (k n : ℕ) → single ss b ≡ Word k n → IsWord k n (b ∷ bs)
-unfolding AllSingle single
-single-lexed [] a b bs k n e = absurd (let z : _≡_ {A = ℕ} 0 1 = cc in let y : ⊥ = omega arith in y)
-single-lexed (x ∷ xs) a b bs k n e = go (eqb (x .first) b) refl (single-lexed xs (a .1) b bs k n)
+good-single : (ss : List Sign) → AllSingle ss → (b : ℕ) → (singleKind ss b ≡ 0 → ⊥) → Good (same-kind (singleKind ss b) (b ∷ []))
+unfolding AllSingle singleKind
+good-single [] a b z = absurd (z refl)
+good-single (x ∷ xs) a b z = go (eqb b (x .first)) refl z (good-single xs (a .1) b)
   where
-    go : (q : Bool) → eqb (x .first) b ≡ q → (single xs b ≡ Word k n → IsWord k n (b ∷ bs)) → IsWord k n (b ∷ bs)
-    go true h ih =
-        let z : Word (x .kind) 1 ≡ Word k n = rw (h, single) at e in
-        let ek : x .kind ≡ k = cc in
-        let en : 1 ≡ n = cc in
-        let eb : x .first ≡ b = eqb→eq (x .first) b (rw h tt) in
-        subst (λ (m : ℕ). IsWord k m (b ∷ bs)) en (record { good = subst (λ (c : ℕ). Good (same-kind k (c ∷ []))) eb (subst (λ (j : ℕ). Good (same-kind j (x .first ∷ []))) ek (a .0)); nonempty = omega arith })
-    go false h ih = ih (rw (h, single) at e)
+    pick : Bool → ℕ
+    pick q = elim q [ true ↦ x .kind | false ↦ singleKind xs b ]
 
-double-lexed : (ss : List Sign) → AllDouble ss → (b : ℕ) (bs : List ℕ) (k n : ℕ) → double ss b bs ≡ Word k n → IsWord k n (b ∷ bs)
-unfolding AllDouble double
-double-lexed [] a b [] k n e = single-lexed singles all-singles b [] k n e
-double-lexed (x ∷ xs) a b [] k n e = single-lexed singles all-singles b [] k n e
-double-lexed [] a b (c ∷ bs) k n e = single-lexed singles all-singles b (c ∷ bs) k n e
-double-lexed (x ∷ xs) a b (c ∷ bs) k n e = go (eqb (x .first) b && eqb (x .second) c) refl (double-lexed xs (a .1) b (c ∷ bs) k n)
+    go : (q : Bool) → eqb b (x .first) ≡ q → (pick q ≡ 0 → ⊥) → ((singleKind xs b ≡ 0 → ⊥) → Good (same-kind (singleKind xs b) (b ∷ []))) → Good (same-kind (pick q) (b ∷ []))
+    go true h z′ ih = subst (λ (c : ℕ). Good (same-kind (x .kind) (c ∷ []))) (sym (eqb-true b (x .first) h)) (a .0)
+    go false h z′ ih = ih z′
+
+good-double : (ss : List Sign) → AllDouble ss → (b c : ℕ) → (doubleKind ss b c ≡ 0 → ⊥) → Good (same-kind (doubleKind ss b c) (b ∷ c ∷ []))
+unfolding AllDouble doubleKind
+good-double [] a b c z = absurd (z refl)
+good-double (x ∷ xs) a b c z = go (eqb b (x .first) && eqb c (x .second)) refl z (good-double xs (a .1) b c)
   where
-    and-l : (p q : Bool) → T (p && q) → T p
-    and-l true q t = tt
-    and-l false q t = absurd t
+    pick : Bool → ℕ
+    pick q = elim q [ true ↦ x .kind | false ↦ doubleKind xs b c ]
 
-    and-r : (p q : Bool) → T (p && q) → T q
-    and-r true q t = t
-    and-r false q t = absurd t
+    go : (q : Bool) → (eqb b (x .first) && eqb c (x .second)) ≡ q → (pick q ≡ 0 → ⊥) → ((doubleKind xs b c ≡ 0 → ⊥) → Good (same-kind (doubleKind xs b c) (b ∷ c ∷ []))) → Good (same-kind (pick q) (b ∷ c ∷ []))
+    go true h z′ ih =
+        let t : T (eqb b (x .first) && eqb c (x .second)) = rw h tt in
+        let eb : b ≡ x .first = eqb→eq b (x .first) (and-left (eqb b (x .first)) (eqb c (x .second)) t) in
+        let ec : c ≡ x .second = eqb→eq c (x .second) (and-right (eqb b (x .first)) (eqb c (x .second)) t) in
+        subst₂ (λ (i : ℕ) (j : ℕ). Good (same-kind (x .kind) (i ∷ j ∷ []))) (sym eb) (sym ec) (a .0)
+    go false h z′ ih = ih z′
 
-    go : (q : Bool) → (eqb (x .first) b && eqb (x .second) c) ≡ q → (double xs b (c ∷ bs) ≡ Word k n → IsWord k n (b ∷ c ∷ bs)) → IsWord k n (b ∷ c ∷ bs)
-    go true h ih =
-        let z : Word (x .kind) 2 ≡ Word k n = rw (h, double) at e in
-        let ek : x .kind ≡ k = cc in
-        let en : 2 ≡ n = cc in
-        let t : T (eqb (x .first) b && eqb (x .second) c) = rw h tt in
-        let eb : x .first ≡ b = eqb→eq (x .first) b (and-l (eqb (x .first) b) (eqb (x .second) c) t) in
-        let ec : x .second ≡ c = eqb→eq (x .second) c (and-r (eqb (x .first) b) (eqb (x .second) c) t) in
-        subst (λ (m : ℕ). IsWord k m (b ∷ c ∷ bs)) en
-        (record { good = subst₂ (λ (i : ℕ) (j : ℕ). Good (same-kind k (i ∷ j ∷ []))) eb ec (subst (λ (j : ℕ). Good (same-kind j (x .first ∷ x .second ∷ []))) ek (a .0)); nonempty = omega arith })
-    go false h ih = ih (rw (h, double) at e)
+-- a step that is a sign of kind m and length l where m is not 0, else another step
+kinded-lexed : (m l : ℕ) (x : Step) (k n : ℕ) (s : List ℕ) → 0 < l → ((m ≡ 0 → ⊥) → Good (same-kind m (take l s))) → (x ≡ Word k n → IsWord k n s) → (if eqb m 0 then x else Word m l) ≡ Word k n → IsWord k n s
+kinded-lexed m l x k n s p g f e =
+    if-case (eqb m 0) x (Word m l) (Word k n) (λ t z. f z)
+    (λ t z.
+    let ek : m ≡ k = cc in
+    let en : l ≡ n = cc in
+    subst₂ (λ (i : ℕ) (j : ℕ). IsWord i j s) ek en (record { good = g (eqb-false m 0 (false-of (eqb m 0) t)); nonempty = p }))
+    e
+
+one-lexed : (b : ℕ) (bs : List ℕ) (k n : ℕ) → oneSign b ≡ Word k n → IsWord k n (b ∷ bs)
+unfolding oneSign
+one-lexed b bs k n e =
+    kinded-lexed (singleKind singles b) 1 (Stop 0 UnknownChar) k n (b ∷ bs) (omega arith) (good-single singles all-singles b)
+    (λ z. absurd (let y : _≡_ {A = ℕ} 0 1 = cc in let v : ⊥ = omega arith in v)) e
+
+sign-lexed : (b : ℕ) (bs : List ℕ) (k n : ℕ) → lexSign b bs ≡ Word k n → IsWord k n (b ∷ bs)
+unfolding lexSign
+sign-lexed b [] k n e = one-lexed b [] k n e
+sign-lexed b (c ∷ bs) k n e = kinded-lexed (doubleKind doubles b c) 2 (oneSign b) k n (b ∷ c ∷ bs) (omega arith) (good-double doubles all-doubles b c) (one-lexed b (c ∷ bs) k n) e
+
+-- a slash alone
+good-slash : Good (same-kind 17 (47 ∷ []))
+unfolding Good step sep if_then_else_
+good-slash true rest = refl
+good-slash false rest = refl
 
 name-lexed : (b : ℕ) (bs : List ℕ) (k n : ℕ) → T (not (white b)) → T (not (eqb b 35)) → T (not (eqb b 34)) → T (not (digit b)) → T (letter b) → lexIdent b bs ≡ Word k n → IsWord k n (b ∷ bs)
 unfolding lexIdent
@@ -339,6 +312,16 @@ no-line m (c ∷ r) k n e = let y : _≡_ {A = ℕ} 0 1 = cc in let x : ⊥ = om
 no-slashes : (bs : List ℕ) (k n : ℕ) → slashComment bs ≡ Word k n → ⊥
 unfolding slashComment
 no-slashes bs k n e = no-line (1 + span inLine bs) (drop (span inLine bs) bs) k n e
+
+slash-lexed : (bs : List ℕ) (k n : ℕ) → lexSlash bs ≡ Word k n → IsWord k n (47 ∷ bs)
+unfolding lexSlash
+slash-lexed bs k n e =
+    if-case (nextIs 47 bs) (slashComment bs) (Word 17 1) (Word k n) (λ t z. absurd (no-slashes bs k n z))
+    (λ t z.
+    let ek : 17 ≡ k = cc in
+    let en : 1 ≡ n = cc in
+    subst₂ (λ (i : ℕ) (j : ℕ). IsWord i j (47 ∷ bs)) ek en (record { good = good-slash; nonempty = omega arith }))
+    e
 
 quote-is : (c : ℕ) → inStr c ≡ false → c ≡ 34
 unfolding inStr
@@ -412,14 +395,14 @@ step-lexed (b ∷ bs) k n e =
     (λ w.
     if-case (eqb b 35) _ _ (Word k n) (λ t z. absurd (no-comment bs k n z))
     (λ h.
-    if-case (eqb b 47 && nextIs 47 bs) _ _ (Word k n) (λ t z. absurd (no-slashes bs k n z))
+    if-case (eqb b 47) _ _ (Word k n) (λ t z. subst (λ (c : ℕ). IsWord k n (c ∷ bs)) (sym (eqb→eq b 47 t)) (slash-lexed bs k n z))
     (λ sl.
     if-case (eqb b 34) _ _ (Word k n) (λ t z. subst (λ (c : ℕ). IsWord k n (c ∷ bs)) (sym (eqb→eq b 34 t)) (string-lexed bs k n z))
     (λ st.
     if-case (digit b) _ _ (Word k n) (λ d z. number-lexed b bs k n w h st d z)
     (λ d.
     if-case (letter b) _ _ (Word k n) (λ l z. name-lexed b bs k n w h st d l z)
-    (λ l z. unfold lexSign in double-lexed doubles all-doubles b bs k n z))))))
+    (λ l z. sign-lexed b bs k n z))))))
     e
 
 -- Each token but the last is a word that is lexed to itself.

@@ -1,8 +1,13 @@
 pub mod Base
+pub mod BaseLaws
 pub mod Kind
 pub mod Reserved
 pub mod Lex
+pub mod LexCases
 pub mod LexLaws
 pub mod LexTrip
+pub mod Unicode
 pub mod Place
-pub mod LexCases
+pub mod Spelling
+pub mod Class
+pub mod Tokens
