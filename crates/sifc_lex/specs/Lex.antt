@@ -68,12 +68,14 @@ singles = sign 40 0 1 ∷ sign 41 0 2 ∷ sign 123 0 3 ∷ sign 125 0 4 ∷ sign
 
 -- the kind of a sign of one byte, and of two; 0 where there is none
 unfoldable pub singleKind : List Sign → ℕ → ℕ
+unfolding if_then_else_
 singleKind [] b = 0
-singleKind (s ∷ ss) b = elim (eqb b (s .first)) [ true ↦ s .kind | false ↦ singleKind ss b ]
+singleKind (s ∷ ss) b = if eqb b (s .first) then s .kind else singleKind ss b
 
 unfoldable pub doubleKind : List Sign → ℕ → ℕ → ℕ
+unfolding if_then_else_
 doubleKind [] b c = 0
-doubleKind (s ∷ ss) b c = elim (eqb b (s .first) && eqb c (s .second)) [ true ↦ s .kind | false ↦ doubleKind ss b c ]
+doubleKind (s ∷ ss) b c = if eqb b (s .first) && eqb c (s .second) then s .kind else doubleKind ss b c
 
 -- the arms of one byte; the last arm of `lex`: an unknown character
 unfoldable pub oneSign : ℕ → Step

@@ -98,12 +98,12 @@ unfolding goodKinds
 good-tail k ks t = and-right (leb 1 k && leb k 45) (goodKinds ks) t
 
 fair-kind : (ws : List Reserved.Word) (name : List ℕ) → T (goodKinds (map (λ (w : Reserved.Word). w .kind) ws)) → (0 < kindAmong ws name) × (kindAmong ws name ≤ 45)
-unfolding kindAmong
+unfolding kindAmong if_then_else_
 fair-kind [] name t = (omega arith, omega arith)
 fair-kind (w ∷ ws) name t = go (same (w .word) name) (good-head (w .kind) _ t) (fair-kind ws name (good-tail (w .kind) _ t))
   where
     go : (q : Bool) → (0 < w .kind) × (w .kind ≤ 45) → (0 < kindAmong ws name) × (kindAmong ws name ≤ 45)
-        → (0 < (elim q as (λ z. ℕ) [ true ↦ w .kind | false ↦ kindAmong ws name ])) × ((elim q as (λ z. ℕ) [ true ↦ w .kind | false ↦ kindAmong ws name ]) ≤ 45)
+        → (0 < (if q then w .kind else kindAmong ws name)) × ((if q then w .kind else kindAmong ws name) ≤ 45)
     go true h k = h
     go false h k = k
 
@@ -119,20 +119,20 @@ signKinds : List Sign → List ℕ
 signKinds ss = map (λ (s : Sign). s .kind) ss
 
 fair-singleKind : (ss : List Sign) (b : ℕ) → T (goodKinds (signKinds ss)) → singleKind ss b ≤ 45
-unfolding singleKind signKinds
+unfolding singleKind signKinds if_then_else_
 fair-singleKind [] b t = omega arith
 fair-singleKind (s ∷ ss) b t = go (eqb b (s .first)) (good-head (s .kind) _ t) (fair-singleKind ss b (good-tail (s .kind) _ t))
   where
-    go : (q : Bool) → (0 < s .kind) × (s .kind ≤ 45) → singleKind ss b ≤ 45 → (elim q as (λ z. ℕ) [ true ↦ s .kind | false ↦ singleKind ss b ]) ≤ 45
+    go : (q : Bool) → (0 < s .kind) × (s .kind ≤ 45) → singleKind ss b ≤ 45 → (if q then s .kind else singleKind ss b) ≤ 45
     go true h k = h .1
     go false h k = k
 
 fair-doubleKind : (ss : List Sign) (b c : ℕ) → T (goodKinds (signKinds ss)) → doubleKind ss b c ≤ 45
-unfolding doubleKind signKinds
+unfolding doubleKind signKinds if_then_else_
 fair-doubleKind [] b c t = omega arith
 fair-doubleKind (s ∷ ss) b c t = go (eqb b (s .first) && eqb c (s .second)) (good-head (s .kind) _ t) (fair-doubleKind ss b c (good-tail (s .kind) _ t))
   where
-    go : (q : Bool) → (0 < s .kind) × (s .kind ≤ 45) → doubleKind ss b c ≤ 45 → (elim q as (λ z. ℕ) [ true ↦ s .kind | false ↦ doubleKind ss b c ]) ≤ 45
+    go : (q : Bool) → (0 < s .kind) × (s .kind ≤ 45) → doubleKind ss b c ≤ 45 → (if q then s .kind else doubleKind ss b c) ≤ 45
     go true h k = h .1
     go false h k = k
 

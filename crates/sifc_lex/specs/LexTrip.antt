@@ -238,26 +238,20 @@ record IsWord (k n : ℕ) (s : List ℕ) : Type 0 where
   nonempty : 0 < n
 
 good-single : (ss : List Sign) → AllSingle ss → (b : ℕ) → (singleKind ss b ≡ 0 → ⊥) → Good (same-kind (singleKind ss b) (b ∷ []))
-unfolding AllSingle singleKind
+unfolding AllSingle singleKind if_then_else_
 good-single [] a b z = absurd (z refl)
 good-single (x ∷ xs) a b z = go (eqb b (x .first)) refl z (good-single xs (a .1) b)
   where
-    pick : Bool → ℕ
-    pick q = elim q [ true ↦ x .kind | false ↦ singleKind xs b ]
-
-    go : (q : Bool) → eqb b (x .first) ≡ q → (pick q ≡ 0 → ⊥) → ((singleKind xs b ≡ 0 → ⊥) → Good (same-kind (singleKind xs b) (b ∷ []))) → Good (same-kind (pick q) (b ∷ []))
+    go : (q : Bool) → eqb b (x .first) ≡ q → ((if q then x .kind else singleKind xs b) ≡ 0 → ⊥) → ((singleKind xs b ≡ 0 → ⊥) → Good (same-kind (singleKind xs b) (b ∷ []))) → Good (same-kind (if q then x .kind else singleKind xs b) (b ∷ []))
     go true h z′ ih = subst (λ (c : ℕ). Good (same-kind (x .kind) (c ∷ []))) (sym (eqb-true b (x .first) h)) (a .0)
     go false h z′ ih = ih z′
 
 good-double : (ss : List Sign) → AllDouble ss → (b c : ℕ) → (doubleKind ss b c ≡ 0 → ⊥) → Good (same-kind (doubleKind ss b c) (b ∷ c ∷ []))
-unfolding AllDouble doubleKind
+unfolding AllDouble doubleKind if_then_else_
 good-double [] a b c z = absurd (z refl)
 good-double (x ∷ xs) a b c z = go (eqb b (x .first) && eqb c (x .second)) refl z (good-double xs (a .1) b c)
   where
-    pick : Bool → ℕ
-    pick q = elim q [ true ↦ x .kind | false ↦ doubleKind xs b c ]
-
-    go : (q : Bool) → (eqb b (x .first) && eqb c (x .second)) ≡ q → (pick q ≡ 0 → ⊥) → ((doubleKind xs b c ≡ 0 → ⊥) → Good (same-kind (doubleKind xs b c) (b ∷ c ∷ []))) → Good (same-kind (pick q) (b ∷ c ∷ []))
+    go : (q : Bool) → (eqb b (x .first) && eqb c (x .second)) ≡ q → ((if q then x .kind else doubleKind xs b c) ≡ 0 → ⊥) → ((doubleKind xs b c ≡ 0 → ⊥) → Good (same-kind (doubleKind xs b c) (b ∷ c ∷ []))) → Good (same-kind (if q then x .kind else doubleKind xs b c) (b ∷ c ∷ []))
     go true h z′ ih =
         let t : T (eqb b (x .first) && eqb c (x .second)) = rw h tt in
         let eb : b ≡ x .first = eqb→eq b (x .first) (and-left (eqb b (x .first)) (eqb c (x .second)) t) in

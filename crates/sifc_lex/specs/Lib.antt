@@ -11,3 +11,4 @@ pub mod Place
 pub mod Spelling
 pub mod Class
 pub mod Tokens
+pub mod Loaded

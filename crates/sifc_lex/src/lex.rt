@@ -5,7 +5,7 @@ ghost use mathlib.Core.Path.{_≡_};
 ghost use Prim.Native.Nat.{_+_, _≤_, _<_};
 ghost use lib.ListN.{length, drop, set, getD};
 ghost use Rattle.sifc_lex.specs.Base.{span};
-ghost use Rattle.sifc_lex.specs.Lex.{white, digit, letter, alnum, hashComment, slashComment, lexStr, lexNum, lexIdent, lexSign, step as stepOf};
+ghost use Rattle.sifc_lex.specs.Lex.{white, digit, letter, singles, doubles, singleKind, doubleKind, oneSign, hashComment, slashComment, lexSlash, lexStr, lexNum, lexIdent, lexSign, endKind, step as stepOf};
 ghost use Rattle.sifc_lex.specs.Class.{testOf};
 
 // What the next bytes are: bytes to skip, a token's kind and length, or the end, with how many bytes
@@ -31,6 +31,266 @@ pub enum Class {
     InLine,
     InStr,
 }
+
+// The kind of a sign of one byte, by the byte; 0 where there is none.
+const SINGLES: [u32; 256] = [
+    0,
+    0,
+    0,
+    0,
+    0,
+    0,
+    0,
+    0,
+    0,
+    0,
+    0,
+    0,
+    0,
+    0,
+    0,
+    0,
+    0,
+    0,
+    0,
+    0,
+    0,
+    0,
+    0,
+    0,
+    0,
+    0,
+    0,
+    0,
+    0,
+    0,
+    0,
+    0,
+    0,
+    13,
+    0,
+    0,
+    0,
+    18,
+    19,
+    0,
+    1,
+    2,
+    16,
+    14,
+    12,
+    15,
+    11,
+    0,
+    0,
+    0,
+    0,
+    0,
+    0,
+    0,
+    0,
+    0,
+    0,
+    0,
+    0,
+    7,
+    9,
+    8,
+    10,
+    0,
+    21,
+    0,
+    0,
+    0,
+    0,
+    0,
+    0,
+    0,
+    0,
+    0,
+    0,
+    0,
+    0,
+    0,
+    0,
+    0,
+    0,
+    0,
+    0,
+    0,
+    0,
+    0,
+    0,
+    0,
+    0,
+    0,
+    0,
+    5,
+    0,
+    6,
+    0,
+    0,
+    0,
+    0,
+    0,
+    0,
+    0,
+    0,
+    0,
+    0,
+    0,
+    0,
+    0,
+    0,
+    0,
+    0,
+    0,
+    0,
+    0,
+    0,
+    0,
+    0,
+    0,
+    0,
+    0,
+    0,
+    0,
+    0,
+    0,
+    3,
+    20,
+    4,
+    0,
+    0,
+    0,
+    0,
+    0,
+    0,
+    0,
+    0,
+    0,
+    0,
+    0,
+    0,
+    0,
+    0,
+    0,
+    0,
+    0,
+    0,
+    0,
+    0,
+    0,
+    0,
+    0,
+    0,
+    0,
+    0,
+    0,
+    0,
+    0,
+    0,
+    0,
+    0,
+    0,
+    0,
+    0,
+    0,
+    0,
+    0,
+    0,
+    0,
+    0,
+    0,
+    0,
+    0,
+    0,
+    0,
+    0,
+    0,
+    0,
+    0,
+    0,
+    0,
+    0,
+    0,
+    0,
+    0,
+    0,
+    0,
+    0,
+    0,
+    0,
+    0,
+    0,
+    0,
+    0,
+    0,
+    0,
+    0,
+    0,
+    0,
+    0,
+    0,
+    0,
+    0,
+    0,
+    0,
+    0,
+    0,
+    0,
+    0,
+    0,
+    0,
+    0,
+    0,
+    0,
+    0,
+    0,
+    0,
+    0,
+    0,
+    0,
+    0,
+    0,
+    0,
+    0,
+    0,
+    0,
+    0,
+    0,
+    0,
+    0,
+    0,
+    0,
+    0,
+    0,
+    0,
+    0,
+    0,
+    0,
+    0,
+    0,
+    0,
+    0,
+    0,
+    0,
+    0,
+    0,
+    0,
+    0,
+    0,
+    0,
+    0,
+    0,
+    0,
+    0,
+    0,
+    0,
+    0,
+    0,
+    0,
+];
 
 fn is_white(b: u8) -> bool
     ensures { λ r. ⌜ r ≡ white b ⌝ }
@@ -161,4 +421,145 @@ fn lex_ident(s: &[u8], at: usize) -> Step
     let end = run_end(s, at + 1, Class::Alnum);
     let kind = name_kind(&s[at..end]);
     Step::Word(kind, end - at)
+}
+
+// The arm '/'; at stands after the slash.
+fn lex_slash(s: &[u8], at: usize) -> Step
+    requires { ⌜ at ≤ length (now s) ⌝ }
+    ensures { λ r. ⌜ r ≡ lexSlash (drop at (now (s .entry))) ⌝ }
+{
+    if s.len() <= at {
+        return Step::Word(17, 1);
+    }
+    if s[at] != 47 {
+        return Step::Word(17, 1);
+    }
+    slash_comment(s, at)
+}
+
+fn single_kind(b: u8) -> u32
+    ensures { λ r. ⌜ r ≡ singleKind singles b ⌝ }
+{
+    SINGLES[b as usize]
+}
+
+// The kind of a sign of two bytes; 0 where there is none.
+fn double_kind(b: u8, c: u8) -> u32
+    ensures { λ r. ⌜ r ≡ doubleKind doubles b c ⌝ }
+{
+    match c {
+        61 => equals_kind(b),
+        62 => {
+            if b == 61 {
+                return 25;
+            }
+            0
+        }
+        38 => {
+            if b == 38 {
+                return 27;
+            }
+            0
+        }
+        124 => {
+            if b == 124 {
+                return 28;
+            }
+            0
+        }
+        91 => {
+            if b == 91 {
+                return 29;
+            }
+            0
+        }
+        93 => {
+            if b == 93 {
+                return 30;
+            }
+            0
+        }
+        _ => 0,
+    }
+}
+
+// The kind of a sign whose second byte is `=`.
+fn equals_kind(b: u8) -> u32
+    ensures { λ r. ⌜ r ≡ doubleKind doubles b 61 ⌝ }
+{
+    match b {
+        61 => 22,
+        60 => 23,
+        62 => 24,
+        33 => 26,
+        _ => 0,
+    }
+}
+
+// A sign of one byte, or an unknown character.
+fn one_sign(b: u8) -> Step
+    ensures { λ r. ⌜ r ≡ oneSign b ⌝ }
+{
+    let kind = single_kind(b);
+    if kind == 0 {
+        return Step::Stop(0, Ending::UnknownChar);
+    }
+    Step::Word(kind, 1)
+}
+
+// A sign b; at stands after it.
+fn lex_sign(s: &[u8], at: usize, b: u8) -> Step
+    requires { ⌜ at ≤ length (now s) ⌝ }
+    ensures { λ r. ⌜ r ≡ lexSign b (drop at (now (s .entry))) ⌝ }
+{
+    if s.len() <= at {
+        return one_sign(b);
+    }
+    let kind = double_kind(b, s[at]);
+    if kind == 0 {
+        return one_sign(b);
+    }
+    Step::Word(kind, 2)
+}
+
+// One turn of lexing: what stands at an offset of the script.
+pub fn step_at(s: &[u8], at: usize) -> Step
+    requires { ⌜ at ≤ length (now s) ⌝ }
+    ensures { λ r. ⌜ r ≡ stepOf (drop at (now (s .entry))) ⌝ }
+{
+    if s.len() <= at {
+        return Step::Stop(0, Ending::TrueEnd);
+    }
+    let b = s[at];
+    if is_white(b) {
+        return Step::Skip(1);
+    }
+    if b == 35 {
+        return hash_comment(s, at + 1);
+    }
+    if b == 47 {
+        return lex_slash(s, at + 1);
+    }
+    if b == 34 {
+        return lex_str(s, at + 1);
+    }
+    if is_digit(b) {
+        return lex_num(s, at + 1);
+    }
+    if is_letter(b) {
+        return lex_ident(s, at);
+    }
+    lex_sign(s, at + 1, b)
+}
+
+// The kind of the token that ends a list.
+pub fn end_kind(e: Ending) -> u32
+    ensures { λ r. ⌜ r ≡ endKind e ⌝ }
+{
+    match e {
+        Ending::TrueEnd => 47,
+        Ending::UnknownChar => 47,
+        Ending::UnterminatedString => 47,
+        Ending::Panic(_) => 48,
+    }
 }
