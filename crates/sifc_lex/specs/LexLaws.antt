@@ -27,7 +27,7 @@ pos-of-ne-zero zero h = absurd (h refl)
 pos-of-ne-zero (suc k) h = omega arith
 
 -- What a turn on m bytes gives: it takes at least one byte and none that is not there; a token's kind is from 1 to 45; a panic stands at a byte.
-pub Fair : ℕ → Step → Type 0
+unfoldable pub Fair : ℕ → Step → Type 0
 Fair m (Skip n) = (0 < n) × (n ≤ m)
 Fair m (Word k n) = (0 < n) × (n ≤ m) × (0 < k) × (k ≤ 45)
 Fair m (Stop n e) = (n ≤ m) × (endKind e ≡ 48 → n < m)

@@ -31,7 +31,7 @@ sep true = 32
 sep false = 10
 
 -- before a separator it is one token of its kind
-pub Good : Spelt → Type 0
+unfoldable pub Good : Spelt → Type 0
 Good x = (q : Bool) (rest : List ℕ) → step (x .text ++ (sep q ∷ rest)) ≡ Word (x .kind) (length (x .text))
 
 pub record Item : Type 0 where
@@ -43,7 +43,7 @@ unfoldable pub bytes : List Item → List ℕ
 bytes [] = []
 bytes (x ∷ xs) = x .spelt .text ++ (sep (x .space) ∷ bytes xs)
 
-pub Goods : List Item → Type 0
+unfoldable pub Goods : List Item → Type 0
 Goods [] = Unit {0}
 Goods (x ∷ xs) = Good (x .spelt) × (0 < length (x .spelt .text)) × Goods xs
 
@@ -400,7 +400,7 @@ step-lexed (b ∷ bs) k n e =
     e
 
 -- Each token but the last is a word that is lexed to itself.
-pub AllWords : List ℕ → List Token → Type 0
+unfoldable pub AllWords : List ℕ → List Token → Type 0
 AllWords s [] = Unit {0}
 AllWords s (t ∷ ts) = (t .kind ≤ 45 → Good (spell s t)) × AllWords s ts
 

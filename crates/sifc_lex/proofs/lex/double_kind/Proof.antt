@@ -17,76 +17,76 @@ equals-kind-requires c κs = search needs
 -- src/lex.rt:454:17
 returns : tie.Need-returns
 unfolding doubleKind doubles if_then_else_
-returns c = 
+returns c =
     let c-match = c .before in
     rw (c-match .match .keys2, c .if1 .taken) refl
 
 -- src/lex.rt:460:17
 returns-2 : tie.Need-returns-2
 unfolding doubleKind doubles if_then_else_
-returns-2 c = 
+returns-2 c =
     let c-match = c .before in
     rw (c-match .match .keys3, c .if2 .taken) refl
 
 -- src/lex.rt:466:17
 returns-3 : tie.Need-returns-3
 unfolding doubleKind doubles if_then_else_
-returns-3 c = 
+returns-3 c =
     let c-match = c .before in
     rw (c-match .match .keys4, c .if3 .taken) refl
 
 -- src/lex.rt:472:17
 returns-4 : tie.Need-returns-4
 unfolding doubleKind doubles if_then_else_
-returns-4 c = 
+returns-4 c =
     let c-match = c .before in
     rw (c-match .match .keys5, c .if4 .taken) refl
 
 -- src/lex.rt:478:17
 returns-5 : tie.Need-returns-5
 unfolding doubleKind doubles if_then_else_
-returns-5 c = 
+returns-5 c =
     let c-match = c .before in
     rw (c-match .match .keys6, c .if5 .taken) refl
 
 -- src/lex.rt:447:1
 returns-6 : tie.Need-returns-6
-returns-6 c = 
+returns-6 c =
     let c-match = c .before in
     rw (c-match .match .keys1) (c .equals-kind .ensures)
 
 -- src/lex.rt:447:1
 returns-7 : tie.Need-returns-7
 unfolding doubleKind doubles if_then_else_
-returns-7 c = 
+returns-7 c =
     let c-match = c .before in
     simp (c-match .match .keys2, ne-eqb _ 61 (c .if1 .left), and-false)
 
 -- src/lex.rt:447:1
 returns-8 : tie.Need-returns-8
 unfolding doubleKind doubles if_then_else_
-returns-8 c = 
+returns-8 c =
     let c-match = c .before in
     simp (c-match .match .keys3, ne-eqb _ 38 (c .if2 .left), and-false)
 
 -- src/lex.rt:447:1
 returns-9 : tie.Need-returns-9
 unfolding doubleKind doubles if_then_else_
-returns-9 c = 
+returns-9 c =
     let c-match = c .before in
     simp (c-match .match .keys4, ne-eqb _ 124 (c .if3 .left), and-false)
 
 -- src/lex.rt:447:1
 returns-10 : tie.Need-returns-10
 unfolding doubleKind doubles if_then_else_
-returns-10 c = 
+returns-10 c =
     let c-match = c .before in
     simp (c-match .match .keys5, ne-eqb _ 91 (c .if4 .left), and-false)
 
 -- src/lex.rt:447:1
 returns-11 : tie.Need-returns-11
 unfolding doubleKind doubles if_then_else_
-returns-11 c = 
+returns-11 c =
     let c-match = c .before in
     simp (c-match .match .keys6, ne-eqb _ 93 (c .if5 .left), and-false)
 

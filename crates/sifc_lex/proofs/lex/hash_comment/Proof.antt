@@ -20,14 +20,14 @@ sub-t5 c = search needs
 
 -- src/lex.rt:370:16
 add-t6 : tie.Need-add-t6
-add-t6 c = 
+add-t6 c =
     let start = c .before .before in
     let z = span-at-le inLine (start .args .s .now) (start .args .at) (start .pre) in
     omega arith
 
 -- src/lex.rt:365:1
 returns : tie.Need-returns
-returns c = 
+returns c =
     let start = c .before .before in
     sym (hash-run (start .args .s .now) (start .args .at) (c .run-end .result) (c .run-end .ensures))
 

@@ -31,7 +31,7 @@ part-name-kind-start c = search needs
 
 -- src/lex.rt:422:26
 part-name-kind-end : tie.Need-part-name-kind-end
-part-name-kind-end c = 
+part-name-kind-end c =
     let start = c .before .before in
     let z = span-at-le alnum (start .args .s .now) (start .args .at + 1) (omega arith) in
     omega arith
@@ -46,7 +46,7 @@ sub-t5 c = search needs
 
 -- src/lex.rt:417:1
 returns : tie.Need-returns
-returns c = 
+returns c =
     let c-run-end = c .before .before in
     let start = c-run-end .before .before in
     rw add-one (ident-run (start .args .s .now) (start .args .at) (c-run-end .run-end .result) (c .name-kind .result) (start .pre) (rw add-one at (c-run-end .run-end .ensures)) (c .name-kind .ensures))

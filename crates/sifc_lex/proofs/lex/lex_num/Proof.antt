@@ -21,14 +21,14 @@ sub-t8 c = search needs
 
 -- src/lex.rt:404:31
 add-t9 : tie.Need-add-t9
-add-t9 c = 
+add-t9 c =
     let start = c .before .before .before in
     let z = span-at-le digit (start .args .s .now) (start .args .at) (start .pre) in
     omega arith
 
 -- src/lex.rt:404:9
 returns : tie.Need-returns
-returns c = 
+returns c =
     let c-run-end = c .before in
     let start = c-run-end .before .before in
     sym (num-none (start .args .s .now) (start .args .at) (c-run-end .run-end .result) (c-run-end .run-end .ensures) (c .if1 .taken))
@@ -47,7 +47,7 @@ add-t13 c = search needs
 
 -- src/lex.rt:407:9
 returns-2 : tie.Need-returns-2
-returns-2 c = 
+returns-2 c =
     let c-if1 = c .before .before in
     let c-run-end = c-if1 .before in
     let start = c-run-end .before .before in
@@ -71,7 +71,7 @@ add-t15 c = search needs
 
 -- src/lex.rt:411:9
 returns-3 : tie.Need-returns-3
-returns-3 c = 
+returns-3 c =
     let c-run-end2 = c .before in
     let c-if2 = c-run-end2 .before in
     let c-if1 = c-if2 .before .before in
@@ -81,7 +81,7 @@ returns-3 c =
 
 -- src/lex.rt:398:1
 returns-4 : tie.Need-returns-4
-returns-4 c = 
+returns-4 c =
     let c-run-end2 = c .before in
     let c-if2 = c-run-end2 .before in
     let c-if1 = c-if2 .before .before in

@@ -16,7 +16,7 @@ one-sign-requires c κs = search needs
 
 -- src/lex.rt:516:9
 returns : tie.Need-returns
-returns c = 
+returns c =
     let c-if1 = c .before in
     let start = c-if1 .before .before in
     c .one-sign .ensures ∙ sym (sign-alone (start .args .s .now) (start .args .at) (start .args .b) (c-if1 .if1 .taken))
@@ -35,7 +35,7 @@ one-sign-requires-2 c κs = search needs
 
 -- src/lex.rt:520:9
 returns-2 : tie.Need-returns-2
-returns-2 c = 
+returns-2 c =
     let c-if2 = c .before in
     let c-double-kind = c-if2 .before in
     let c-if1 = c-double-kind .before .before in
@@ -44,7 +44,7 @@ returns-2 c =
 
 -- src/lex.rt:511:1
 returns-3 : tie.Need-returns-3
-returns-3 c = 
+returns-3 c =
     let c-double-kind = c .before in
     let c-if1 = c-double-kind .before .before in
     let start = c-if1 .before .before in

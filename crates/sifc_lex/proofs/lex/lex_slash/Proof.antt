@@ -9,7 +9,7 @@ use Rattle.sifc_lex.proofs.lex.slash_comment.Reads as slash-comment-rea
 
 -- src/lex.rt:432:9
 returns : tie.Need-returns
-returns c = 
+returns c =
     let start = c .before .before in
     sym (slash-alone (start .args .s .now) (start .args .at) (c .if1 .taken))
 
@@ -19,7 +19,7 @@ shared-slice-read-if2 c = search needs
 
 -- src/lex.rt:435:9
 returns-2 : tie.Need-returns-2
-returns-2 c = 
+returns-2 c =
     let c-if1 = c .before .before in
     let start = c-if1 .before .before in
     sym (slash-other (start .args .s .now) (start .args .at) (c-if1 .if1 .left) (c .if2 .taken))
@@ -30,7 +30,7 @@ slash-comment-requires c κs = search needs
 
 -- src/lex.rt:427:1
 returns-3 : tie.Need-returns-3
-returns-3 c = 
+returns-3 c =
     let c-if2 = c .before in
     let c-if1 = c-if2 .before .before in
     let start = c-if1 .before .before in

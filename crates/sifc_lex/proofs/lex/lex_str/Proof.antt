@@ -24,7 +24,7 @@ add-t8 c = search needs
 
 -- src/lex.rt:392:9
 returns : tie.Need-returns
-returns c = 
+returns c =
     let c-run-end = c .before in
     let start = c-run-end .before .before in
     sym (str-more (start .args .s .now) (start .args .at) (c-run-end .run-end .result) (c-run-end .run-end .ensures) (c .if1 .taken))
@@ -35,14 +35,14 @@ sub-t5 c = search needs
 
 -- src/lex.rt:394:16
 add-t9 : tie.Need-add-t9
-add-t9 c = 
+add-t9 c =
     let start = c .before .before .before in
     let z = span-at-le inStr (start .args .s .now) (start .args .at) (start .pre) in
     omega arith
 
 -- src/lex.rt:386:1
 returns-2 : tie.Need-returns-2
-returns-2 c = 
+returns-2 c =
     let c-run-end = c .before in
     let start = c-run-end .before .before in
     sym (str-none (start .args .s .now) (start .args .at) (c-run-end .run-end .result) (c-run-end .run-end .ensures) (c .if1 .left))

@@ -16,14 +16,14 @@ single-kind-requires c κs = search needs
 -- src/lex.rt:505:9
 returns : tie.Need-returns
 unfolding oneSign if_then_else_
-returns c = 
+returns c =
     let c-single-kind = c .before in
     rw (sym (c-single-kind .single-kind .ensures), eq-eqb (c-single-kind .single-kind .result) 0 (c .if1 .taken)) refl
 
 -- src/lex.rt:500:1
 returns-2 : tie.Need-returns-2
 unfolding oneSign if_then_else_
-returns-2 c = 
+returns-2 c =
     let c-single-kind = c .before in
     rw (sym (c-single-kind .single-kind .ensures), ne-eqb (c-single-kind .single-kind .result) 0 (c .if1 .left)) refl
 

@@ -21,14 +21,14 @@ add-t8 c = search needs
 
 -- src/lex.rt:380:9
 returns : tie.Need-returns
-returns c = 
+returns c =
     let c-run-end = c .before in
     let start = c-run-end .before .before in
     sym (slash-more (start .args .s .now) (start .args .at) (c-run-end .run-end .result) (c-run-end .run-end .ensures) (c .if1 .taken))
 
 -- src/lex.rt:374:1
 returns-2 : tie.Need-returns-2
-returns-2 c = 
+returns-2 c =
     let c-run-end = c .before in
     let start = c-run-end .before .before in
     sym (slash-none (start .args .s .now) (start .args .at) (c-run-end .run-end .result) (c-run-end .run-end .ensures) (c .if1 .left))

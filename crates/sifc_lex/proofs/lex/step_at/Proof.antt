@@ -18,7 +18,7 @@ use Rattle.sifc_lex.proofs.lex.lex_str.Reads as lex-str-reads
 
 -- src/lex.rt:531:9
 returns : tie.Need-returns
-returns c = 
+returns c =
     let start = c .before .before in
     sym (turn-end (start .args .s .now) (start .args .at) (c .if1 .taken))
 
@@ -32,7 +32,7 @@ is-white-requires c κs = search needs
 
 -- src/lex.rt:535:9
 returns-2 : tie.Need-returns-2
-returns-2 c = 
+returns-2 c =
     let c-is-white = c .before in
     let c-if1 = c-is-white .before .before in
     let start = c-if1 .before .before in
@@ -48,7 +48,7 @@ hash-comment-requires c κs = search needs
 
 -- src/lex.rt:538:9
 returns-3 : tie.Need-returns-3
-returns-3 c = 
+returns-3 c =
     let c-if3 = c .before in
     let c-if2 = c-if3 .before in
     let c-is-white = c-if2 .before in
@@ -66,7 +66,7 @@ lex-slash-requires c κs = search needs
 
 -- src/lex.rt:541:9
 returns-4 : tie.Need-returns-4
-returns-4 c = 
+returns-4 c =
     let c-if4 = c .before in
     let c-if3 = c-if4 .before in
     let c-if2 = c-if3 .before in
@@ -85,7 +85,7 @@ lex-str-requires c κs = search needs
 
 -- src/lex.rt:544:9
 returns-5 : tie.Need-returns-5
-returns-5 c = 
+returns-5 c =
     let c-if5 = c .before in
     let c-if4 = c-if5 .before in
     let c-if3 = c-if4 .before in
@@ -109,7 +109,7 @@ lex-num-requires c κs = search needs
 
 -- src/lex.rt:547:9
 returns-6 : tie.Need-returns-6
-returns-6 c = 
+returns-6 c =
     let c-if6 = c .before in
     let c-is-digit = c-if6 .before in
     let c-if5 = c-is-digit .before in
@@ -119,7 +119,7 @@ returns-6 c =
     let c-is-white = c-if2 .before in
     let c-if1 = c-is-white .before .before in
     let start = c-if1 .before .before in
-    (rw add-one at (c .lex-num .ensures)) ∙ sym (turn-num (start .args .s .now) (start .args .at) (c-if1 .if1 .left) (sym (c-is-white .is-white .ensures) ∙ c-if2 .if2 .left, c-if3 .if3 .left, c-if4 .if4 .left) (c-if5 .if5 .left) (sym (c-is-digit .is-digit .ensures) ∙ c-if6 .if6  .taken))
+    (rw add-one at (c .lex-num .ensures)) ∙ sym (turn-num (start .args .s .now) (start .args .at) (c-if1 .if1 .left) (sym (c-is-white .is-white .ensures) ∙ c-if2 .if2 .left, c-if3 .if3 .left, c-if4 .if4 .left) (c-if5 .if5 .left) (sym (c-is-digit .is-digit .ensures) ∙ c-if6 .if6 .taken))
 
 -- src/lex.rt:549:8
 is-letter-requires : tie.Need-is-letter-requires
@@ -131,7 +131,7 @@ lex-ident-requires c κs = search needs
 
 -- src/lex.rt:550:9
 returns-7 : tie.Need-returns-7
-returns-7 c = 
+returns-7 c =
     let c-if7 = c .before in
     let c-is-letter = c-if7 .before in
     let c-if6 = c-is-letter .before in
@@ -143,7 +143,7 @@ returns-7 c =
     let c-is-white = c-if2 .before in
     let c-if1 = c-is-white .before .before in
     let start = c-if1 .before .before in
-    (rw add-one at (c .lex-ident .ensures)) ∙ sym (turn-ident (start .args .s .now) (start .args .at) (c-if1 .if1 .left) (sym (c-is-white .is-white .ensures) ∙ c-if2 .if2 .left, c-if3 .if3 .left, c-if4 .if4 .left) (c-if5 .if5 .left) (sym (c-is-digit .is-digit .ensures) ∙ c-if6 .if6  .left) (sym (c-is-letter .is-letter .ensures) ∙ c-if7 .if7  .taken))
+    (rw add-one at (c .lex-ident .ensures)) ∙ sym (turn-ident (start .args .s .now) (start .args .at) (c-if1 .if1 .left) (sym (c-is-white .is-white .ensures) ∙ c-if2 .if2 .left, c-if3 .if3 .left, c-if4 .if4 .left) (c-if5 .if5 .left) (sym (c-is-digit .is-digit .ensures) ∙ c-if6 .if6 .left) (sym (c-is-letter .is-letter .ensures) ∙ c-if7 .if7 .taken))
 
 -- src/lex.rt:552:17
 add-lex-sign : tie.Need-add-lex-sign
@@ -155,7 +155,7 @@ lex-sign-requires c κs = search needs
 
 -- src/lex.rt:526:1
 returns-8 : tie.Need-returns-8
-returns-8 c = 
+returns-8 c =
     let c-if7 = c .before in
     let c-is-letter = c-if7 .before in
     let c-if6 = c-is-letter .before in
@@ -167,7 +167,7 @@ returns-8 c =
     let c-is-white = c-if2 .before in
     let c-if1 = c-is-white .before .before in
     let start = c-if1 .before .before in
-    (rw add-one at (c .lex-sign .ensures)) ∙ sym (turn-sign (start .args .s .now) (start .args .at) (c-if1 .if1 .left) (sym (c-is-white .is-white .ensures) ∙ c-if2 .if2 .left, c-if3 .if3 .left, c-if4 .if4 .left) (c-if5 .if5 .left) (sym (c-is-digit .is-digit .ensures) ∙ c-if6 .if6  .left) (sym (c-is-letter .is-letter .ensures) ∙ c-if7 .if7  .left))
+    (rw add-one at (c .lex-sign .ensures)) ∙ sym (turn-sign (start .args .s .now) (start .args .at) (c-if1 .if1 .left) (sym (c-is-white .is-white .ensures) ∙ c-if2 .if2 .left, c-if3 .if3 .left, c-if4 .if4 .left) (c-if5 .if5 .left) (sym (c-is-digit .is-digit .ensures) ∙ c-if6 .if6 .left) (sym (c-is-letter .is-letter .ensures) ∙ c-if7 .if7 .left))
 
 pub step-at-spec : {M : Type 1} → statement M
 step-at-spec =

@@ -18,7 +18,7 @@ same-requires c κs = search needs
 -- src/reserved.rt:72:9
 returns : tie.Need-returns
 unfolding isStdLibFn
-returns c = 
+returns c =
     let c-same = c .before in
     rw (sym (c-same .same .ensures) ∙ c .if1 .taken) refl
 
@@ -33,7 +33,7 @@ same-requires-2 c κs = search needs
 -- src/reserved.rt:68:1
 returns-2 : tie.Need-returns-2
 unfolding isStdLibFn
-returns-2 c = 
+returns-2 c =
     let c-if1 = c .before .before in
     let c-same = c-if1 .before in
     rw (sym (c-same .same .ensures) ∙ c-if1 .if1 .left) (c .same2 .ensures)

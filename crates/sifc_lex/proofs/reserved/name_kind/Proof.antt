@@ -19,7 +19,7 @@ same-requires c κs = search needs
 -- src/reserved.rt:29:9
 returns : tie.Need-returns
 unfolding nameKind kindAmong reservedWords if_then_else_
-returns c = 
+returns c =
     let c-same = c .before in
     rw (sym (c-same .same .ensures) ∙ c .if1 .taken) refl
 
@@ -34,7 +34,7 @@ same-requires-2 c κs = search needs
 -- src/reserved.rt:32:9
 returns-2 : tie.Need-returns-2
 unfolding nameKind kindAmong reservedWords if_then_else_
-returns-2 c = 
+returns-2 c =
     let c-same2 = c .before in
     let c-if1 = c-same2 .before .before in
     let c-same = c-if1 .before in
@@ -51,7 +51,7 @@ same-requires-3 c κs = search needs
 -- src/reserved.rt:35:9
 returns-3 : tie.Need-returns-3
 unfolding nameKind kindAmong reservedWords if_then_else_
-returns-3 c = 
+returns-3 c =
     let c-same3 = c .before in
     let c-if2 = c-same3 .before .before in
     let c-same2 = c-if2 .before in
@@ -70,7 +70,7 @@ same-requires-4 c κs = search needs
 -- src/reserved.rt:38:9
 returns-4 : tie.Need-returns-4
 unfolding nameKind kindAmong reservedWords if_then_else_
-returns-4 c = 
+returns-4 c =
     let c-same4 = c .before in
     let c-if3 = c-same4 .before .before in
     let c-same3 = c-if3 .before in
@@ -91,7 +91,7 @@ same-requires-5 c κs = search needs
 -- src/reserved.rt:41:9
 returns-5 : tie.Need-returns-5
 unfolding nameKind kindAmong reservedWords if_then_else_
-returns-5 c = 
+returns-5 c =
     let c-same5 = c .before in
     let c-if4 = c-same5 .before .before in
     let c-same4 = c-if4 .before in
@@ -114,7 +114,7 @@ same-requires-6 c κs = search needs
 -- src/reserved.rt:44:9
 returns-6 : tie.Need-returns-6
 unfolding nameKind kindAmong reservedWords if_then_else_
-returns-6 c = 
+returns-6 c =
     let c-same6 = c .before in
     let c-if5 = c-same6 .before .before in
     let c-same5 = c-if5 .before in
@@ -139,7 +139,7 @@ same-requires-7 c κs = search needs
 -- src/reserved.rt:47:9
 returns-7 : tie.Need-returns-7
 unfolding nameKind kindAmong reservedWords if_then_else_
-returns-7 c = 
+returns-7 c =
     let c-same7 = c .before in
     let c-if6 = c-same7 .before .before in
     let c-same6 = c-if6 .before in
@@ -166,7 +166,7 @@ same-requires-8 c κs = search needs
 -- src/reserved.rt:50:9
 returns-8 : tie.Need-returns-8
 unfolding nameKind kindAmong reservedWords if_then_else_
-returns-8 c = 
+returns-8 c =
     let c-same8 = c .before in
     let c-if7 = c-same8 .before .before in
     let c-same7 = c-if7 .before in
@@ -195,7 +195,7 @@ same-requires-9 c κs = search needs
 -- src/reserved.rt:53:9
 returns-9 : tie.Need-returns-9
 unfolding nameKind kindAmong reservedWords if_then_else_
-returns-9 c = 
+returns-9 c =
     let c-same9 = c .before in
     let c-if8 = c-same9 .before .before in
     let c-same8 = c-if8 .before in
@@ -226,7 +226,7 @@ same-requires-10 c κs = search needs
 -- src/reserved.rt:56:9
 returns-10 : tie.Need-returns-10
 unfolding nameKind kindAmong reservedWords if_then_else_
-returns-10 c = 
+returns-10 c =
     let c-same10 = c .before in
     let c-if9 = c-same10 .before .before in
     let c-same9 = c-if9 .before in
@@ -259,7 +259,7 @@ same-requires-11 c κs = search needs
 -- src/reserved.rt:59:9
 returns-11 : tie.Need-returns-11
 unfolding nameKind kindAmong reservedWords if_then_else_
-returns-11 c = 
+returns-11 c =
     let c-same11 = c .before in
     let c-if10 = c-same11 .before .before in
     let c-same10 = c-if10 .before in
@@ -294,7 +294,7 @@ same-requires-12 c κs = search needs
 -- src/reserved.rt:62:9
 returns-12 : tie.Need-returns-12
 unfolding nameKind kindAmong reservedWords if_then_else_
-returns-12 c = 
+returns-12 c =
     let c-same12 = c .before in
     let c-if11 = c-same12 .before .before in
     let c-same11 = c-if11 .before in
@@ -323,7 +323,7 @@ returns-12 c =
 -- src/reserved.rt:25:1
 returns-13 : tie.Need-returns-13
 unfolding nameKind kindAmong reservedWords if_then_else_
-returns-13 c = 
+returns-13 c =
     let c-same12 = c .before in
     let c-if11 = c-same12 .before .before in
     let c-same11 = c-if11 .before in
