@@ -11,6 +11,10 @@ use Rattle.sifc_err.specs.declared.Refusal.{Refusal}
 use Rattle.sifc_err.specs.Refusal.{numberOf, kindOf, offsetOf}
 use Rattle.sifc_lex.specs.declared.lex.LexAnswer.{LexAnswer}
 use Rattle.sifc_lex.specs.declared.lex.LexAnswer.the-variants.{Ended, Full}
+use Rattle.sifc_err.specs.declared.Refusal.the-variants.{LongScript, NotAscii}
+use Rattle.sifc_lex.specs.declared.tokens.Checked.{Checked}
+use Rattle.sifc_lex.specs.declared.tokens.Checked.the-variants.{Fine}
+use Rattle.sifc_lex.specs.declared.tokens.Checked.the-variants as check
 use Rattle.sifc_lex.specs.declared.tokens.TokensAnswer.{TokensAnswer}
 use Rattle.sifc_lex.specs.declared.tokens.TokensAnswer.the-variants.{Count, Refused}
 use Rattle.sifc_lex.specs.Base.{if_then_else_, span}
@@ -40,12 +44,22 @@ pub record LexCall : Type 0 where
   pub offs : List ℕ
   pub words : List ℕ
 
+abbrev pub lexCalled : LexAnswer → List ℕ → List ℕ → LexCall
+lexCalled a offs words = record { answer = a; offs = offs; words = words }
+
 unfoldable pub lexCall : List ℕ → List ℕ → List ℕ → LexCall
 unfolding if_then_else_ lex ending endAt offsOf wordsOf padded zeroed
 lexCall script offs words =
-    if ltb (length offs) (length (lex script))
-    then record { answer = Full; offs = zeroed offs; words = zeroed words }
-    else record { answer = Ended (length (lex script)) (ending script) (endAt script); offs = padded (offsOf (lex script)) (length offs); words = padded (wordsOf (lex script)) (length words) }
+    if ltb (length offs) (length (lex script)) then lexCalled Full (zeroed offs) (zeroed words)
+    else lexCalled (Ended (length (lex script)) (ending script) (endAt script)) (padded (offsOf (lex script)) (length offs)) (padded (wordsOf (lex script)) (length words))
+
+-- "entry: 1 LongScript, over 65,535 bytes; 2 NotAscii, a byte of 128 or more; the first one's offset"
+unfoldable pub checkOf : List ℕ → Checked
+unfolding if_then_else_ span ascii
+checkOf script =
+    if ltb 65535 (length script) then check.Refused LongScript
+    else if ltb (span ascii script) (length script) then check.Refused (NotAscii (span ascii script))
+    else Fine
 
 -- What the tokens call answers, in this paper's numbers: the token count, or number, kind and offset of a refusal; the others are 0.
 pub record Answer : Type 0 where
@@ -64,36 +78,36 @@ pub record TokensCall : Type 0 where
   pub offs : List ℕ
   pub words : List ℕ
 
+abbrev pub tokensCalled : Answer → List ℕ → List ℕ → TokensCall
+tokensCalled a offs words = record { answer = a; offs = offs; words = words }
+
 abbrev pub refusal : ℕ → ℕ → ℕ → Answer
 refusal n k o = record { count = 0; number = n; kind = k; offset = o }
 
-unfoldable pub tokensRead : List ℕ → List ℕ → List ℕ → TokensCall
-unfolding lex offsOf wordsOf padded
-tokensRead script offs words =
-    record { answer = record { count = length (lex script); number = 0; kind = 0; offset = 0 }; offs = padded (offsOf (lex script)) (length offs); words = padded (wordsOf (lex script)) (length words) }
+abbrev pub counted : ℕ → Answer
+counted n = record { count = n; number = 0; kind = 0; offset = 0 }
 
--- "1 to 3 touch nothing; the others set every lent output to 0."
-abbrev pub untouched : Answer → List ℕ → List ℕ → TokensCall
-untouched a offs words = record { answer = a; offs = offs; words = words }
-
-unfoldable pub cleared : Answer → List ℕ → List ℕ → TokensCall
+-- "The tokens call refuses every lexing panic with 5", its kind and its offset: of n tokens in the arrays that end at an offset.
+unfoldable pub byEnding : Ending → ℕ → ℕ → List ℕ → List ℕ → TokensCall
 unfolding zeroed
-cleared a offs words = record { answer = a; offs = zeroed offs; words = zeroed words }
+byEnding TrueEnd n at offs words = tokensCalled (counted n) offs words
+byEnding UnknownChar n at offs words = tokensCalled (counted n) offs words
+byEnding UnterminatedString n at offs words = tokensCalled (counted n) offs words
+byEnding (Panic k) n at offs words = tokensCalled (refusal 5 k at) (zeroed offs) (zeroed words)
 
--- "The tokens call refuses every lexing panic with 5", its kind and its offset.
-unfoldable pub byEnding : Ending → List ℕ → List ℕ → List ℕ → TokensCall
-unfolding tokensRead cleared endAt
-byEnding TrueEnd script offs words = tokensRead script offs words
-byEnding UnknownChar script offs words = tokensRead script offs words
-byEnding UnterminatedString script offs words = tokensRead script offs words
-byEnding (Panic k) script offs words = cleared (refusal 5 k (endAt script)) offs words
+-- The call behind the tests on the script: 3 Uneven, 4 TokensFull, 5 SourceFault, or the tokens. "1 to 3 touch nothing; the others set every
+-- lent output to 0."
+unfoldable pub afterEntry : List ℕ → List ℕ → List ℕ → TokensCall
+unfolding if_then_else_ byEnding lex ending endAt offsOf wordsOf padded zeroed
+afterEntry script offs words =
+    if not (eqb (length offs) (length words)) then tokensCalled (refusal 3 0 0) offs words
+    else if ltb (length offs) (length (lex script)) then tokensCalled (refusal 4 0 0) (zeroed offs) (zeroed words)
+    else byEnding (ending script) (length (lex script)) (endAt script) (padded (offsOf (lex script)) (length offs)) (padded (wordsOf (lex script)) (length words))
 
 -- The tokens call, down the table of refusals.
 unfoldable pub tokensCall : List ℕ → List ℕ → List ℕ → TokensCall
-unfolding if_then_else_ byEnding cleared ascii span lex ending
+unfolding if_then_else_ afterEntry ascii span
 tokensCall script offs words =
-    if ltb 65535 (length script) then untouched (refusal 1 0 0) offs words
-    else if ltb (span ascii script) (length script) then untouched (refusal 2 0 (span ascii script)) offs words
-    else if not (eqb (length offs) (length words)) then untouched (refusal 3 0 0) offs words
-    else if ltb (length offs) (length (lex script)) then cleared (refusal 4 0 0) offs words
-    else byEnding (ending script) script offs words
+    if ltb 65535 (length script) then tokensCalled (refusal 1 0 0) offs words
+    else if ltb (span ascii script) (length script) then tokensCalled (refusal 2 0 (span ascii script)) offs words
+    else afterEntry script offs words

@@ -21,7 +21,7 @@ abbrev μ-loop : tie.MeasureT-loop
 
 -- src/tokens.rt:59:5
 loop-holds : tie.Need-loop-holds Inv-loop μ-loop
-loop-holds c = 
+loop-holds c =
     let start = c .before .before .before in
     loading-none (start .args .script .now) (start .args .offs .now) (start .args .words .now) (start .pre .1)
 
@@ -35,7 +35,7 @@ enum-known-st c = search needs
 
 -- src/tokens.rt:63:17
 add-at : tie.Need-add-at Inv-loop μ-loop
-add-at c = 
+add-at c =
     let c-st = c .before in
     let c-step-at = c-st .before .before in
     let c-loop = c-step-at .before in
@@ -45,7 +45,7 @@ add-at c =
 
 -- src/tokens.rt:59:5
 loop-less : tie.Need-loop-less Inv-loop μ-loop
-loop-less c = 
+loop-less c =
     let c-st = c .before in
     let c-step-at = c-st .before .before in
     let c-loop = c-step-at .before in
@@ -55,7 +55,7 @@ loop-less c =
 
 -- src/tokens.rt:59:5
 loop-again : tie.Need-loop-again Inv-loop μ-loop
-loop-again c = 
+loop-again c =
     let c-st = c .before in
     let c-step-at = c-st .before .before in
     let c-loop = c-step-at .before in
@@ -68,19 +68,19 @@ enum-known-st-2 c = search needs
 
 -- src/tokens.rt:67:21
 same-length : tie.Need-same-length Inv-loop μ-loop
-same-length c = 
+same-length c =
     let c-loop = c .before .before .before .before .before in
     (c-loop .loop .inv) .long-offs
 
 -- src/tokens.rt:67:21
 same-length-2 : tie.Need-same-length-2 Inv-loop μ-loop
-same-length-2 c = 
+same-length-2 c =
     let c-loop = c .before .before .before .before .before in
     (c-loop .loop .inv) .long-words
 
 -- src/tokens.rt:67:21
 returns : tie.Need-returns Inv-loop μ-loop
-returns c = 
+returns c =
     let c-st2 = c .before .before in
     let c-step-at = c-st2 .before .before in
     let c-loop = c-step-at .before in
@@ -89,7 +89,7 @@ returns c =
 
 -- src/tokens.rt:69:17
 put-requires : tie.Need-put-requires Inv-loop μ-loop
-put-requires c κs = 
+put-requires c κs =
     let c-if1 = c .before .before in
     let c-st2 = c-if1 .before .before in
     let c-step-at = c-st2 .before .before in
@@ -100,7 +100,7 @@ put-requires c κs =
 
 -- src/tokens.rt:70:17
 add-n : tie.Need-add-n Inv-loop μ-loop
-add-n c = 
+add-n c =
     let c-if1 = c .before .before .before .before .before .before .before in
     let c-loop = c-if1 .before .before .before .before .before in
     let start = c-loop .before .before .before .before in
@@ -108,7 +108,7 @@ add-n c =
 
 -- src/tokens.rt:71:17
 add-at-2 : tie.Need-add-at-2 Inv-loop μ-loop
-add-at-2 c = 
+add-at-2 c =
     let c-st2 = c .before .before .before .before .before .before .before .before .before in
     let c-step-at = c-st2 .before .before in
     let c-loop = c-step-at .before in
@@ -118,7 +118,7 @@ add-at-2 c =
 
 -- src/tokens.rt:59:5
 loop-less-2 : tie.Need-loop-less-2 Inv-loop μ-loop
-loop-less-2 c = 
+loop-less-2 c =
     let c-st2 = c .before .before .before .before .before .before .before .before .before in
     let c-step-at = c-st2 .before .before in
     let c-loop = c-step-at .before in
@@ -128,7 +128,7 @@ loop-less-2 c =
 
 -- src/tokens.rt:59:5
 loop-again-2 : tie.Need-loop-again-2 Inv-loop μ-loop
-loop-again-2 c = 
+loop-again-2 c =
     let c-put = c .before .before .before .before in
     let c-if1 = c-put .before .before .before in
     let c-st2 = c-if1 .before .before in
@@ -143,19 +143,19 @@ enum-known-st-3 c = search needs
 
 -- src/tokens.rt:75:21
 same-length-3 : tie.Need-same-length-3 Inv-loop μ-loop
-same-length-3 c = 
+same-length-3 c =
     let c-loop = c .before .before .before .before .before in
     (c-loop .loop .inv) .long-offs
 
 -- src/tokens.rt:75:21
 same-length-4 : tie.Need-same-length-4 Inv-loop μ-loop
-same-length-4 c = 
+same-length-4 c =
     let c-loop = c .before .before .before .before .before in
     (c-loop .loop .inv) .long-words
 
 -- src/tokens.rt:75:21
 returns-2 : tie.Need-returns-2 Inv-loop μ-loop
-returns-2 c = 
+returns-2 c =
     let c-st3 = c .before .before in
     let c-step-at = c-st3 .before .before in
     let c-loop = c-step-at .before in
@@ -168,7 +168,7 @@ end-kind-requires c κs = search needs
 
 -- src/tokens.rt:77:55
 add-put : tie.Need-add-put Inv-loop μ-loop
-add-put c = 
+add-put c =
     let c-st3 = c .before .before .before .before .before in
     let c-step-at = c-st3 .before .before in
     let c-loop = c-step-at .before in
@@ -178,7 +178,7 @@ add-put c =
 
 -- src/tokens.rt:77:17
 put-requires-2 : tie.Need-put-requires-2 Inv-loop μ-loop
-put-requires-2 c κs = 
+put-requires-2 c κs =
     let c-if2 = c .before .before .before in
     let c-st3 = c-if2 .before .before in
     let c-step-at = c-st3 .before .before in
@@ -189,7 +189,7 @@ put-requires-2 c κs =
 
 -- src/tokens.rt:78:41
 add-t19 : tie.Need-add-t19 Inv-loop μ-loop
-add-t19 c = 
+add-t19 c =
     let c-if2 = c .before .before .before .before .before .before .before .before in
     let c-loop = c-if2 .before .before .before .before .before in
     let start = c-loop .before .before .before .before in
@@ -197,7 +197,7 @@ add-t19 c =
 
 -- src/tokens.rt:78:56
 add-t27 : tie.Need-add-t27 Inv-loop μ-loop
-add-t27 c = 
+add-t27 c =
     let c-st3 = c .before .before .before .before .before .before .before .before .before .before in
     let c-step-at = c-st3 .before .before in
     let c-loop = c-step-at .before in
@@ -207,7 +207,7 @@ add-t27 c =
 
 -- src/tokens.rt:78:17
 same-length-5 : tie.Need-same-length-5 Inv-loop μ-loop
-same-length-5 c = 
+same-length-5 c =
     let c-put2 = c .before .before .before .before in
     let c-end-kind = c-put2 .before in
     let c-if2 = c-end-kind .before .before .before in
@@ -219,7 +219,7 @@ same-length-5 c =
 
 -- src/tokens.rt:78:17
 same-length-6 : tie.Need-same-length-6 Inv-loop μ-loop
-same-length-6 c = 
+same-length-6 c =
     let c-put2 = c .before .before .before .before in
     let c-end-kind = c-put2 .before in
     let c-if2 = c-end-kind .before .before .before in
@@ -231,7 +231,7 @@ same-length-6 c =
 
 -- src/tokens.rt:78:17
 returns-3 : tie.Need-returns-3 Inv-loop μ-loop
-returns-3 c = 
+returns-3 c =
     let c-put2 = c .before .before .before .before in
     let c-end-kind = c-put2 .before in
     let c-if2 = c-end-kind .before .before .before in
