@@ -8,6 +8,7 @@ pub mod LexLaws
 pub mod LexTrip
 pub mod Unicode
 pub mod Place
+pub mod PlaceLaws
 pub mod Spelling
 pub mod Class
 pub mod Tokens

@@ -1,11 +1,11 @@
 -- Document 01: "A token's spelling is a part of the script or of the fixed spelling list (the strings of `Display`). A Str's spelling lacks
 -- its quotes." token.rs, fmt.
-use Prim.Native.Nat.{ℕ, zero, suc, _+_, _-_}
+use Prim.Native.Nat.{ℕ, zero, suc, _+_, _-_, _<_}
 use mathlib.Core.Path.{_≡_, refl, ap, _∙_}
 use mathlib.Core.List.{List, [], _∷_, _++_}
 use mathlib.Core.Bool.{Bool, true, false, _||_}
 use lib.Dec.{eqb}
-use lib.ListN.{getD, take, drop, length, length-append}
+use lib.ListN.{getD, take, drop, length, length-append, List·getD-eq-default}
 use lib.Seq.{drop-append-add, take-append-seam}
 use Rattle.sifc_lex.specs.Base.{if_then_else_, part}
 use Rattle.sifc_lex.specs.Kind.{Ident, Str, Val}
@@ -51,3 +51,7 @@ part-joined (x ∷ xs) (suc k) = rw (length-append x (joined (take k xs)), drop-
 pub part-is-display : (kind : ℕ) → part (startOf kind) (length (display kind)) spellings ≡ display kind
 unfolding startOf display spellings
 part-is-display kind = part-joined displays kind
+
+pub display-none : (kind : ℕ) → 47 < kind → display kind ≡ []
+unfolding display displays
+display-none kind h = List·getD-eq-default displays [] h

@@ -12,11 +12,11 @@ use Rattle.sifc_err.specs.Refusal.{numberOf, kindOf, offsetOf}
 use Rattle.sifc_lex.specs.declared.lex.LexAnswer.{LexAnswer}
 use Rattle.sifc_lex.specs.declared.lex.LexAnswer.the-variants.{Ended, Full}
 use Rattle.sifc_err.specs.declared.Refusal.the-variants.{LongScript, NotAscii}
-use Rattle.sifc_lex.specs.declared.tokens.Checked.{Checked}
-use Rattle.sifc_lex.specs.declared.tokens.Checked.the-variants.{Fine}
-use Rattle.sifc_lex.specs.declared.tokens.Checked.the-variants as check
-use Rattle.sifc_lex.specs.declared.tokens.TokensAnswer.{TokensAnswer}
-use Rattle.sifc_lex.specs.declared.tokens.TokensAnswer.the-variants.{Count, Refused}
+use Rattle.sifc_lex.specs.declared.call.Checked.{Checked}
+use Rattle.sifc_lex.specs.declared.call.Checked.the-variants.{Fine}
+use Rattle.sifc_lex.specs.declared.call.Checked.the-variants as check
+use Rattle.sifc_lex.specs.declared.call.TokensAnswer.{TokensAnswer}
+use Rattle.sifc_lex.specs.declared.call.TokensAnswer.the-variants.{Count, Refused}
 use Rattle.sifc_lex.specs.Base.{if_then_else_, span}
 use Rattle.sifc_lex.specs.Lex.{ascii, lex, ending, endAt}
 

@@ -5,13 +5,13 @@ use mathlib.Core.Path.{_≡_, sym, _∙_}
 use lib.ListN.{length, drop}
 use Rattle.sifc_lex.specs.Lex.{step}
 use Rattle.sifc_lex.proofs.Loading.{Loading, loading-none, skip-bounds, word-bounds, stop-bounds, loading-skip, loading-word, loading-stop, end-small, full-word, full-stop}
-use Rattle.sifc_lex.proofs.tokens.lex_all.Statement.{statement}
-use Rattle.sifc_lex.proofs.tokens.lex_all.Tie as tie
-use Rattle.sifc_lex.proofs.tokens.lex_all.Reads as reads
-use Rattle.sifc_lex.proofs.tokens.lex_all.Lts as lts
+use Rattle.sifc_lex.proofs.call.lex_all.Statement.{statement}
+use Rattle.sifc_lex.proofs.call.lex_all.Tie as tie
+use Rattle.sifc_lex.proofs.call.lex_all.Reads as reads
+use Rattle.sifc_lex.proofs.call.lex_all.Lts as lts
 use Rattle.sifc_lex.proofs.lex.end_kind.Reads as end-kind-reads
 use Rattle.sifc_lex.proofs.lex.step_at.Reads as step-at-reads
-use Rattle.sifc_lex.proofs.tokens.put.Reads as put-reads
+use Rattle.sifc_lex.proofs.call.put.Reads as put-reads
 
 abbrev Inv-loop : tie.InvT-loop
 Inv-loop script offs₀ words₀ at₀ n₀ offs words at n = Loading script offs₀ words₀ offs words at n

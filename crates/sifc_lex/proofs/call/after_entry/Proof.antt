@@ -1,12 +1,12 @@
 use borrow.Author.Needs.{needs}
 use mathlib.Core.Path.{_≡_, _∙_}
 use Rattle.sifc_lex.proofs.Calls.{entry-uneven, entry-ended, entry-full}
-use Rattle.sifc_lex.proofs.tokens.after_entry.Statement.{statement}
-use Rattle.sifc_lex.proofs.tokens.after_entry.Tie as tie
-use Rattle.sifc_lex.proofs.tokens.after_entry.Reads as reads
-use Rattle.sifc_lex.proofs.tokens.after_entry.Lts as lts
-use Rattle.sifc_lex.proofs.tokens.by_ending.Reads as by-ending-reads
-use Rattle.sifc_lex.proofs.tokens.lex_tokens.Reads as lex-tokens-reads
+use Rattle.sifc_lex.proofs.call.after_entry.Statement.{statement}
+use Rattle.sifc_lex.proofs.call.after_entry.Tie as tie
+use Rattle.sifc_lex.proofs.call.after_entry.Reads as reads
+use Rattle.sifc_lex.proofs.call.after_entry.Lts as lts
+use Rattle.sifc_lex.proofs.call.by_ending.Reads as by-ending-reads
+use Rattle.sifc_lex.proofs.call.lex_tokens.Reads as lex-tokens-reads
 
 -- src/tokens.rt:147:9
 returns : tie.Need-returns

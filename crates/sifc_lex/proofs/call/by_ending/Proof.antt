@@ -4,11 +4,11 @@ use mathlib.Core.Path.{_≡_, refl, ap₂}
 use mathlib.Core.List.{List}
 use Rattle.sifc_lex.specs.Tokens.{byEnding, tokensCalled, refusal}
 use Rattle.sifc_lex.proofs.Calls.{front-none}
-use Rattle.sifc_lex.proofs.tokens.by_ending.Statement.{statement}
-use Rattle.sifc_lex.proofs.tokens.by_ending.Tie as tie
-use Rattle.sifc_lex.proofs.tokens.by_ending.Reads as reads
-use Rattle.sifc_lex.proofs.tokens.by_ending.Lts as lts
-use Rattle.sifc_lex.proofs.tokens.clear_from.Reads as clear-from-reads
+use Rattle.sifc_lex.proofs.call.by_ending.Statement.{statement}
+use Rattle.sifc_lex.proofs.call.by_ending.Tie as tie
+use Rattle.sifc_lex.proofs.call.by_ending.Reads as reads
+use Rattle.sifc_lex.proofs.call.by_ending.Lts as lts
+use Rattle.sifc_lex.proofs.call.clear_from.Reads as clear-from-reads
 
 -- src/tokens.rt:130:28
 enum-told : tie.Need-enum-told
@@ -60,7 +60,7 @@ same-length-2 c = search needs
 -- src/tokens.rt:120:1
 returns-4 : tie.Need-returns-4
 unfolding byEnding
-returns-4 c = 
+returns-4 c =
     let c-clear-from2 = c .before .before in
     let c-clear-from = c-clear-from2 .before .before .before .before in
     let c-ending = c-clear-from .before .before .before in

@@ -6,10 +6,10 @@ use lib.ListN.{length}
 use Rattle.sifc_lex.specs.Base.{if_then_else_, span}
 use Rattle.sifc_lex.specs.Lex.{ascii}
 use Rattle.sifc_lex.specs.Tokens.{checkOf}
-use Rattle.sifc_lex.proofs.tokens.check_script.Statement.{statement}
-use Rattle.sifc_lex.proofs.tokens.check_script.Tie as tie
-use Rattle.sifc_lex.proofs.tokens.check_script.Reads as reads
-use Rattle.sifc_lex.proofs.tokens.check_script.Lts as lts
+use Rattle.sifc_lex.proofs.call.check_script.Statement.{statement}
+use Rattle.sifc_lex.proofs.call.check_script.Tie as tie
+use Rattle.sifc_lex.proofs.call.check_script.Reads as reads
+use Rattle.sifc_lex.proofs.call.check_script.Lts as lts
 use Rattle.sifc_lex.proofs.lex.run_end.Reads as run-end-reads
 
 -- src/tokens.rt:110:9

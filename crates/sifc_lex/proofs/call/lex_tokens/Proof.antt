@@ -1,12 +1,12 @@
 use borrow.Author.Needs.{needs}
 use mathlib.Core.Path.{_≡_}
 use Rattle.sifc_lex.proofs.Calls.{ended-offs, ended-words, ended-call, full-call}
-use Rattle.sifc_lex.proofs.tokens.lex_tokens.Statement.{statement}
-use Rattle.sifc_lex.proofs.tokens.lex_tokens.Tie as tie
-use Rattle.sifc_lex.proofs.tokens.lex_tokens.Reads as reads
-use Rattle.sifc_lex.proofs.tokens.lex_tokens.Lts as lts
-use Rattle.sifc_lex.proofs.tokens.clear_from.Reads as clear-from-reads
-use Rattle.sifc_lex.proofs.tokens.lex_all.Reads as lex-all-reads
+use Rattle.sifc_lex.proofs.call.lex_tokens.Statement.{statement}
+use Rattle.sifc_lex.proofs.call.lex_tokens.Tie as tie
+use Rattle.sifc_lex.proofs.call.lex_tokens.Reads as reads
+use Rattle.sifc_lex.proofs.call.lex_tokens.Lts as lts
+use Rattle.sifc_lex.proofs.call.clear_from.Reads as clear-from-reads
+use Rattle.sifc_lex.proofs.call.lex_all.Reads as lex-all-reads
 
 -- src/tokens.rt:90:9
 lex-all-requires : tie.Need-lex-all-requires

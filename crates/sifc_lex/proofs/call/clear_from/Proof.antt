@@ -5,10 +5,10 @@ use mathlib.Core.Path.{_≡_, ap, _∙_}
 use mathlib.Core.List.{List}
 use lib.ListN.{length, set}
 use Rattle.sifc_lex.proofs.Clear.{cleared, length-cleared, cleared-none, cleared-more, cleared-all}
-use Rattle.sifc_lex.proofs.tokens.clear_from.Statement.{statement}
-use Rattle.sifc_lex.proofs.tokens.clear_from.Tie as tie
-use Rattle.sifc_lex.proofs.tokens.clear_from.Reads as reads
-use Rattle.sifc_lex.proofs.tokens.clear_from.Lts as lts
+use Rattle.sifc_lex.proofs.call.clear_from.Statement.{statement}
+use Rattle.sifc_lex.proofs.call.clear_from.Tie as tie
+use Rattle.sifc_lex.proofs.call.clear_from.Reads as reads
+use Rattle.sifc_lex.proofs.call.clear_from.Lts as lts
 
 abbrev Inv-loop : tie.InvT-loop
 Inv-loop a₀ n i₀ a i = (n ≤ i) × (i ≤ length a₀) × (a ≡ cleared a₀ n i)

@@ -1,12 +1,12 @@
 use borrow.Author.Needs.{needs}
 use mathlib.Core.Path.{_≡_, _∙_, sym}
 use Rattle.sifc_lex.proofs.Calls.{call-fine, call-refused}
-use Rattle.sifc_lex.proofs.tokens.tokens.Statement.{statement}
-use Rattle.sifc_lex.proofs.tokens.tokens.Tie as tie
-use Rattle.sifc_lex.proofs.tokens.tokens.Reads as reads
-use Rattle.sifc_lex.proofs.tokens.tokens.Lts as lts
-use Rattle.sifc_lex.proofs.tokens.after_entry.Reads as after-entry-reads
-use Rattle.sifc_lex.proofs.tokens.check_script.Reads as check-script-reads
+use Rattle.sifc_lex.proofs.call.tokens.Statement.{statement}
+use Rattle.sifc_lex.proofs.call.tokens.Tie as tie
+use Rattle.sifc_lex.proofs.call.tokens.Reads as reads
+use Rattle.sifc_lex.proofs.call.tokens.Lts as lts
+use Rattle.sifc_lex.proofs.call.after_entry.Reads as after-entry-reads
+use Rattle.sifc_lex.proofs.call.check_script.Reads as check-script-reads
 
 -- src/tokens.rt:162:9
 check-script-requires : tie.Need-check-script-requires
