@@ -9,7 +9,7 @@ use lib.Dec.{T, eqb}
 use lib.ListN.{take, drop, length, getD, length-drop, drop-of-length-le}
 use lib.Seq.{drop-cons}
 use borrow.Author.Tests.{eq-eqb, ne-eqb}
-use Rattle.sifc_lex.specs.Base.{same, span}
+use Rattle.sifc_lex.specs.Base.{if_then_else_, same, span}
 
 pub and-left : (p q : Bool) → T (p && q) → T p
 and-left true q t = tt
@@ -34,6 +34,12 @@ true-of false t = absurd t
 pub false-of : (b : Bool) → T (not b) → b ≡ false
 false-of true t = absurd t
 false-of false t = refl
+
+-- what holds of both branches, each under its test, holds of the choice
+pub if-either : {A : Type 0} (P : A → Type 0) (q : Bool) (x y : A) → (q ≡ true → P x) → (q ≡ false → P y) → P (if q then x else y)
+unfolding if_then_else_
+if-either P true x y f g = f refl
+if-either P false x y f g = g refl
 
 -- A table's rule. The test f passes at each entry and its index, counted from i.
 unfoldable pub every : (ℕ → ℕ → Bool) → ℕ → List ℕ → Bool

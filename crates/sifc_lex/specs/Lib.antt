@@ -12,4 +12,5 @@ pub mod PlaceLaws
 pub mod Spelling
 pub mod Class
 pub mod Tokens
+pub mod TokensLaws
 pub mod Loaded
