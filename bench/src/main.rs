@@ -76,7 +76,7 @@ fn write_all(folder: &str) -> ExitCode {
 
 /// Prints the table, and says whether its least ratio reaches the goal.
 fn time_all() -> ExitCode {
-    println!("{HEADING}");
+    println!("{HEADING}Our side: {}.\n", host::OURS);
     print!("{:<16}{:>7}{:>7}{:>8}", "script", "bytes", "lines", "tokens");
     println!("{:>9}{:>9}{:>7}{:>9}{:>7}{:>9}{:>7}", "Rust", "left", "", "cleared", "", "twin", "");
     let least = reference::run(|| inputs().map(|input| time(&input)).fold(f64::INFINITY, f64::min));

@@ -1,5 +1,6 @@
 //! The groups of scripts that a run goes through, in the short and in the long form.
 
+use crate::host::OURS;
 use crate::report::{Report, Tally};
 use crate::scripts::random::Random;
 use crate::scripts::short::{self, ARMS, FEWER};
@@ -41,6 +42,7 @@ const DAMAGED_LARGE_BYTES: usize = 65_000;
 
 /// Runs all groups; true if nothing failed.
 pub fn run(form: &Form) -> bool {
+    println!("our side: {OURS}");
     let mut report = Report::default();
     short_scripts(&mut report, form);
     random_scripts(&mut report, form);

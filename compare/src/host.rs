@@ -3,6 +3,13 @@
 #[cfg(feature = "stand-in")]
 use twin::tokens as call;
 
+/// What answers the calls, for reports.
+pub const OURS: &str = if cfg!(feature = "stand-in") {
+    "the plain twin, in the place of the static library"
+} else {
+    "the static library"
+};
+
 /// What a call answers beside the arrays; number 0 where it does not refuse.
 #[derive(Clone, Copy, Debug, PartialEq)]
 pub struct Answer {
