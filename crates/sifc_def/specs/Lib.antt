@@ -8,6 +8,7 @@ pub mod Error
 pub mod Walk
 pub mod Label
 pub mod Tree
+pub mod TreeLaws
 pub mod Text
 pub mod Read
 pub mod Case
