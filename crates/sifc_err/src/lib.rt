@@ -1,5 +1,9 @@
 // What a call says when it does not answer: the refusals of document 01 ("Where a call says no"),
 // and why a script's tokens end (lex_err.rs).
+mod parse_err;
+
+pub use parse_err::ParseErr;
+pub use parse_err::ParseErrTy;
 ghost use mathlib.Core.Path.{_≡_};
 ghost use Rattle.sifc_err.specs.Refusal.{numberOf, kindOf, offsetOf};
 

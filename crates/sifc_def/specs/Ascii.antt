@@ -1,0 +1,9 @@
+-- The bytes of a quoted text, for fixed words and for cases.
+use Prim.Native.Nat.{ℕ}
+use Prim.Native.Char.{code}
+use Prim.Native.String.{String, [], _∷_}
+use mathlib.Core.List.{List, [] as []ᴸ, _∷_ as _∷ᴸ_}
+
+abbrev pub ascii : String → List ℕ
+ascii [] = []ᴸ
+ascii (c ∷ s) = code c ∷ᴸ ascii s

@@ -1,0 +1,16 @@
+pub mod Ast
+pub mod Ascii
+pub mod State
+pub mod Symbols
+pub mod Expr
+pub mod Stmt
+pub mod Error
+pub mod Walk
+pub mod Label
+pub mod Tree
+pub mod TreeLaws
+pub mod Text
+pub mod Read
+pub mod Case
+pub mod Cases
+pub mod Corners

@@ -1,0 +1,209 @@
+-- The calls' answers and what they leave in the lent arrays: reading, and canonical text.
+use Prim.Native.Nat.{ℕ, _+_, _-_, _*_, _/_}
+use mathlib.Core.List.{List, [], _∷_, _++_, map, reverse}
+use mathlib.Core.Option.{Option, none, some}
+use mathlib.Core.Bool.{Bool, true, false, _&&_, not}
+use lib.Dec.{eqb, ltb}
+use lib.ListN.{length, replicate}
+use Rattle.sifc_err.specs.declared.Token.{Token}
+use Rattle.sifc_err.specs.declared.Ending.{Ending}
+use Rattle.sifc_err.specs.declared.Ending.the-variants.{TrueEnd, UnknownChar, UnterminatedString, Panic}
+use Rattle.sifc_err.specs.declared.Refusal.{Refusal}
+use Rattle.sifc_err.specs.declared.Refusal.the-variants.{LongScript, NotAscii, Uneven, TokensFull, Flagged, TextFull}
+use Rattle.sifc_lex.specs.Base.{if_then_else_, span}
+use Rattle.sifc_lex.specs.Lex.{lex, ending}
+use Rattle.sifc_def.specs.declared.Err.{Err}
+use Rattle.sifc_def.specs.declared.Early.{Early}
+use Rattle.sifc_def.specs.declared.Early.the-variants.{Never, By}
+use Rattle.sifc_def.specs.declared.Summary.{Summary}
+use Rattle.sifc_def.specs.declared.Reading.{Reading}
+use Rattle.sifc_def.specs.declared.Reading.the-variants.{Read, Refused}
+use Rattle.sifc_def.specs.declared.Texting.{Texting}
+use Rattle.sifc_def.specs.declared.Texting.the-variants.{Wrote, Refused as NoText}
+use Rattle.sifc_def.specs.Error.{parseErr, errPlace, errReason}
+use Rattle.sifc_def.specs.Label.{hasToken, scopeOf, textOf, labels}
+use Rattle.sifc_def.specs.State.{Node, Ctx, St, Out, done, fail, refuse}
+use Rattle.sifc_def.specs.Text.{text}
+use Rattle.sifc_def.specs.Walk.{End, walk}
+
+-- "over 65,535 bytes"
+abbrev pub longest : ℕ
+longest = 65535
+
+-- "a 769th call of `block`, `assign_expr`, `unary_expr` or `fn_call_expr` would be active"
+abbrev pub depthLimit : ℕ
+depthLimit = 768
+
+-- "Symbols take four lent words each."
+abbrev pub wordsPerSymbol : ℕ
+wordsPerSymbol = 4
+
+-- ── what is lent ──
+
+-- two arrays for the tokens, two for the tree, the symbol words, two for the errors
+pub record Arrays : Type 0 where
+  pub offs : List ℕ
+  pub words : List ℕ
+  pub heads : List ℕ
+  pub loads : List ℕ
+  pub symbols : List ℕ
+  pub places : List ℕ
+  pub reasons : List ℕ
+
+-- how many tokens, nodes, symbols and errors there is room for
+pub record Rooms : Type 0 where
+  pub tokens : ℕ
+  pub nodes : ℕ
+  pub symbols : ℕ
+  pub errors : ℕ
+
+abbrev pub roomsOf : Arrays → Rooms
+roomsOf a = record { tokens = length (a .offs); nodes = length (a .heads); symbols = length (a .symbols) / wordsPerSymbol; errors = length (a .places) }
+
+-- an array of n elements that begins with xs: "All lent elements past the used part are 0"
+abbrev pub padded : List ℕ → ℕ → List ℕ
+padded xs n = xs ++ replicate (n - length xs) 0
+
+abbrev pub cleared : List ℕ → List ℕ
+cleared xs = replicate (length xs) 0
+
+-- "the others set every lent output to 0 or blank"
+abbrev pub clearedArrays : Arrays → Arrays
+clearedArrays a =
+    record {
+      offs = cleared (a .offs);
+      words = cleared (a .words);
+      heads = cleared (a .heads);
+      loads = cleared (a .loads);
+      symbols = cleared (a .symbols);
+      places = cleared (a .places);
+      reasons = cleared (a .reasons);
+    }
+
+-- ── entry: refusals 1 to 3 ──
+
+unfoldable pub isAscii : ℕ → Bool
+isAscii b = ltb b 128
+
+-- "two parallel arrays differ in length"
+unfoldable pub even : Arrays → Bool
+even a = eqb (length (a .offs)) (length (a .words)) && (eqb (length (a .heads)) (length (a .loads)) && eqb (length (a .places)) (length (a .reasons)))
+
+unfoldable pub entry : List ℕ → Bool → Option Refusal
+entry s e =
+    if ltb longest (length s) then some LongScript
+    else if ltb (span isAscii s) (length s) then some (NotAscii (span isAscii s))
+    else if not e then some Uneven
+    else none
+
+-- ── the token list and the walk: refusals 4 to 9 ──
+
+-- What a reading finds: its tokens, its nodes and its errors in order, has_err, and the error that ended it.
+pub record Found : Type 0 where
+  pub toks : List Token
+  pub nodes : List Node
+  pub errs : List Err
+  pub flag : Bool
+  pub early : Option Err
+
+pub data Outcome : Type 0 where
+  found : Found → Outcome
+  refused : Refusal → Outcome
+
+abbrev pub faultOf : Ending → ℕ
+faultOf TrueEnd = 0
+faultOf UnknownChar = 0
+faultOf UnterminatedString = 0
+faultOf (Panic k) = k
+
+abbrev pub ctxOf : Rooms → List ℕ → Ctx
+ctxOf r s = record { script = s; toks = lex s; fault = faultOf (ending s); nodeRoom = r .nodes; symRoom = r .symbols; errRoom = r .errors }
+
+-- a walk does not fail (WalkLaws.antt), its declarations do
+unfoldable pub ended : List Token → Out End → Outcome
+ended ts (done e s) = found (record { toks = ts; nodes = reverse (s .nodes); errs = reverse (s .errs); flag = e .flag; early = e .early })
+ended ts (fail e s) = found (record { toks = ts; nodes = reverse (s .nodes); errs = reverse (s .errs); flag = true; early = some e })
+ended ts (refuse r) = refused r
+
+-- "more tokens than the arrays hold, Eof or a lexing panic counted as one"
+unfoldable pub read : Rooms → List ℕ → Outcome
+read r s = elim (ltb (r .tokens) (length (lex s))) [ true ↦ refused TokensFull | false ↦ ended (lex s) (walk (ctxOf r s) depthLimit) ]
+
+-- ── the reading call ──
+
+-- "kind + 64 × length (Str with its quotes)"
+abbrev pub tokenWord : Token → ℕ
+tokenWord t = t .kind + 64 * t .len
+
+abbrev pub bit : Bool → ℕ
+bit true = 1
+bit false = 0
+
+-- "kind + 32 × flag + 64 × children"
+abbrev pub headWord : Node → ℕ
+headWord n = n .kind + 32 * bit (n .flag) + 64 * n .kids
+
+-- an answer, and the arrays afterwards
+pub record Called (A : Type 0) : Type 0 where
+  pub answer : A
+  pub arrays : Arrays
+
+abbrev pub called : {A : Type 0} → A → Arrays → Called A
+called x a = record { answer = x; arrays = a }
+
+module _ (c : Ctx) where
+  abbrev pub earlyOf : Option Err → Early
+  earlyOf none = Never
+  earlyOf (some e) = By (parseErr c e)
+
+  abbrev pub summary : Found → Summary
+  summary f = record { tokens = length (f .toks); nodes = length (f .nodes); errors = length (f .errs); flag = f .flag; early = earlyOf (f .early) }
+
+  abbrev pub filled : Found → Arrays → Arrays
+  filled f a =
+      record {
+        offs = padded (map (λ (t : Token). t .off) (f .toks)) (length (a .offs));
+        words = padded (map tokenWord (f .toks)) (length (a .words));
+        heads = padded (map headWord (f .nodes)) (length (a .heads));
+        loads = padded (map (λ (n : Node). n .pay) (f .nodes)) (length (a .loads));
+        symbols = cleared (a .symbols);
+        places = padded (map (errPlace c) (f .errs)) (length (a .places));
+        reasons = padded (map (errReason c) (f .errs)) (length (a .reasons));
+      }
+
+unfoldable pub answered : List ℕ → Arrays → Outcome → Called Reading
+answered s a (found f) = called (Read (summary (ctxOf (roomsOf a) s) f)) (filled (ctxOf (roomsOf a) s) f a)
+answered s a (refused r) = called (Refused r) (clearedArrays a)
+
+-- The reading call: from the script and the lent arrays to the answer and the arrays as it leaves them. "1 to 3 touch nothing".
+unfoldable pub reading : List ℕ → Arrays → Called Reading
+unfolding isAscii even entry ended read answered walk lex ending parseErr errPlace span if_then_else_
+reading s a = elim (entry s (even a)) [ some r ↦ called (Refused r) a | none ↦ answered s a (read (roomsOf a) s) ]
+
+-- ── the text call ──
+
+-- an answer, the arrays and the text buffer afterwards
+pub record Written : Type 0 where
+  pub answer : Texting
+  pub arrays : Arrays
+  pub text : List ℕ
+
+abbrev pub written : Texting → Arrays → List ℕ → Written
+written x a t = record { answer = x; arrays = a; text = t }
+
+-- the canonical text of what was found
+unfoldable pub textFound : List ℕ → Found → List ℕ
+textFound s f = text (labels s (f .toks) (f .nodes))
+
+-- refusals 10 and 11: "the reading's flag is up", "the text is longer than its buffer"
+unfoldable pub texted : List ℕ → Arrays → List ℕ → Outcome → Written
+texted s a t (refused r) = written (NoText r) (clearedArrays a) (cleared t)
+texted s a t (found f) =
+    if f .flag then written (NoText Flagged) (clearedArrays a) (cleared t)
+    else if ltb (length t) (length (textFound s f)) then written (NoText TextFull) (clearedArrays a) (cleared t)
+    else written (Wrote (length (textFound s f))) (filled (ctxOf (roomsOf a) s) f a) (padded (textFound s f) (length t))
+
+-- The text call, with a text buffer. After a success the arrays hold what the reading leaves in them.
+unfoldable pub textCall : List ℕ → Arrays → List ℕ → Written
+unfolding isAscii even entry ended read textFound texted walk lex ending parseErr errPlace text hasToken scopeOf textOf span if_then_else_
+textCall s a t = elim (entry s (even a)) [ some r ↦ written (NoText r) a t | none ↦ texted s a t (read (roomsOf a) s) ]
