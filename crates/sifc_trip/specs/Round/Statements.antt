@@ -27,6 +27,7 @@ use Rattle.sifc_trip.specs.Round.{true-of, not-eqb, not-leb, at-kind, an
 use Rattle.sifc_trip.specs.Round.Steps.{first, Pre, Ahead, Got, now, kind-now, test, later, stand, sees-length, stepped, pushed, storedAs, consume-eq, expect-eq, ident-eq, optional-yes, optional-no, push-ok, store-ok, pr-length, prs-length, between-length}
 use Rattle.sifc_trip.specs.Round.Levels.{Stop, starters}
 use Rattle.sifc_trip.specs.Round.Levels.Suffixes.{start-test, expression-read}
+pub mod Blocks
 
 -- ── expressions in statements: names are checked there ──
 
