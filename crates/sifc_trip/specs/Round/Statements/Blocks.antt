@@ -28,6 +28,7 @@ use Rattle.sifc_trip.specs.Round.Steps.{first, Pre, Ahead, Got, now, kin
 use Rattle.sifc_trip.specs.Round.Levels.{Stop, starters, made-single}
 use Rattle.sifc_trip.specs.Round.Levels.Suffixes.{start}
 use Rattle.sifc_trip.specs.Round.Statements.{stop-semi, stop-lbrace, Count, other-not, read-expr, store-got, store-other, declare-ok, array-ok, table-ok, bind-ok, identNode-eq}
+pub mod Every
 
 -- ── lists ──
 
