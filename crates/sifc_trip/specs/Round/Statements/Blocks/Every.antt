@@ -5,7 +5,7 @@ use mathlib.Core.List.{List, [], _∷_, _++_, map, append-assoc, append-nil, rev
 use mathlib.Core.Option.{Option, none, some}
 use mathlib.Core.Bool.{Bool, true, false, _&&_, _||_, not}
 use native.Mathlib.Omega.{arith}
-use native.Mathlib.Nat.{zero-add, le-trans, not-suc-le-zero}
+use native.Mathlib.Nat.{zero-add, add-zero, le-trans, not-suc-le-zero}
 use lib.Dec.{T, eqb, leb, ltb, eqb→eq, leb→le, nleb→lt, eqb-refl, le→leb}
 use lib.ListN.{take, drop, length, getD, length-reverse, length-map}
 use lib.Seq.{take-append-seam}
@@ -182,3 +182,179 @@ module _ (c : Ctx) where
       and-then (push c FnDecl false 2 i s₆) _ (λ u. Got c l (envSs (suc l) (bound (suc l) xs E₁) ss) true (said FnDecl false 2 x ∷ (blockLabs c (suc l) ss ++ (bare FnParams false (length xs) ∷ rencNames xs))) rest (s .nodes)) Q
       (push-ok c FnDecl false 2 i s₆ (λ u. Got c l (envSs (suc l) (bound (suc l) xs E₁) ss) true (said FnDecl false 2 x ∷ (blockLabs c (suc l) ss ++ (bare FnParams false (length xs) ∷ rencNames xs))) rest (s .nodes)) (record { pre = h₆ .pre; made = made-push (ap (λ (y : W). said FnDecl false 2 y) ew) (made-then (h₅ .made) (h₆ .made)) }))
       (λ u s₇ h₇. store-got c i x (Function m) (Function (length xs)) s₇ ew (ap (λ (z : ℕ). Function z) em) (λ j g e. absurd (let z : _≡_ {A = ℕ} 0 1 = cc in let y : ⊥ = omega arith in y)) h₇)))))))))))
+
+  -- ── if ──
+
+  -- an error is listed, and the reading goes on
+  add-ok : (why : Why) (s : St) (Q : Err → St → Type 0) → Q (err (s .at) why) (listed (err (s .at) why) s) → Res (addError c why s) Q
+  unfolding addError addErrorWPos Res go-on
+  add-ok why s Q h =
+      and-then (list c (err (s .at) why) s) _ (λ u s₁. s₁ ≡ listed (err (s .at) why) s) Q
+      (list-ok c (err (s .at) why) s (λ u s₁. s₁ ≡ listed (err (s .at) why) s) refl)
+      (λ u s₁ e. rw e h)
+
+  -- a second `else` lists an error, and nothing else changes
+  endIf-ok : (n elses : ℕ) (s : St) (l : ℕ) (E : List Sym) (L : List Lab) (rest : List W) (ns : List Node) → Got c l E true L rest ns s → Res (endIf c n elses s) (λ u. Got c l E true (bare IfStmt false (2 + n) ∷ L) rest ns)
+  unfolding endIf Res scopeOf textOf hasToken member go-on if_then_else_
+  endIf-ok n elses s l E L rest ns h =
+      and-then (if_then_else_ {A = Void} (ltb 1 elses) (addError c InvalidIfStmt >> ok) ok s) _ (λ u. Got c l E true L rest ns) (λ u. Got c l E true (bare IfStmt false (2 + n) ∷ L) rest ns)
+      (go (ltb 1 elses))
+      (λ u s₁ h₁. push-ok c IfStmt false (2 + n) 0 s₁ (λ u. Got c l E true (bare IfStmt false (2 + n) ∷ L) rest ns) (record { pre = h₁ .pre; made = made-push refl (h₁ .made) }))
+    where
+      go : (v : Bool) → Res (if_then_else_ {A = Void} v (addError c InvalidIfStmt >> ok) ok s) (λ u. Got c l E true L rest ns)
+      go true =
+          and-then (addError c InvalidIfStmt s) _ (λ e s₁. s₁ ≡ listed (err (s .at) InvalidIfStmt) s) (λ u. Got c l E true L rest ns)
+          (add-ok InvalidIfStmt s (λ e s₁. s₁ ≡ listed (err (s .at) InvalidIfStmt) s) refl)
+          (λ e s₁ q. rw q (record { pre = h .pre; made = h .made }))
+      go false = h
+
+  -- a condition and its block
+  guarded : (e : Expr) (ss : Stmts) → AllSay c ss → (d l : ℕ) (E : List Sym) (rest : List W) (s : St) (f : M (Unit {0})) (Q : Unit {0} → St → Type 0) → Ok (seen l E) true e → OkSs (suc l) E ss
+      → Ahead c l E true (pr e (lbrace ∷ prSs ss (rbrace ∷ rest))) s
+      → ((s₁ : St) → Got c l (envSs (suc l) E ss) true (blockLabs c (suc l) ss ++ renc e) rest (s .nodes) s₁ → Res (f s₁) Q)
+      → Res (go-on (walkers c d .assign s) (λ u. walkers c d .block false [] >> f)) Q
+  unfolding go-on
+  guarded e ss all d l E rest s f Q k ks p h =
+      and-then (walkers c d .assign s) _ (λ u. Got c l E true (renc e) (lbrace ∷ prSs ss (rbrace ∷ rest)) (s .nodes)) Q
+      (read-expr c e d l E (lbrace ∷ prSs ss (rbrace ∷ rest)) s k (stop-lbrace (prSs ss (rbrace ∷ rest))) p)
+      (λ u s₁ h₁.
+      and-then (walkers c d .block false [] s₁) _ (λ u. Got c l (envSs (suc l) E ss) true (blockLabs c (suc l) ss) rest (s₁ .nodes)) Q
+      (plain-ok c ss all d l E rest s₁ ks (h₁ .pre))
+      (λ u s₂ h₂. h s₂ (record { pre = h₂ .pre; made = made-then (h₁ .made) (h₂ .made) })))
+
+  AllBranches : Branches → Type 0
+  AllBranches noBranch = Unit {0}
+  AllBranches (elifOf e ss bs) = AllSay c ss × AllBranches bs
+  AllBranches (elseOf ss bs) = AllSay c ss × AllBranches bs
+
+  -- the further branches and the end of an `if`, over what was read of it
+  branches-ok : (bs : Branches) → AllBranches bs → (d f n elses l : ℕ) (E : List Sym) (L : List Lab) (rest : List W) (ns : List Node) (s : St) → OkBs l E bs → manyBranches bs ≤ f → Follow rest → Got c l E true L (prBs bs rest) ns s
+      → Res (branches c (walkers c d) f n elses s) (λ u. Got c l (envBs l E bs) true (bare IfStmt false (2 + (n + manyBranches bs)) ∷ (rencBs l bs ++ L)) rest ns)
+  unfolding AllBranches branches elifStmt elseBlock prBs OkBs envBs rencBs manyBranches Follow Res scopeOf textOf hasToken member go-on if_then_else_
+  branches-ok noBranch all d zero n elses l E L rest ns s k len f h = rw (add-zero n) (endIf-ok n elses s l E L rest ns h)
+  branches-ok noBranch all d (suc fu) n elses l E L rest ns s k len f h =
+      no-else _ _ _ s _ (test (λ m. eqb m Elif) false (h .pre) (f .0))
+      (no-else _ _ _ s _ (test (λ m. eqb m Else) false (h .pre) (f .1)) (rw (add-zero n) (endIf-ok n elses s l E L rest ns h)))
+  branches-ok (elifOf e ss bs) all d zero n elses l E L rest ns s k len f h = absurd (not-suc-le-zero len)
+  branches-ok (elifOf e ss bs) all d (suc fu) n elses l E L rest ns s k len f h =
+      let X : List Lab = bare ElifStmt false 2 ∷ (blockLabs c (suc l) ss ++ renc e) in
+      let E₁ : List Sym = envSs (suc l) E ss in
+      let N : ℕ = 2 + (n + manyBranches (elifOf e ss bs)) in
+      let Q : Unit {0} → St → Type 0 = λ u. Got c l (envBs l E₁ bs) true (bare IfStmt false N ∷ ((rencBs l bs ++ X) ++ L)) rest ns in
+      yes-then _ _ _ s Q (test (λ m. eqb m Elif) true (h .pre) refl)
+      (and-then (elifStmt c (walkers c d) s) _ (λ u. Got c l E₁ true X (prBs bs rest) (s .nodes)) Q
+      (rw (consume-eq s (h .pre) refl)
+      (guarded e ss (all .0) d l E (prBs bs rest) (stepped s) (push c ElifStmt false 2 0) (λ u. Got c l E₁ true X (prBs bs rest) (s .nodes)) (k .0) (k .1) (later (h .pre))
+      (λ s₁ h₁. push-ok c ElifStmt false 2 0 s₁ (λ u. Got c l E₁ true X (prBs bs rest) (s .nodes)) (record { pre = h₁ .pre; made = made-push refl (h₁ .made) }))))
+      (λ u s₂ h₂.
+      res-map (branches c (walkers c d) fu (suc n) elses s₂) (λ u. Got c l (envBs l E₁ bs) true (bare IfStmt false (2 + (suc n + manyBranches bs)) ∷ (rencBs l bs ++ (X ++ L))) rest ns) Q
+      (branches-ok bs (all .1) d fu (suc n) elses l E₁ (X ++ L) rest ns s₂ (k .2) (omega arith) f (record { pre = h₂ .pre; made = made-then (h .made) (h₂ .made) }))
+      (λ u s₃ q. record { pre = q .pre; made = subst₂ (λ (m : ℕ) (ls : List Lab). Made c (bare IfStmt false m ∷ ls) ns (s₃ .nodes)) (omega arith) (sym (append-assoc (rencBs l bs) X L)) (q .made) })))
+  branches-ok (elseOf ss bs) all d zero n elses l E L rest ns s k len f h = absurd (not-suc-le-zero len)
+  branches-ok (elseOf ss bs) all d (suc fu) n elses l E L rest ns s k len f h =
+      let X : List Lab = blockLabs c (suc l) ss in
+      let E₁ : List Sym = envSs (suc l) E ss in
+      let N : ℕ = 2 + (n + manyBranches (elseOf ss bs)) in
+      let Q : Unit {0} → St → Type 0 = λ u. Got c l (envBs l E₁ bs) true (bare IfStmt false N ∷ ((rencBs l bs ++ X) ++ L)) rest ns in
+      no-else _ _ _ s Q (test (λ m. eqb m Elif) false (h .pre) refl)
+      (yes-then _ _ _ s Q (test (λ m. eqb m Else) true (h .pre) refl)
+      (and-then (elseBlock c (walkers c d) s) _ (λ u. Got c l E₁ true X (prBs bs rest) (s .nodes)) Q
+      (rw (consume-eq s (h .pre) refl) (plain-ok c ss (all .0) d l E (prBs bs rest) (stepped s) (k .0) (later (h .pre))))
+      (λ u s₂ h₂.
+      res-map (branches c (walkers c d) fu (suc n) (suc elses) s₂) (λ u. Got c l (envBs l E₁ bs) true (bare IfStmt false (2 + (suc n + manyBranches bs)) ∷ (rencBs l bs ++ (X ++ L))) rest ns) Q
+      (branches-ok bs (all .1) d fu (suc n) (suc elses) l E₁ (X ++ L) rest ns s₂ (k .1) (omega arith) f (record { pre = h₂ .pre; made = made-then (h .made) (h₂ .made) }))
+      (λ u s₃ q. record { pre = q .pre; made = subst₂ (λ (m : ℕ) (ls : List Lab). Made c (bare IfStmt false m ∷ ls) ns (s₃ .nodes)) (omega arith) (sym (append-assoc (rencBs l bs) X L)) (q .made) }))))
+
+  cond-says : (e : Expr) (ss : Stmts) (bs : Branches) → AllSay c ss → AllBranches bs → Says c (cond e ss bs)
+  unfolding Says OkS prS envS rencS stmt ifStmt if_then_else_ go-on
+  cond-says e ss bs all allb d l E rest s k f p =
+      let E₁ : List Sym = envSs (suc l) E ss in
+      let Q : Unit {0} → St → Type 0 = λ u. Got c l (envBs l E₁ bs) true (bare IfStmt false (2 + manyBranches bs) ∷ (rencBs l bs ++ (blockLabs c (suc l) ss ++ renc e))) rest (s .nodes) in
+      to-stmt c (walkers c d) l E (ifWord ∷ pr e (lbrace ∷ prSs ss (rbrace ∷ prBs bs rest))) s Q p refl refl
+      (yes-then _ _ _ s Q (test (λ n. eqb n If) true p refl)
+      (rw (expect-eq If s p refl refl)
+      (guarded e ss all d l E (prBs bs rest) (stepped s) (branches c (walkers c d) (fuel c) 0 0) Q (k .0) (k .1) (later p)
+      (λ s₁ h.
+      res-map (branches c (walkers c d) (fuel c) 0 0 s₁) (λ u. Got c l (envBs l E₁ bs) true (bare IfStmt false (2 + (0 + manyBranches bs)) ∷ (rencBs l bs ++ (blockLabs c (suc l) ss ++ renc e))) rest (s .nodes)) Q
+      (branches-ok bs allb d (fuel c) 0 0 l E₁ (blockLabs c (suc l) ss ++ renc e) rest (s .nodes) s₁ (k .2) (let z = prBs-length bs rest in let y = sees-length (h .pre) in omega arith) f h)
+      (λ u s₂ q. record { pre = q .pre; made = subst (λ (m : ℕ). Made c (bare IfStmt false (2 + m) ∷ (rencBs l bs ++ (blockLabs c (suc l) ss ++ renc e))) (s .nodes) (s₂ .nodes)) (zero-add (manyBranches bs)) (q .made) })))))
+
+  -- ── for ──
+
+  record Pair (x y : W) (l : ℕ) (E : List Sym) (rest : List W) (ns : List Node) (is : List ℕ) (s : St) : Type 0 where
+    spelt : map (λ (i : ℕ). wordAt c i) is ≡ x ∷ y ∷ []
+    got : Got c l E true (bare IdentPair false 2 ∷ primLab y ∷ primLab x ∷ []) rest ns s
+
+  pair-ok : (x y : W) (l : ℕ) (E : List Sym) (rest : List W) (s : St) → x .kind ≡ Ident → y .kind ≡ Ident → Ahead c l E true (x ∷ comma ∷ y ∷ rest) s → Res (identPair c s) (Pair x y l E rest (s .nodes))
+  unfolding identPair Res scopeOf textOf hasToken member if_then_else_ go-on
+  pair-ok x y l E rest s xk yk p =
+      let Q : List ℕ → St → Type 0 = Pair x y l E rest (s .nodes) in
+      let s₁ : St = stepped (pushed PrimaryExpr false 0 (s .at) s) in
+      let s₂ : St = stepped s₁ in
+      let s₃ : St = stepped (pushed PrimaryExpr false 0 (s₂ .at) s₂) in
+      and-then (identNode c s) _ (λ i s′. (i ≡ s .at) × (s′ ≡ s₁)) Q
+      (identNode-eq c x l E true (comma ∷ y ∷ rest) s (λ i s′. (i ≡ s .at) × (s′ ≡ s₁)) xk p (refl, refl))
+      (λ i s′ q.
+      rw (q .0, q .1, expect-eq Comma s₁ (later p) refl refl)
+      (and-then (identNode c s₂) _ (λ j s″. (j ≡ s₂ .at) × (s″ ≡ s₃)) Q
+      (identNode-eq c y l E true rest s₂ (λ j s″. (j ≡ s₂ .at) × (s″ ≡ s₃)) yk (later (later p)) (refl, refl))
+      (λ j s″ q₂.
+      rw (q₂ .0, q₂ .1)
+      (and-then (push c IdentPair false 2 0 s₃) _ (λ u. Got c l E true (bare IdentPair false 2 ∷ primLab y ∷ primLab x ∷ []) rest (s .nodes)) Q
+      (push-ok c IdentPair false 2 0 s₃ (λ u. Got c l E true (bare IdentPair false 2 ∷ primLab y ∷ primLab x ∷ []) rest (s .nodes))
+      (record { pre = later (later (later p)); made = made-push refl (made-push (ap (λ (z : W). primLab z) (now (later (later p)))) (made-single s p)) }))
+      (λ u s₄ h. record { spelt = ap₂ (λ (a : W) (b : W). a ∷ b ∷ []) (now p) (now (later (later p))); got = h })))))
+
+  loop-says : (x y : W) (e : Expr) (ss : Stmts) → AllSay c ss → Says c (loop x y e ss)
+  unfolding Says OkS prS envS rencS stmt forStmt scopeOf textOf hasToken member if_then_else_ go-on
+  loop-says x y e ss all d l E rest s k f p =
+      let E₁ : List Sym = envSs (suc l) (bound (suc l) (x ∷ y ∷ []) E) ss in
+      let P : List Lab = bare IdentPair false 2 ∷ primLab y ∷ primLab x ∷ [] in
+      let ws : List W = lbrace ∷ prSs ss (rbrace ∷ rest) in
+      let Q : Unit {0} → St → Type 0 = λ u. Got c l E₁ true (bare ForStmt false 3 ∷ (blockLabs c (suc l) ss ++ (renc e ++ P))) rest (s .nodes) in
+      to-stmt c (walkers c d) l E (forWord ∷ x ∷ comma ∷ y ∷ inWord ∷ pr e ws) s Q p refl refl
+      (no-else _ _ _ s Q (test (λ n. eqb n If) false p refl)
+      (yes-then _ _ _ s Q (test (λ n. eqb n For) true p refl)
+      (rw (expect-eq For s p refl refl)
+      (and-then (identPair c (stepped s)) _ (Pair x y l E (inWord ∷ pr e ws) (s .nodes)) Q
+      (pair-ok x y l E (inWord ∷ pr e ws) (stepped s) (k .0) (k .1) (later p))
+      (λ is s₁ h₁.
+      rw (expect-eq InKind s₁ (h₁ .got .pre) refl refl)
+      (and-then (walkers c d .assign (stepped s₁)) _ (λ u. Got c l E true (renc e) ws (s₁ .nodes)) Q
+      (read-expr c e d l E ws (stepped s₁) (k .2) (stop-lbrace (prSs ss (rbrace ∷ rest))) (later (h₁ .got .pre)))
+      (λ u s₂ h₂.
+      and-then (walkers c d .block false is s₂) _ (λ u. Got c l E₁ true (blockLabs c (suc l) ss) rest (s₂ .nodes)) Q
+      (block-ok c ss all false is (x ∷ y ∷ []) d l E rest s₂ tt (h₁ .spelt) (k .3) (h₂ .pre))
+      (λ u s₃ h₃. push-ok c ForStmt false 3 0 s₃ Q (record { pre = h₃ .pre; made = made-push refl (made-then (made-then (h₁ .got .made) (h₂ .made)) (h₃ .made)) })))))))))
+
+  -- ── every declaration ──
+
+  mutual
+    unfolding AllSay AllBranches
+
+    says : (t : Stmt) → Says c t
+    says (varNone x) = varNone-says x
+    says (varExpr x e) = varExpr-says x e
+    says (varArray x es) = varArray-says x es
+    says (varTable x is) = varTable-says x is
+    says (func x ns ss) = func-says x ns ss (all-say ss)
+    says (block ss) = block-says c ss (all-say ss)
+    says (cond e ss bs) = cond-says e ss bs (all-say ss) (all-branches bs)
+    says (loop x y e ss) = loop-says x y e ss (all-say ss)
+    says ret = ret-says c
+    says (retExpr e) = retExpr-says c e
+    says (exprStmt e) = expr-says c e
+
+    all-say : (ts : Stmts) → AllSay c ts
+    all-say stop = tt
+    all-say (next t ts) = (says t, all-say ts)
+
+    all-branches : (bs : Branches) → AllBranches bs
+    all-branches noBranch = tt
+    all-branches (elifOf e ss bs) = (all-say ss, all-branches bs)
+    all-branches (elseOf ss bs) = (all-say ss, all-branches bs)
+
+  -- COMPLETE, declarations: the words of a declaration, and then what no `if` goes on with, are read as that declaration
+  pub declaration-read : (t : Stmt) (d l : ℕ) (E : List Sym) (rest : List W) (s : St) → OkS l E t → Follow rest → Ahead c l E true (prS t rest) s → Res (decl c (walkers c d) s) (λ u. Got c l (envS l E t) true (rencS l t) rest (s .nodes))
+  unfolding Says
+  declaration-read t d l E rest s k f p = says t d l E rest s k f p
