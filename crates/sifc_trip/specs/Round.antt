@@ -29,6 +29,7 @@ use Rattle.sifc_trip.specs.Typed.{Expr, prim, un, bin, call, dot, idx, s
 pub mod Steps
 pub mod Levels
 pub mod Statements
+pub mod Program
 
 -- ── truth values ──
 

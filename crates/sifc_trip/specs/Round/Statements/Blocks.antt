@@ -53,7 +53,7 @@ loads-prims is ns n e =
     ∙ reverse-reverse is
 
 -- one kind is not another
-member-test : (k n : ℕ) (ks : List ℕ) → T (member k ks) → T (not (member n ks)) → eqb k n ≡ false
+pub member-test : (k n : ℕ) (ks : List ℕ) → T (member k ks) → T (not (member n ks)) → eqb k n ≡ false
 member-test k n ks t f = go (eqb k n) refl
   where
     clash : (v : Bool) → T (not v) → T v → ⊥
@@ -134,7 +134,7 @@ mutual
   prS-length (retExpr e) rest = let z = pr-length e (semi ∷ rest) in omega arith
   prS-length (exprStmt e) rest = let z = pr-length e (semi ∷ rest) in omega arith
 
-  prSs-length : (ts : Stmts) (rest : List W) → counted ts + length rest ≤ length (prSs ts rest)
+  pub prSs-length : (ts : Stmts) (rest : List W) → counted ts + length rest ≤ length (prSs ts rest)
   prSs-length stop rest = omega arith
   prSs-length (next t ts) rest = let z = prS-length t (prSs ts rest) in let y = prSs-length ts rest in omega arith
 
