@@ -30,6 +30,7 @@ pub mod Steps
 pub mod Levels
 pub mod Statements
 pub mod Program
+pub mod Sound
 
 -- ── truth values ──
 
