@@ -11,6 +11,10 @@ pub mod Tree
 pub mod TreeLaws
 pub mod Text
 pub mod Read
+pub mod OutcomeLaws
+pub mod GroveLaws
+pub mod StepLaws
+pub mod ExprLaws
 pub mod Case
 pub mod Cases
 pub mod Corners
