@@ -55,9 +55,12 @@ module _ (c : Ctx) (b : ℕ → ℕ) where
     pub moved : (j + s .at ≤ s′ .at) ⊎ (eqb (kindAt c s′) Eof ≡ true)
     pub slips : Slips e s s′
 
-  -- an item that is read as one tree
-  abbrev pub Item : ℕ → Void → Type 0
-  Item e m = (s : St) → Well c s → Holds (m s) (λ u s′. Reads 1 0 1 s s′) (λ s′. Fell 1 e s s′)
+  -- an item that is read as one tree; where it fails, it has moved on by j tokens or stands at Eof, and has listed at most e errors
+  abbrev pub ItemOf : ℕ → ℕ → Void → Type 0
+  ItemOf j e m = (s : St) → Well c s → Holds (m s) (λ u s′. Reads 1 0 1 s s′) (λ s′. Fell j e s s′)
+
+  abbrev pub Item : Void → Type 0
+  Item m = ItemOf 1 1 m
 
 module _ (c : Ctx) (b : ℕ → ℕ) (ts : Toks c b) where
   -- ── the levels ──
@@ -67,7 +70,7 @@ module _ (c : Ctx) (b : ℕ → ℕ) (ts : Toks c b) where
   loose-eof n k e = not-eof (λ x. eqb (looseness x) (suc n)) k e (eqb·zero-suc n)
 
   -- the loop of a level: the tree that was read grows
-  pub operators-reads : (f n : ℕ) (next : Void) → Item c b 1 next → (s₀ s : St) → Reads c b 1 0 1 s₀ s → Holds (operators c f (suc n) next s) (λ u s′. Reads c b 1 0 1 s₀ s′) (λ s′. Fell c b 1 1 s₀ s′)
+  pub operators-reads : (f n : ℕ) (next : Void) → Item c b next → (s₀ s : St) → Reads c b 1 0 1 s₀ s → Holds (operators c f (suc n) next s) (λ u s′. Reads c b 1 0 1 s₀ s′) (λ s′. Fell c b 1 1 s₀ s′)
   unfolding operators go-on
   operators-reads zero n next h s₀ s x = is-done x
   operators-reads (suc f) n next h s₀ s x =
@@ -82,7 +85,7 @@ module _ (c : Ctx) (b : ℕ → ℕ) (ts : Toks c b) where
       })))))
       (λ e. is-done x)
 
-  pub levels-reads : (n : ℕ) (u : Void) → Item c b 1 u → Item c b 1 (levels c n u)
+  pub levels-reads : (n : ℕ) (u : Void) → Item c b u → Item c b (levels c n u)
   unfolding levels go-on
   levels-reads zero u h s w = h s w
   levels-reads (suc n) u h s w = call (levels-reads n u h s w) (λ s′ x. x) (λ a s₁ x. operators-reads _ n (levels c n u) (levels-reads n u h) s s₁ x)
@@ -159,16 +162,16 @@ module _ (c : Ctx) (b : ℕ → ℕ) (ts : Toks c b) where
   nothing-more : (n₀ : ℕ) (s : St) → Well c s → n₀ ≤ 64 → Params n₀ n₀ s s
   nothing-more n₀ s w small = record { count = 0; is = omega arith; small = small; reads = record { well = w; on = omega arith; sums = omega arith; grows = grows-none (s .nodes) }; pairs = omega arith; none = λ k. refl }
 
-  pub params-read : (e : ℕ) → 1 ≤ e → (item : Void) → Item c b e item → (f n₀ : ℕ) (s : St) → Well c s → n₀ ≤ 64 → Holds (paramList c item f n₀ s) (λ n s′. Params n₀ n s s′) (λ s′. Fell c b 0 e s s′)
+  pub params-read : (j e : ℕ) → 1 ≤ e → (item : Void) → ItemOf c b j e item → (f n₀ : ℕ) (s : St) → Well c s → n₀ ≤ 64 → Holds (paramList c item f n₀ s) (λ n s′. Params n₀ n s s′) (λ s′. Fell c b 0 e s s′)
   unfolding paramList go-on
-  params-read e l item h zero n₀ s w small = is-done (nothing-more n₀ s w small)
-  params-read e l item h (suc f) n₀ s w small =
+  params-read j e l item h zero n₀ s w small = is-done (nothing-more n₀ s w small)
+  params-read j e l item h (suc f) n₀ s w small =
       branch _ _ _ s (λ k. is-done (nothing-more n₀ s w small))
       (λ k. branch _ _ _ s (λ m. throws c b ts _ s w (record { place = w .here; first = inr (omega arith); second = omega arith }) (λ v. record { well = v; moved = inl (omega arith); slips = omega arith }))
       (λ m. branch _ _ _ s (λ z. throws c b ts _ s w (record { place = w .here; first = inr (omega arith); second = omega arith }) (λ v. record { well = v; moved = inl (omega arith); slips = omega arith }))
       (λ z. call (h s w) (λ s′ y. record { well = y .well; moved = inl (omega arith); slips = omega arith }) (λ a s₁ y.
       separates s₁ _ (y .well) (record { well = y .well; moved = inl (omega arith); slips = omega arith })
-      (λ n. last (params-read e l item h f (suc n₀) (moved s₁) (n .well) (leb-false 64 n₀ m)) (λ s′ v. record { well = v .well; moved = inl (omega arith); slips = omega arith })
+      (λ n. last (params-read j e l item h f (suc n₀) (moved s₁) (n .well) (leb-false 64 n₀ m)) (λ s′ v. record { well = v .well; moved = inl (omega arith); slips = omega arith })
       (λ i s′ v. record {
         count = suc (v .count);
         is = omega (arith, v .is);
@@ -177,7 +180,7 @@ module _ (c : Ctx) (b : ℕ → ℕ) (ts : Toks c b) where
         pairs = omega arith;
         none = λ q. absurd (clash q k);
       }))
-      (λ p. last (params-read e l item h f (suc n₀) s₁ (y .well) (leb-false 64 n₀ m)) (λ s′ v. record { well = v .well; moved = inl (omega arith); slips = omega arith })
+      (λ p. last (params-read j e l item h f (suc n₀) s₁ (y .well) (leb-false 64 n₀ m)) (λ s′ v. record { well = v .well; moved = inl (omega arith); slips = omega arith })
       (λ i s′ v. record {
         count = suc (v .count);
         is = omega (arith, v .is);
@@ -250,7 +253,7 @@ module _ (c : Ctx) (b : ℕ → ℕ) (ts : Toks c b) where
       by-test (s .check) _ _ (λ (m : Void). Holds (go-on (m s) (λ a. literal c (s .at))) (λ u s′. Reads c b 1 0 1 s s′) (λ s′. Fell c b 1 1 s s′))
       (λ p. known-reads _ s w (other (kindAt c s) Ident Eof e refl)) (λ p. literal-reads s w (other (kindAt c s) Ident Eof e refl))
 
-  module _ (r : Rec) (ex : Item c b 1 (r .assign)) (un : Item c b 1 (r .unary)) (ca : Item c b 1 (r .call)) where
+  module _ (r : Rec) (ex : Item c b (r .assign)) (un : Item c b (r .unary)) (ca : Item c b (r .call)) where
     group-reads : (s : St) → Well c s → eqb (kindAt c s) LeftParen ≡ true → Holds (groupExpr c r s) (λ u s′. Reads c b 1 0 1 s s′) (λ s′. Fell c b 1 1 s s′)
     unfolding groupExpr go-on
     group-reads s w e =
@@ -270,7 +273,7 @@ module _ (c : Ctx) (b : ℕ → ℕ) (ts : Toks c b) where
     unfolding isLiteral member
     literal-eof k e = not-eof isLiteral k e refl
 
-    pub primary-reads : Item c b 1 (primaryExpr c r)
+    pub primary-reads : Item c b (primaryExpr c r)
     unfolding primaryExpr go-on
     primary-reads s w =
         branch _ _ _ s (λ e. literal-reads s w (literal-eof (kindAt c s) e))
@@ -288,7 +291,7 @@ module _ (c : Ctx) (b : ℕ → ℕ) (ts : Toks c b) where
       unfolding callPart go-on
       call-part-reads e =
           consumes c b ts s _ (x .well) (other (kindAt c s) LeftParen Eof e refl) (λ n.
-          call (params-read 1 (omega arith) (r .assign) ex _ 0 (moved s) (n .well) (omega arith)) (λ s′ y. record { well = y .well; moved = inl (omega arith); slips = omega (arith, n .gain) }) (λ i s₁ y.
+          call (params-read 1 1 (omega arith) (r .assign) ex _ 0 (moved s) (n .well) (omega arith)) (λ s′ y. record { well = y .well; moved = inl (omega arith); slips = omega (arith, n .gain) }) (λ i s₁ y.
           expects c b ts RightParen s₁ _ (y .reads .well) refl (record { well = y .reads .well; moved = inl (omega arith); slips = omega (arith, n .gain) }) (λ m p.
           call-named-reads s₀ (moved s₁) i (y .small) (record { well = m .well; on = omega arith; sums = omega (arith, n .gain, m .gain); grows = grows-as (omega (arith, y .is)) (grows-then (x .grows) (y .reads .grows)) }) target (s .at) pay)))
 
@@ -325,7 +328,7 @@ module _ (c : Ctx) (b : ℕ → ℕ) (ts : Toks c b) where
     target-of : (s₀ s : St) (x : Reads c b 1 0 1 s₀ s) → getD (s .nodes) 0 (node 0 false 0 0) ≡ top-of (x .grows) .node
     target-of s₀ s x = ap (λ (l : List Node). getD l 0 (node 0 false 0 0)) (top-of (x .grows) .is)
 
-    pub fn-call-reads : Item c b 1 (fnCallExpr c r)
+    pub fn-call-reads : Item c b (fnCallExpr c r)
     unfolding fnCallExpr go-on
     fn-call-reads s w =
         call (primary-reads s w) (λ s′ y. y)
@@ -335,7 +338,7 @@ module _ (c : Ctx) (b : ℕ → ℕ) (ts : Toks c b) where
     unfolding isUnary
     unary-eof k e = not-eof isUnary k e refl
 
-    pub unary-reads : Item c b 1 (unaryExpr c r)
+    pub unary-reads : Item c b (unaryExpr c r)
     unfolding unaryExpr go-on
     unary-reads s w =
         branch _ _ _ s
@@ -349,7 +352,7 @@ module _ (c : Ctx) (b : ℕ → ℕ) (ts : Toks c b) where
         }))))
         (λ e. ca s w)
 
-    pub assign-reads : Item c b 1 (assignExpr c r)
+    pub assign-reads : Item c b (assignExpr c r)
     unfolding assignExpr go-on
     assign-reads s w =
         call (levels-reads 7 (r .unary) un s w) (λ s′ y. y) (λ u s₁ x.

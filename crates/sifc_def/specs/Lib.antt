@@ -15,6 +15,7 @@ pub mod OutcomeLaws
 pub mod GroveLaws
 pub mod StepLaws
 pub mod ExprLaws
+pub mod StmtLaws
 pub mod Case
 pub mod Cases
 pub mod Corners

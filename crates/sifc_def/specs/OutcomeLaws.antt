@@ -44,6 +44,13 @@ module _ {A : Type 0} {P : A → St → Type 0} {Q : St → Type 0} where
   call {o = fail e s} h q p = record { holds = q s (h .holds) }
   call {o = refuse r} h q p = record { holds = tt }
 
+  -- a block inside a block
+  pub inner : {B C : Type 0} (o : Out B) (g : B → M C) (f : C → M A) → Holds (go-on o (λ b s. go-on (g b s) f)) P Q → Holds (go-on (go-on o g) f) P Q
+  unfolding go-on
+  inner (done b s) g f h = h
+  inner (fail e s) g f h = h
+  inner (refuse r) g f h = h
+
   -- the last call
   pub last : {P₁ : A → St → Type 0} {Q₁ : St → Type 0} {o : Out A} → Holds o P₁ Q₁ → ((s : St) → Q₁ s → Q s) → ((a : A) (s : St) → P₁ a s → P a s) → Holds o P Q
   last {o = done a s} h q p = record { holds = p a s (h .holds) }

@@ -85,6 +85,9 @@ withErr e s = record { at = s .at; nodes = s .nodes; syms = s .syms; level = s .
 pub well-nodes : {c : Ctx} {s : St} (ns : List Node) (g : Bool) → Well c s → Well c (record { at = s .at; nodes = ns; syms = s .syms; level = s .level; check = g; errs = s .errs })
 well-nodes ns g w = record { here = w .here; calm = w .calm; level = w .level; syms = w .syms; errs = w .errs }
 
+pub well-level : {c : Ctx} {s : St} (l : ℕ) → l ≤ s .at → Well c s → Well c (record { at = s .at; nodes = s .nodes; syms = s .syms; level = l; check = s .check; errs = s .errs })
+well-level l h w = record { here = w .here; calm = w .calm; level = h; syms = w .syms; errs = w .errs }
+
 -- another kind than the one that was seen
 pub other : (k m n : ℕ) → eqb k m ≡ true → eqb m n ≡ false → eqb k n ≡ false
 other k m n e f = subst (λ (x : ℕ). eqb x n ≡ false) (sym (eqb-true k m e)) f
@@ -151,6 +154,10 @@ module _ (c : Ctx) (b : ℕ → ℕ) (ts : Toks c b) where
     pub well : Well c (stored xs s)
     pub more : length xs ≤ suc (length (s .syms))
 
+  -- the three words that begin a declaration of names are worth two
+  pub keyword : (k : ℕ) (s : St) → eqb (kindAt c s) k ≡ true → T (member k (Var ∷ Fn ∷ For ∷ [])) → Next s → suc (suc (b (s .at))) ≤ b (suc (s .at))
+  keyword k s e m n = ts .gains (s .at) (n .well .here) (subst (λ (x : ℕ). T (member x (Var ∷ Fn ∷ For ∷ []))) (sym (eqb-true (kindAt c s) k e)) m)
+
   well-err : (s : St) (e : Err) → Well c s → FairErr total e → Well c (withErr e s)
   unfolding Each
   well-err s e w f = record { here = w .here; calm = w .calm; level = w .level; syms = w .syms; errs = (f, w .errs) }
@@ -189,11 +196,20 @@ module _ (c : Ctx) (b : ℕ → ℕ) (ts : Toks c b) where
     consumes s f w e h = consume-is s w e (λ (o : Out (Unit {0})). Holds (go-on o f) P Q) (λ r. is-refused) h
 
     -- an expected kind, which is not Eof
-    pub expects : (k : ℕ) (s : St) (f : Unit {0} → M A) → Well c s → eqb k Eof ≡ false → Q s → (Next s → eqb (kindAt c s) k ≡ true → Holds (f tt (moved s)) P Q) → Holds (go-on (expect c k s) f) P Q
+    pub expects-or : (k : ℕ) (s : St) (f : Unit {0} → M A) → Well c s → eqb k Eof ≡ false → (eqb (kindAt c s) k ≡ false → Q s) → (Next s → eqb (kindAt c s) k ≡ true → Holds (f tt (moved s)) P Q) → Holds (go-on (expect c k s) f) P Q
     unfolding expect raise go-on
-    expects k s f w e q h =
+    expects-or k s f w e q h =
         by-test (eqb (kindAt c s) k) (consume c) _ (λ (m : Void). Holds (go-on (m s) f) P Q)
-        (λ p. consumes s f w (other (kindAt c s) k Eof p e) (λ n. h n p)) (λ p. is-fail q)
+        (λ p. consumes s f w (other (kindAt c s) k Eof p e) (λ n. h n p)) (λ p. is-fail (q p))
+
+    pub expects : (k : ℕ) (s : St) (f : Unit {0} → M A) → Well c s → eqb k Eof ≡ false → Q s → (Next s → eqb (kindAt c s) k ≡ true → Holds (f tt (moved s)) P Q) → Holds (go-on (expect c k s) f) P Q
+    expects k s f w e q h = expects-or k s f w e (λ p. q) h
+
+    -- an expected kind that is known to be there
+    pub takes : (k : ℕ) (s : St) (f : Unit {0} → M A) → Well c s → eqb k Eof ≡ false → eqb (kindAt c s) k ≡ true → (Next s → Holds (f tt (moved s)) P Q) → Holds (go-on (expect c k s) f) P Q
+    unfolding expect raise go-on
+    takes k s f w e p h =
+        by-test (eqb (kindAt c s) k) (consume c) _ (λ (m : Void). Holds (go-on (m s) f) P Q) (λ q. consumes s f w (other (kindAt c s) k Eof p e) h) (λ q. absurd (clash p q))
 
     pub optionals : (k : ℕ) (s : St) (f : Bool → M A) → Well c s → eqb k Eof ≡ false → (Next s → eqb (kindAt c s) k ≡ true → Holds (f true (moved s)) P Q) → (eqb (kindAt c s) k ≡ false → Holds (f false s) P Q) → Holds (go-on (optional c k s) f) P Q
     unfolding optional go-on
