@@ -22,7 +22,7 @@ use Rattle.sifc_def.specs.State.{Node, node, err, Ctx, St, Out, done, re
 use Rattle.sifc_def.specs.Symbols.{retrieve, setCheck}
 use Rattle.sifc_def.specs.Expr.{Rec, looseness, isUnary, isLiteral, operators, levels, assignVar, assignToken, assignArray, assignNothing, assignTo, separator, paramList, single, callCounted, callDeclared, callName, isNamed, callNamed, literal, known, checkName, identExpr, assignExpr, unaryExpr, groupExpr, atExpr, primaryExpr, callPart, dot, index, postfix, fnCallExpr}
 use Rattle.sifc_def.specs.OutcomeLaws.{Holds, by-test, is-done, is-fail, is-refused, branch, call, last}
-use Rattle.sifc_def.specs.GroveLaws.{Fit, Grows, Top, grows-none, grows-as, grows-then, grows-over, top-of, grows-without}
+use Rattle.sifc_def.specs.GroveLaws.{Fit, Grows, Kept, keeping, Top, grows-none, grows-as, grows-then, grows-over, top-of, grows-without}
 use Rattle.sifc_def.specs.StepLaws.{Toks, Well, clash, kindAt, FairFound, FairErr, well-nodes, moved, pushed, withErr, other, not-eof, Next, consumes, expects, pushes, retrieves, throws-at, throws, throws-past, consume-last, expect-last, push-last}
 
 module _ (c : Ctx) (b : ℕ → ℕ) where
@@ -53,6 +53,7 @@ module _ (c : Ctx) (b : ℕ → ℕ) where
   pub record Fell (j e : ℕ) (s s′ : St) : Type 0 where
     pub well : Well c s′
     pub moved : (j + s .at ≤ s′ .at) ⊎ (eqb (kindAt c s′) Eof ≡ true)
+    pub kept : Kept (s .nodes) (s′ .nodes)
     pub slips : Slips e s s′
 
   -- an item that is read as one tree; where it fails, it has moved on by j tokens or stands at Eof, and has listed at most e errors
@@ -76,7 +77,7 @@ module _ (c : Ctx) (b : ℕ → ℕ) (ts : Toks c b) where
   operators-reads (suc f) n next h s₀ s x =
       branch _ _ _ s
       (λ e. consumes c b ts s _ (x .well) (loose-eof n (kindAt c s) e) (λ w.
-      call (h (moved s) (w .well)) (λ s′ y. record { well = y .well; moved = inl (omega arith); slips = omega arith }) (λ a s₁ y.
+      call (h (moved s) (w .well)) (λ s′ y. record { well = y .well; moved = inl (omega arith); kept = search keeping; slips = omega arith }) (λ a s₁ y.
       pushes c b ts BinaryExpr false 2 (s .at) s₁ _ (operators-reads f n next h s₀ _ (record {
         well = well-nodes _ _ (y .well);
         on = omega arith;
@@ -94,7 +95,7 @@ module _ (c : Ctx) (b : ℕ → ℕ) (ts : Toks c b) where
 
   -- an error that is listed and raised once a token is taken
   listed : (y : Why) (s₀ s : St) {j k n : ℕ} → Reads c b (suc j) k n s₀ s → FairErr (length (c .toks)) (err (s .at) y) → Holds (throw c y s) (λ (u : Unit {0}) s′. Reads c b 1 0 1 s₀ s′) (λ s′. Fell c b 1 1 s₀ s′)
-  listed y s₀ s x f = throws c b ts y s (x .well) f (λ w. record { well = w; moved = inl (omega arith); slips = omega arith })
+  listed y s₀ s x f = throws c b ts y s (x .well) f (λ w. record { well = w; moved = inl (omega arith); kept = search keeping; slips = omega arith })
 
   -- what assignment is given: the target and the value are read, and a token is to spare
   assign-var-reads : (i : ℕ) (w : Option What) (s₀ s : St) → Reads c b 1 1 2 s₀ s → i < length (c .toks) → FairFound (length (c .toks)) w → Holds (assignVar c i w s) (λ u s′. Reads c b 1 0 1 s₀ s′) (λ s′. Fell c b 1 1 s₀ s′)
@@ -131,7 +132,7 @@ module _ (c : Ctx) (b : ℕ → ℕ) (ts : Toks c b) where
 
     assign-nothing-fails : Holds (assignNothing c (s₁ .at) s₂) (λ u s′. Reads c b 1 0 1 s₀ s′) (λ s′. Fell c b 1 1 s₀ s′)
     unfolding assignNothing
-    assign-nothing-fails = throws-at c b ts (s₁ .at) (InvalidAssign (s₁ .at)) s₂ (y .well) (record { place = x .well .here; first = inl (x .well .here); second = omega arith }) (λ v. record { well = v; moved = inl (omega arith); slips = omega arith })
+    assign-nothing-fails = throws-at c b ts (s₁ .at) (InvalidAssign (s₁ .at)) s₂ (y .well) (record { place = x .well .here; first = inl (x .well .here); second = omega arith }) (λ v. record { well = v; moved = inl (omega arith); kept = search keeping; slips = omega arith })
 
     two : (n k : ℕ) → T (not (eqb k ArrayAccess) || eqb n 2) → eqb k ArrayAccess ≡ true → n ≡ 2
     two n k a e = eqb→eq n 2 (rw e at a)
@@ -167,11 +168,11 @@ module _ (c : Ctx) (b : ℕ → ℕ) (ts : Toks c b) where
   params-read j e l item h zero n₀ s w small = is-done (nothing-more n₀ s w small)
   params-read j e l item h (suc f) n₀ s w small =
       branch _ _ _ s (λ k. is-done (nothing-more n₀ s w small))
-      (λ k. branch _ _ _ s (λ m. throws c b ts _ s w (record { place = w .here; first = inr (omega arith); second = omega arith }) (λ v. record { well = v; moved = inl (omega arith); slips = omega arith }))
-      (λ m. branch _ _ _ s (λ z. throws c b ts _ s w (record { place = w .here; first = inr (omega arith); second = omega arith }) (λ v. record { well = v; moved = inl (omega arith); slips = omega arith }))
-      (λ z. call (h s w) (λ s′ y. record { well = y .well; moved = inl (omega arith); slips = omega arith }) (λ a s₁ y.
-      separates s₁ _ (y .well) (record { well = y .well; moved = inl (omega arith); slips = omega arith })
-      (λ n. last (params-read j e l item h f (suc n₀) (moved s₁) (n .well) (leb-false 64 n₀ m)) (λ s′ v. record { well = v .well; moved = inl (omega arith); slips = omega arith })
+      (λ k. branch _ _ _ s (λ m. throws c b ts _ s w (record { place = w .here; first = inr (omega arith); second = omega arith }) (λ v. record { well = v; moved = inl (omega arith); kept = search keeping; slips = omega arith }))
+      (λ m. branch _ _ _ s (λ z. throws c b ts _ s w (record { place = w .here; first = inr (omega arith); second = omega arith }) (λ v. record { well = v; moved = inl (omega arith); kept = search keeping; slips = omega arith }))
+      (λ z. call (h s w) (λ s′ y. record { well = y .well; moved = inl (omega arith); kept = search keeping; slips = omega arith }) (λ a s₁ y.
+      separates s₁ _ (y .well) (record { well = y .well; moved = inl (omega arith); kept = search keeping; slips = omega arith })
+      (λ n. last (params-read j e l item h f (suc n₀) (moved s₁) (n .well) (leb-false 64 n₀ m)) (λ s′ v. record { well = v .well; moved = inl (omega arith); kept = search keeping; slips = omega arith })
       (λ i s′ v. record {
         count = suc (v .count);
         is = omega (arith, v .is);
@@ -180,7 +181,7 @@ module _ (c : Ctx) (b : ℕ → ℕ) (ts : Toks c b) where
         pairs = omega arith;
         none = λ q. absurd (clash q k);
       }))
-      (λ p. last (params-read j e l item h f (suc n₀) s₁ (y .well) (leb-false 64 n₀ m)) (λ s′ v. record { well = v .well; moved = inl (omega arith); slips = omega arith })
+      (λ p. last (params-read j e l item h f (suc n₀) s₁ (y .well) (leb-false 64 n₀ m)) (λ s′ v. record { well = v .well; moved = inl (omega arith); kept = search keeping; slips = omega arith })
       (λ i s′ v. record {
         count = suc (v .count);
         is = omega (arith, v .is);
@@ -215,7 +216,7 @@ module _ (c : Ctx) (b : ℕ → ℕ) (ts : Toks c b) where
     unfolding callDeclared
     call-declared-reads i none h f =
         throws-past c b ts (UndeclSym i) s (x .well) (record { place = x .well .here; first = inl h; second = omega arith })
-        (λ e w. record { well = w; moved = inl (omega arith); slips = omega arith }) (λ w. record { well = w .well; moved = inl (omega arith); slips = omega arith })
+        (λ e w. record { well = w; moved = inl (omega arith); kept = search keeping; slips = omega arith }) (λ w. record { well = w .well; moved = inl (omega arith); kept = search keeping; slips = omega arith })
     call-declared-reads i (some Placeholder) h f = call-made false
     call-declared-reads i (some (Function m)) h f = call-counted-reads m f
     call-declared-reads i (some (Variable t g)) h f = call-counted-reads 0 (omega arith)
@@ -244,7 +245,7 @@ module _ (c : Ctx) (b : ℕ → ℕ) (ts : Toks c b) where
   known-reads none s w e =
       by-test (isStdLibFn (nameAt c (s .at))) _ _ (λ (m : Void). Holds (go-on (m s) (λ a. literal c (s .at))) (λ u s′. Reads c b 1 0 1 s s′) (λ s′. Fell c b 1 1 s s′)) (λ p. literal-reads s w e)
       (λ p. call (throws-past c b ts {P = λ (u : Unit {0}) s′. ⊥} (UndeclSym (s .at)) s w (record { place = w .here; first = inl (w .here); second = omega arith })
-      (λ q v. absurd (clash q e)) (λ n. record { well = n .well; moved = inl (omega arith); slips = omega (arith, n .gain) }))
+      (λ q v. absurd (clash q e)) (λ n. record { well = n .well; moved = inl (omega arith); kept = search keeping; slips = omega (arith, n .gain) }))
       (λ s′ y. y) (λ u s′ y. absurd y))
 
   ident-reads : (s : St) → Well c s → eqb (kindAt c s) Ident ≡ true → Holds (identExpr c (s .at) s) (λ u s′. Reads c b 1 0 1 s s′) (λ s′. Fell c b 1 1 s s′)
@@ -258,15 +259,15 @@ module _ (c : Ctx) (b : ℕ → ℕ) (ts : Toks c b) where
     unfolding groupExpr go-on
     group-reads s w e =
         consumes c b ts s _ w (other (kindAt c s) LeftParen Eof e refl) (λ n.
-        call (ex (moved s) (n .well)) (λ s′ y. record { well = y .well; moved = inl (omega arith); slips = omega (arith, n .gain) }) (λ u s₁ y.
-        expect-last c b ts RightParen s₁ (y .well) refl (record { well = y .well; moved = inl (omega arith); slips = omega (arith, n .gain) })
+        call (ex (moved s) (n .well)) (λ s′ y. record { well = y .well; moved = inl (omega arith); kept = search keeping; slips = omega (arith, n .gain) }) (λ u s₁ y.
+        expect-last c b ts RightParen s₁ (y .well) refl (record { well = y .well; moved = inl (omega arith); kept = search keeping; slips = omega (arith, n .gain) })
         (λ m p. record { well = m .well; on = omega arith; sums = omega (arith, n .gain, m .gain); grows = y .grows })))
 
     at-reads : (s : St) → Well c s → eqb (kindAt c s) At ≡ true → Holds (atExpr c r s) (λ u s′. Reads c b 1 0 1 s s′) (λ s′. Fell c b 1 1 s s′)
     unfolding atExpr go-on
     at-reads s w e =
         consumes c b ts s _ w (other (kindAt c s) At Eof e refl) (λ n.
-        last (ca (moved s) (n .well)) (λ s′ y. record { well = y .well; moved = inl (omega arith); slips = omega (arith, n .gain) })
+        last (ca (moved s) (n .well)) (λ s′ y. record { well = y .well; moved = inl (omega arith); kept = search keeping; slips = omega (arith, n .gain) })
         (λ u s′ y. record { well = y .well; on = omega arith; sums = omega (arith, n .gain); grows = y .grows }))
 
     literal-eof : (k : ℕ) → isLiteral k ≡ true → eqb k Eof ≡ false
@@ -281,7 +282,7 @@ module _ (c : Ctx) (b : ℕ → ℕ) (ts : Toks c b) where
         (λ e₂. branch _ _ _ s (λ e. group-reads s w e)
         (λ e₃. branch _ _ _ s (λ e. at-reads s w e)
         (λ e₄. throws-past c b ts (InvalidTkn (s .at)) s w (record { place = w .here; first = inl (w .here); second = omega arith })
-        (λ q v. record { well = v; moved = inr q; slips = omega arith }) (λ n. record { well = n .well; moved = inl (omega arith); slips = omega (arith, n .gain) })))))
+        (λ q v. record { well = v; moved = inr q; kept = search keeping; slips = omega arith }) (λ n. record { well = n .well; moved = inl (omega arith); kept = search keeping; slips = omega (arith, n .gain) })))))
 
     -- ── the suffixes, and the counted calls ──
 
@@ -291,15 +292,15 @@ module _ (c : Ctx) (b : ℕ → ℕ) (ts : Toks c b) where
       unfolding callPart go-on
       call-part-reads e =
           consumes c b ts s _ (x .well) (other (kindAt c s) LeftParen Eof e refl) (λ n.
-          call (params-read 1 1 (omega arith) (r .assign) ex _ 0 (moved s) (n .well) (omega arith)) (λ s′ y. record { well = y .well; moved = inl (omega arith); slips = omega (arith, n .gain) }) (λ i s₁ y.
-          expects c b ts RightParen s₁ _ (y .reads .well) refl (record { well = y .reads .well; moved = inl (omega arith); slips = omega (arith, n .gain) }) (λ m p.
+          call (params-read 1 1 (omega arith) (r .assign) ex _ 0 (moved s) (n .well) (omega arith)) (λ s′ y. record { well = y .well; moved = inl (omega arith); kept = search keeping; slips = omega (arith, n .gain) }) (λ i s₁ y.
+          expects c b ts RightParen s₁ _ (y .reads .well) refl (record { well = y .reads .well; moved = inl (omega arith); kept = search keeping; slips = omega (arith, n .gain) }) (λ m p.
           call-named-reads s₀ (moved s₁) i (y .small) (record { well = m .well; on = omega arith; sums = omega (arith, n .gain, m .gain); grows = grows-as (omega (arith, y .is)) (grows-then (x .grows) (y .reads .grows)) }) target (s .at) pay)))
 
       dot-reads : eqb (kindAt c s) Period ≡ true → Holds (dot c r target (s .at) s) (λ u s′. Reads c b 1 0 1 s₀ s′) (λ s′. Fell c b 1 1 s₀ s′)
       unfolding dot setCheck go-on
       dot-reads e =
           consumes c b ts s _ (x .well) (other (kindAt c s) Period Eof e refl) (λ n.
-          call (ex _ (well-nodes _ _ (n .well))) (λ s′ y. record { well = y .well; moved = inl (omega arith); slips = omega (arith, n .gain) }) (λ u s₁ y.
+          call (ex _ (well-nodes _ _ (n .well))) (λ s′ y. record { well = y .well; moved = inl (omega arith); kept = search keeping; slips = omega (arith, n .gain) }) (λ u s₁ y.
           singles target 4 (s .at) _ _ (push-last c b ts TableAccess false 2 0 _ (record {
             well = well-nodes _ _ (y .well);
             on = omega arith;
@@ -311,8 +312,8 @@ module _ (c : Ctx) (b : ℕ → ℕ) (ts : Toks c b) where
       unfolding index go-on
       index-reads e =
           consumes c b ts s _ (x .well) (other (kindAt c s) LeftBracket Eof e refl) (λ n.
-          call (ex (moved s) (n .well)) (λ s′ y. record { well = y .well; moved = inl (omega arith); slips = omega (arith, n .gain) }) (λ u s₁ y.
-          expects c b ts RightBracket s₁ _ (y .well) refl (record { well = y .well; moved = inl (omega arith); slips = omega (arith, n .gain) }) (λ m p.
+          call (ex (moved s) (n .well)) (λ s′ y. record { well = y .well; moved = inl (omega arith); kept = search keeping; slips = omega (arith, n .gain) }) (λ u s₁ y.
+          expects c b ts RightBracket s₁ _ (y .well) refl (record { well = y .well; moved = inl (omega arith); kept = search keeping; slips = omega (arith, n .gain) }) (λ m p.
           singles target 5 (s .at) _ _ (push-last c b ts ArrayAccess false 2 0 _ (record {
             well = well-nodes _ _ (m .well);
             on = omega arith;
@@ -343,7 +344,7 @@ module _ (c : Ctx) (b : ℕ → ℕ) (ts : Toks c b) where
     unary-reads s w =
         branch _ _ _ s
         (λ e. consumes c b ts s _ w (unary-eof (kindAt c s) e) (λ n.
-        call (un (moved s) (n .well)) (λ s′ y. record { well = y .well; moved = inl (omega arith); slips = omega (arith, n .gain) }) (λ u s₁ y.
+        call (un (moved s) (n .well)) (λ s′ y. record { well = y .well; moved = inl (omega arith); kept = search keeping; slips = omega (arith, n .gain) }) (λ u s₁ y.
         push-last c b ts UnaryExpr false 1 (s .at) s₁ (record {
           well = well-nodes _ _ (y .well);
           on = omega arith;
@@ -358,6 +359,6 @@ module _ (c : Ctx) (b : ℕ → ℕ) (ts : Toks c b) where
         call (levels-reads 7 (r .unary) un s w) (λ s′ y. y) (λ u s₁ x.
         branch _ _ _ s₁
         (λ e. consumes c b ts s₁ _ (x .well) (other (kindAt c s₁) Eq Eof e refl) (λ n.
-        call (ex (moved s₁) (n .well)) (λ s′ y. record { well = y .well; moved = inl (omega arith); slips = omega (arith, n .gain) }) (λ v s₂ y.
+        call (ex (moved s₁) (n .well)) (λ s′ y. record { well = y .well; moved = inl (omega arith); kept = search keeping; slips = omega (arith, n .gain) }) (λ v s₂ y.
         assign-to-reads s s₁ s₂ x n y _ (top-of (x .grows)) (target-of s s₁ x))))
         (λ e. is-done x))

@@ -31,6 +31,25 @@ pub record Grows (t n : ℕ) (ns ns′ : List Node) : Type 0 where
   pub is : ns′ ≡ new ++ ns
   pub grove : Grove t new n
 
+-- nodes that were there stay, below the new ones
+pub record Kept (ns ns′ : List Node) : Type 0 where
+  pub new : List Node
+  pub is : ns′ ≡ new ++ ns
+
+pub kept-same : (ns : List Node) → Kept ns ns
+kept-same ns = record { new = []; is = refl }
+
+pub kept-by : {t n : ℕ} {ns ns′ : List Node} → Grows t n ns ns′ → Kept ns ns′
+kept-by g = record { new = g .new; is = g .is }
+
+pub kept-over : {ns ns′ : List Node} (x : Node) → Kept ns ns′ → Kept ns (x ∷ ns′)
+kept-over x k = record { new = x ∷ k .new; is = ap (λ (l : List Node). x ∷ l) (k .is) }
+
+pub kept-then : {ns ns′ ns″ : List Node} → Kept ns ns′ → Kept ns′ ns″ → Kept ns ns″
+kept-then {ns} {ns′} {ns″} g h = record { new = h .new ++ g .new; is = h .is ∙ ap (λ (l : List Node). h .new ++ l) (g .is) ∙ sym (append-assoc (h .new) (g .new) ns) }
+
+pub ruleset keeping = (kept-same, kept-by, kept-over, kept-then)
+
 -- the newest node, and what is under it
 pub record Top (t n : ℕ) (ns ns′ : List Node) : Type 0 where
   pub node : Node

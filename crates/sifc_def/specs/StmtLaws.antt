@@ -22,7 +22,7 @@ use Rattle.sifc_def.specs.Symbols.{store, setLevel, initScope, closeScop
 use Rattle.sifc_def.specs.Expr.{Rec, paramList}
 use Rattle.sifc_def.specs.Stmt.{bind, withReturn, identNode, param, identPair, declareVar, arrayNodes, endIf, commaList, arrayDecl, tableItem, itemList, tableDecl, initial, varDecl, fnDecl, elifStmt, elseBlock, branches, ifStmt, forStmt, retStmt, exprStmt, stmt, decl, decls, block}
 use Rattle.sifc_def.specs.OutcomeLaws.{Holds, by-test, is-done, is-fail, is-refused, branch, call, inner, last}
-use Rattle.sifc_def.specs.GroveLaws.{Fit, Grows, grows-none, grows-as, grows-then, grows-over}
+use Rattle.sifc_def.specs.GroveLaws.{Fit, Grows, Kept, keeping, grows-none, grows-as, grows-then, grows-over}
 use Rattle.sifc_def.specs.StepLaws.{Toks, Well, clash, kindAt, FairWhat, FairErr, well-nodes, well-level, moved, pushed, stored, withErr, other, Next, Stored, keyword, consumes, expects, expects-or, takes, optionals, pushes, stores, throws, lists, idents, expect-last, push-last, store-last}
 use Rattle.sifc_def.specs.ExprLaws.{Reads, Fell, ItemOf, Item, Params, params-read}
 
@@ -54,6 +54,7 @@ module _ (c : Ctx) (b : ℕ → ℕ) where
   pub record Broke (j e m : ℕ) (s s′ : St) : Type 0 where
     pub well : Well c s′
     pub moved : (j + s .at ≤ s′ .at) ⊎ (eqb (kindAt c s′) Eof ≡ true)
+    pub kept : Kept (s .nodes) (s′ .nodes)
     pub falls : Falls e m s s′
 
   -- a declaration, which does not begin at Eof
@@ -124,7 +125,7 @@ module _ (c : Ctx) (b : ℕ → ℕ) (ts : Toks c b) where
   pub param-reads : ItemOf c b 0 2 (param c)
   unfolding param go-on
   param-reads s w =
-      id-nodes s _ w (λ v. record { well = v; moved = inl (omega arith); slips = omega arith })
+      id-nodes s _ w (λ v. record { well = v; moved = inl (omega arith); kept = search keeping; slips = omega arith })
       (λ n. is-done (record {
         well = well-nodes _ _ (n .well);
         on = omega arith;
@@ -145,10 +146,10 @@ module _ (c : Ctx) (b : ℕ → ℕ) (ts : Toks c b) where
   commas-read close j e l item h zero n₀ s w = is-done (record { count = 0; is = omega arith; reads = record { well = w; on = omega arith; sums = omega arith; grows = grows-none (s .nodes) } })
   commas-read close j e l item h (suc f) n₀ s w =
       branch _ _ _ s (λ k. is-done (record { count = 0; is = omega arith; reads = record { well = w; on = omega arith; sums = omega arith; grows = grows-none (s .nodes) } }))
-      (λ k. branch _ _ _ s (λ z. throws c b ts _ s w (record { place = w .here; first = inr (omega arith); second = omega arith }) (λ v. record { well = v; moved = inl (omega arith); slips = omega arith }))
-      (λ z. call (h s w) (λ s′ y. record { well = y .well; moved = inl (omega arith); slips = omega arith }) (λ a s₁ y.
+      (λ k. branch _ _ _ s (λ z. throws c b ts _ s w (record { place = w .here; first = inr (omega arith); second = omega arith }) (λ v. record { well = v; moved = inl (omega arith); kept = search keeping; slips = omega arith }))
+      (λ z. call (h s w) (λ s′ y. record { well = y .well; moved = inl (omega arith); kept = search keeping; slips = omega arith }) (λ a s₁ y.
       optionals c b ts Comma s₁ _ (y .well) refl
-      (λ n p. branch _ _ _ (moved s₁) (λ q. last (commas-read close j e l item h f (suc n₀) (moved s₁) (n .well)) (λ s′ v. record { well = v .well; moved = inl (omega arith); slips = omega (arith, n .gain) })
+      (λ n p. branch _ _ _ (moved s₁) (λ q. last (commas-read close j e l item h f (suc n₀) (moved s₁) (n .well)) (λ s′ v. record { well = v .well; moved = inl (omega arith); kept = search keeping; slips = omega (arith, n .gain) })
       (λ i s′ v. record { count = suc (v .count); is = omega (arith, v .is); reads = record { well = v .reads .well; on = omega arith; sums = omega (arith, n .gain); grows = grows-as (omega arith) (grows-then (y .grows) (v .reads .grows)) } }))
       (λ q. absurd (clash refl q)))
       (λ p. branch _ _ _ s₁ (λ q. absurd (clash q refl)) (λ q. is-done (record { count = 1; is = omega arith; reads = record { well = y .well; on = omega arith; sums = omega arith; grows = y .grows } }))))))
@@ -169,9 +170,9 @@ module _ (c : Ctx) (b : ℕ → ℕ) (ts : Toks c b) where
     unfolding arrayDecl go-on
     array-does i s l w e =
         takes c b ts LeftBracket s _ w refl e (λ n.
-        call (commas-read RightBracket 1 1 (omega arith) (r .assign) (g .assign) _ 0 (moved s) (n .well)) (λ s′ y. record { well = y .well; moved = inl (omega arith); falls = omega (arith, n .gain) }) (λ k s₁ y.
-        expects c b ts RightBracket s₁ _ (y .reads .well) refl (record { well = y .reads .well; moved = inl (omega arith); falls = omega (arith, n .gain) }) (λ m p.
-        expects c b ts Semicolon (moved s₁) _ (m .well) refl (record { well = m .well; moved = inl (omega arith); falls = omega (arith, n .gain, m .gain) }) (λ o q.
+        call (commas-read RightBracket 1 1 (omega arith) (r .assign) (g .assign) _ 0 (moved s) (n .well)) (λ s′ y. record { well = y .well; moved = inl (omega arith); kept = search keeping; falls = omega (arith, n .gain) }) (λ k s₁ y.
+        expects c b ts RightBracket s₁ _ (y .reads .well) refl (record { well = y .reads .well; moved = inl (omega arith); kept = search keeping; falls = omega (arith, n .gain) }) (λ m p.
+        expects c b ts Semicolon (moved s₁) _ (m .well) refl (record { well = m .well; moved = inl (omega arith); kept = search keeping; falls = omega (arith, n .gain, m .gain) }) (λ o q.
         arrays i k _ _
         (λ z. store-last c b ts i Other _ (well-nodes _ _ (o .well)) tt (λ xs v. record {
           well = v .well;
@@ -189,9 +190,9 @@ module _ (c : Ctx) (b : ℕ → ℕ) (ts : Toks c b) where
     table-item-reads : ItemOf c b 0 2 (tableItem c r)
     unfolding tableItem go-on
     table-item-reads s w =
-        idents c b ts (λ i. InvalidTknMsg 3) s _ w (record { place = w .here; first = inr (omega arith); second = omega arith }) (λ v. record { well = v; moved = inl (omega arith); slips = omega arith }) (λ n e.
-        expects c b ts EqArrow (moved s) _ (n .well) refl (record { well = n .well; moved = inl (omega arith); slips = omega (arith, n .gain) }) (λ m p.
-        call (g .assign (moved (moved s)) (m .well)) (λ s′ y. record { well = y .well; moved = inl (omega arith); slips = omega (arith, n .gain, m .gain) }) (λ u s₁ y.
+        idents c b ts (λ i. InvalidTknMsg 3) s _ w (record { place = w .here; first = inr (omega arith); second = omega arith }) (λ v. record { well = v; moved = inl (omega arith); kept = search keeping; slips = omega arith }) (λ n e.
+        expects c b ts EqArrow (moved s) _ (n .well) refl (record { well = n .well; moved = inl (omega arith); kept = search keeping; slips = omega (arith, n .gain) }) (λ m p.
+        call (g .assign (moved (moved s)) (m .well)) (λ s′ y. record { well = y .well; moved = inl (omega arith); kept = search keeping; slips = omega (arith, n .gain, m .gain) }) (λ u s₁ y.
         push-last c b ts TableItem false 1 (s .at) s₁ (record {
           well = well-nodes _ _ (y .well);
           on = omega arith;
@@ -204,12 +205,12 @@ module _ (c : Ctx) (b : ℕ → ℕ) (ts : Toks c b) where
     table-does i s l w e =
         takes c b ts DoubleLeftBracket s _ w refl e (λ n.
         inner (commaList c DoubleRightBracket (tableItem c r) (length (c .toks)) 0 (moved s)) (λ k. push c ItemList false k 0) _
-        (call (commas-read DoubleRightBracket 0 2 (omega arith) (tableItem c r) table-item-reads _ 0 (moved s) (n .well)) (λ s′ y. record { well = y .well; moved = inl (omega arith); falls = omega (arith, n .gain) }) (λ k s₁ y.
+        (call (commas-read DoubleRightBracket 0 2 (omega arith) (tableItem c r) table-item-reads _ 0 (moved s) (n .well)) (λ s′ y. record { well = y .well; moved = inl (omega arith); kept = search keeping; falls = omega (arith, n .gain) }) (λ k s₁ y.
         pushes c b ts ItemList false k 0 s₁ _ (
-        expects c b ts DoubleRightBracket _ _ (well-nodes _ _ (y .reads .well)) refl (record { well = well-nodes _ _ (y .reads .well); moved = inl (omega arith); falls = omega (arith, n .gain) }) (λ m p.
+        expects c b ts DoubleRightBracket _ _ (well-nodes _ _ (y .reads .well)) refl (record { well = well-nodes _ _ (y .reads .well); moved = inl (omega arith); kept = search keeping; falls = omega (arith, n .gain) }) (λ m p.
         pushes c b ts Table false 1 i _ _ (
         stores c b ts i Other _ _ (well-nodes _ _ (m .well)) tt (λ xs v.
-        expect-last c b ts Semicolon _ (v .well) refl (record { well = v .well; moved = inl (omega arith); falls = omega (arith, n .gain, m .gain, v .more) }) (λ o q. record {
+        expect-last c b ts Semicolon _ (v .well) refl (record { well = v .well; moved = inl (omega arith); kept = search keeping; falls = omega (arith, n .gain, m .gain, v .more) }) (λ o q. record {
           well = o .well;
           on = omega arith;
           counts = omega (arith, n .gain, m .gain, o .gain, v .more);
@@ -221,8 +222,8 @@ module _ (c : Ctx) (b : ℕ → ℕ) (ts : Toks c b) where
     initial-does i s l w =
         branch _ _ _ s (λ e. array-does i s l w e)
         (λ e₁. branch _ _ _ s (λ e. table-does i s l w e)
-        (λ e₂. call (g .assign s w) (λ s′ y. record { well = y .well; moved = y .moved; falls = omega arith }) (λ u s₁ y.
-        expect-last c b ts Semicolon s₁ (y .well) refl (record { well = y .well; moved = inl (omega arith); falls = omega arith })
+        (λ e₂. call (g .assign s w) (λ s′ y. record { well = y .well; moved = y .moved; kept = search keeping; falls = omega arith }) (λ u s₁ y.
+        expect-last c b ts Semicolon s₁ (y .well) refl (record { well = y .well; moved = inl (omega arith); kept = search keeping; falls = omega arith })
         (λ n p. record { well = n .well; on = omega arith; counts = omega (arith, n .gain); grows = y .grows }))))
 
     var-does : (s : St) → Well c s → eqb (kindAt c s) Var ≡ true → Holds (varDecl c r s) (λ u s′. Does c b 1 0 0 0 0 1 s s′) (λ s′. Broke c b 1 0 0 s s′)
@@ -230,10 +231,10 @@ module _ (c : Ctx) (b : ℕ → ℕ) (ts : Toks c b) where
     var-does s w e =
         takes c b ts Var s _ w refl e (λ n.
         let two : suc (suc (b (s .at))) ≤ b (suc (s .at)) = keyword c b ts Var s e tt n in
-        idents c b ts ExpectedIdent (moved s) _ (n .well) (record { place = n .well .here; first = inl (n .well .here); second = omega arith }) (λ v. record { well = v; moved = inl (omega arith); falls = omega arith }) (λ m p.
+        idents c b ts ExpectedIdent (moved s) _ (n .well) (record { place = n .well .here; first = inl (n .well .here); second = omega arith }) (λ v. record { well = v; moved = inl (omega arith); kept = search keeping; falls = omega arith }) (λ m p.
         branch _ _ _ (moved (moved s))
         (λ q. consumes c b ts (moved (moved s)) _ (m .well) (other (kindAt c (moved (moved s))) Eq Eof q refl) (λ o.
-        call (initial-does (suc (s .at)) _ (n .well .here) (o .well)) (λ s′ y. record { well = y .well; moved = inl (omega arith); falls = omega (arith, m .gain, o .gain) }) (λ u s₁ y.
+        call (initial-does (suc (s .at)) _ (n .well .here) (o .well)) (λ s′ y. record { well = y .well; moved = inl (omega arith); kept = search keeping; falls = omega (arith, m .gain, o .gain) }) (λ u s₁ y.
         declares (suc (s .at)) 1 s₁ (y .well) (n .well .here) (λ h xs v. record {
           well = v .well;
           on = omega arith;
@@ -248,7 +249,7 @@ module _ (c : Ctx) (b : ℕ → ℕ) (ts : Toks c b) where
           counts = omega (arith, m .gain, o .gain, v .more);
           grows = grows-over _ 0 (fit tt tt (n .well .here)) refl (grows-none (s .nodes));
         })))
-        (λ q₂. throws c b ts _ (moved (moved s)) (m .well) (record { place = m .well .here; first = inr (omega arith); second = omega arith }) (λ v. record { well = v; moved = inl (omega arith); falls = omega (arith, m .gain) })))))
+        (λ q₂. throws c b ts _ (moved (moved s)) (m .well) (record { place = m .well .here; first = inr (omega arith); second = omega arith }) (λ v. record { well = v; moved = inl (omega arith); kept = search keeping; falls = omega (arith, m .gain) })))))
 
     -- there are no more bindings than parameters
     few-names : (n : ℕ) (ns : List Node) → length (reverse (map (λ (x : Node). x .pay) (take n ns))) ≤ n
@@ -259,14 +260,14 @@ module _ (c : Ctx) (b : ℕ → ℕ) (ts : Toks c b) where
     fn-does s w e =
         takes c b ts Fn s _ w refl e (λ n.
         let two : suc (suc (b (s .at))) ≤ b (suc (s .at)) = keyword c b ts Fn s e tt n in
-        idents c b ts ExpectedIdent (moved s) _ (n .well) (record { place = n .well .here; first = inl (n .well .here); second = omega arith }) (λ v. record { well = v; moved = inl (omega arith); falls = omega arith }) (λ m p.
+        idents c b ts ExpectedIdent (moved s) _ (n .well) (record { place = n .well .here; first = inl (n .well .here); second = omega arith }) (λ v. record { well = v; moved = inl (omega arith); kept = search keeping; falls = omega arith }) (λ m p.
         stores c b ts (suc (s .at)) Placeholder _ _ (m .well) tt (λ xs v.
-        expects c b ts LeftParen _ _ (v .well) refl (record { well = v .well; moved = inl (omega arith); falls = omega (arith, m .gain, v .more) }) (λ o q.
-        call (params-read c b ts 0 2 (omega arith) (param c) param-reads _ 0 _ (o .well) (omega arith)) (λ s′ y. record { well = y .well; moved = inl (omega arith); falls = omega (arith, m .gain, o .gain, v .more) }) (λ k s₁ y.
+        expects c b ts LeftParen _ _ (v .well) refl (record { well = v .well; moved = inl (omega arith); kept = search keeping; falls = omega (arith, m .gain, v .more) }) (λ o q.
+        call (params-read c b ts 0 2 (omega arith) (param c) param-reads _ 0 _ (o .well) (omega arith)) (λ s′ y. record { well = y .well; moved = inl (omega arith); kept = search keeping; falls = omega (arith, m .gain, o .gain, v .more) }) (λ k s₁ y.
         pushes c b ts FnParams false k 0 s₁ _ (
-        expects c b ts RightParen _ _ (well-nodes _ _ (y .reads .well)) refl (record { well = well-nodes _ _ (y .reads .well); moved = inl (omega arith); falls = omega (arith, m .gain, o .gain, v .more) }) (λ z q₁.
+        expects c b ts RightParen _ _ (well-nodes _ _ (y .reads .well)) refl (record { well = well-nodes _ _ (y .reads .well); moved = inl (omega arith); kept = search keeping; falls = omega (arith, m .gain, o .gain, v .more) }) (λ z q₁.
         call (g .block true (reverse (map (λ (x : Node). x .pay) (take k (s₁ .nodes)))) _ (z .well))
-        (λ s′ t. record { well = t .broke .well; moved = inl (omega arith); falls = omega (arith, m .gain, o .gain, v .more, z .gain, y .is, few-names k (s₁ .nodes)) }) (λ u s₂ t.
+        (λ s′ t. record { well = t .broke .well; moved = inl (omega arith); kept = search keeping; falls = omega (arith, m .gain, o .gain, v .more, z .gain, y .is, few-names k (s₁ .nodes)) }) (λ u s₂ t.
         pushes c b ts FnDecl false 2 (suc (s .at)) s₂ _ (store-last c b ts (suc (s .at)) (Function k) _ (well-nodes _ _ (t .well)) (y .small) (λ ys h. record {
           well = h .well;
           on = omega arith;
@@ -279,8 +280,8 @@ module _ (c : Ctx) (b : ℕ → ℕ) (ts : Toks c b) where
     unfolding elifStmt go-on
     elif-does s w e =
         consumes c b ts s _ w (other (kindAt c s) Elif Eof e refl) (λ n.
-        call (g .assign (moved s) (n .well)) (λ s′ y. record { well = y .well; moved = inl (omega arith); falls = omega (arith, n .gain) }) (λ u s₁ y.
-        call (g .block false [] s₁ (y .well)) (λ s′ t. record { well = t .broke .well; moved = inl (omega arith); falls = omega (arith, n .gain) }) (λ v s₂ t.
+        call (g .assign (moved s) (n .well)) (λ s′ y. record { well = y .well; moved = inl (omega arith); kept = search keeping; falls = omega (arith, n .gain) }) (λ u s₁ y.
+        call (g .block false [] s₁ (y .well)) (λ s′ t. record { well = t .broke .well; moved = inl (omega arith); kept = search keeping; falls = omega (arith, n .gain) }) (λ v s₂ t.
         push-last c b ts ElifStmt false 2 0 s₂ (record {
           well = well-nodes _ _ (t .well);
           on = omega arith;
@@ -292,7 +293,7 @@ module _ (c : Ctx) (b : ℕ → ℕ) (ts : Toks c b) where
     unfolding elseBlock go-on
     else-does s w e =
         consumes c b ts s _ w (other (kindAt c s) Else Eof e refl) (λ n.
-        last (g .block false [] (moved s) (n .well)) (λ s′ t. record { well = t .broke .well; moved = inl (omega arith); falls = omega (arith, n .gain) })
+        last (g .block false [] (moved s) (n .well)) (λ s′ t. record { well = t .broke .well; moved = inl (omega arith); kept = search keeping; falls = omega (arith, n .gain) })
         (λ u s′ t. record { well = t .well; on = omega arith; counts = omega (arith, n .gain); grows = t .grows }))
 
     -- from s₀ to s the condition, the block and n branches are read; a token is to spare for the node, and one for an error
@@ -320,10 +321,10 @@ module _ (c : Ctx) (b : ℕ → ℕ) (ts : Toks c b) where
     branches-does zero n elses s₀ s x = end-if-does n elses s₀ s x
     branches-does (suc f) n elses s₀ s x =
         branch _ _ _ s
-        (λ e. call (elif-does s (x .well) e) (λ s′ y. record { well = y .well; moved = inl (omega arith); falls = omega arith }) (λ u s₁ y.
+        (λ e. call (elif-does s (x .well) e) (λ s′ y. record { well = y .well; moved = inl (omega arith); kept = search keeping; falls = omega arith }) (λ u s₁ y.
         branches-does f (suc n) elses s₀ s₁ (record { well = y .well; on = omega arith; counts = omega arith; grows = grows-as (omega arith) (grows-then (x .grows) (y .grows)) })))
         (λ e₁. branch _ _ _ s
-        (λ e. call (else-does s (x .well) e) (λ s′ y. record { well = y .well; moved = inl (omega arith); falls = omega arith }) (λ u s₁ y.
+        (λ e. call (else-does s (x .well) e) (λ s′ y. record { well = y .well; moved = inl (omega arith); kept = search keeping; falls = omega arith }) (λ u s₁ y.
         branches-does f (suc n) (suc elses) s₀ s₁ (record { well = y .well; on = omega arith; counts = omega arith; grows = grows-as (omega arith) (grows-then (x .grows) (y .grows)) })))
         (λ e₂. end-if-does n elses s₀ s x))
 
@@ -331,8 +332,8 @@ module _ (c : Ctx) (b : ℕ → ℕ) (ts : Toks c b) where
     unfolding ifStmt go-on
     if-does s w e =
         takes c b ts If s _ w refl e (λ n.
-        call (g .assign (moved s) (n .well)) (λ s′ y. record { well = y .well; moved = inl (omega arith); falls = omega (arith, n .gain) }) (λ u s₁ y.
-        call (g .block false [] s₁ (y .well)) (λ s′ t. record { well = t .broke .well; moved = inl (omega arith); falls = omega (arith, n .gain) }) (λ v s₂ t.
+        call (g .assign (moved s) (n .well)) (λ s′ y. record { well = y .well; moved = inl (omega arith); kept = search keeping; falls = omega (arith, n .gain) }) (λ u s₁ y.
+        call (g .block false [] s₁ (y .well)) (λ s′ t. record { well = t .broke .well; moved = inl (omega arith); kept = search keeping; falls = omega (arith, n .gain) }) (λ v s₂ t.
         branches-does _ 0 0 s s₂ (record { well = t .well; on = omega arith; counts = omega (arith, n .gain); grows = grows-then (y .grows) (t .grows) }))))
 
     for-does : (s : St) → Well c s → eqb (kindAt c s) For ≡ true → Holds (forStmt c r s) (λ u s′. Does c b 1 0 0 0 0 1 s s′) (λ s′. Broke c b 1 0 0 s s′)
@@ -340,13 +341,13 @@ module _ (c : Ctx) (b : ℕ → ℕ) (ts : Toks c b) where
     for-does s w e =
         takes c b ts For s _ w refl e (λ n.
         let two : suc (suc (b (s .at))) ≤ b (suc (s .at)) = keyword c b ts For s e tt n in
-        inner (identNode c (moved s)) _ _ (id-nodes (moved s) _ (n .well) (λ v. record { well = v; moved = inl (omega arith); falls = omega arith }) (λ m.
-        inner (expect c Comma (named (moved s))) _ _ (expects c b ts Comma (named (moved s)) _ (well-nodes _ _ (m .well)) refl (record { well = well-nodes _ _ (m .well); moved = inl (omega arith); falls = omega (arith, m .gain) }) (λ o q.
-        inner (identNode c (moved (named (moved s)))) _ _ (id-nodes (moved (named (moved s))) _ (o .well) (λ v. record { well = v; moved = inl (omega arith); falls = omega (arith, m .gain, o .gain) }) (λ z.
+        inner (identNode c (moved s)) _ _ (id-nodes (moved s) _ (n .well) (λ v. record { well = v; moved = inl (omega arith); kept = search keeping; falls = omega arith }) (λ m.
+        inner (expect c Comma (named (moved s))) _ _ (expects c b ts Comma (named (moved s)) _ (well-nodes _ _ (m .well)) refl (record { well = well-nodes _ _ (m .well); moved = inl (omega arith); kept = search keeping; falls = omega (arith, m .gain) }) (λ o q.
+        inner (identNode c (moved (named (moved s)))) _ _ (id-nodes (moved (named (moved s))) _ (o .well) (λ v. record { well = v; moved = inl (omega arith); kept = search keeping; falls = omega (arith, m .gain, o .gain) }) (λ z.
         inner (push c IdentPair false 2 0 (named (moved (named (moved s))))) _ _ (pushes c b ts IdentPair false 2 0 _ _ (
-        expects c b ts In _ _ (well-nodes _ _ (z .well)) refl (record { well = well-nodes _ _ (z .well); moved = inl (omega arith); falls = omega (arith, m .gain, o .gain, z .gain) }) (λ h q₁.
-        call (g .assign _ (h .well)) (λ s′ y. record { well = y .well; moved = inl (omega arith); falls = omega (arith, m .gain, o .gain, z .gain, h .gain) }) (λ u s₁ y.
-        call (g .block false (suc (s .at) ∷ suc (suc (suc (s .at))) ∷ []) s₁ (y .well)) (λ s′ t. record { well = t .broke .well; moved = inl (omega arith); falls = omega (arith, m .gain, o .gain, z .gain, h .gain) }) (λ v s₂ t.
+        expects c b ts In _ _ (well-nodes _ _ (z .well)) refl (record { well = well-nodes _ _ (z .well); moved = inl (omega arith); kept = search keeping; falls = omega (arith, m .gain, o .gain, z .gain) }) (λ h q₁.
+        call (g .assign _ (h .well)) (λ s′ y. record { well = y .well; moved = inl (omega arith); kept = search keeping; falls = omega (arith, m .gain, o .gain, z .gain, h .gain) }) (λ u s₁ y.
+        call (g .block false (suc (s .at) ∷ suc (suc (suc (s .at))) ∷ []) s₁ (y .well)) (λ s′ t. record { well = t .broke .well; moved = inl (omega arith); kept = search keeping depth 8; falls = omega (arith, m .gain, o .gain, z .gain, h .gain) }) (λ v s₂ t.
         push-last c b ts ForStmt false 3 0 s₂ (record {
           well = well-nodes _ _ (t .well);
           on = omega arith;
@@ -367,8 +368,8 @@ module _ (c : Ctx) (b : ℕ → ℕ) (ts : Toks c b) where
           counts = omega (arith, n .gain, m .gain);
           grows = grows-over _ 0 (fit tt tt (omega (arith, w .here))) refl (grows-none (s .nodes));
         })))
-        (λ q. call (g .assign (moved s) (n .well)) (λ s′ y. record { well = y .well; moved = inl (omega arith); falls = omega (arith, n .gain) }) (λ u s₁ y.
-        expects c b ts Semicolon s₁ _ (y .well) refl (record { well = y .well; moved = inl (omega arith); falls = omega (arith, n .gain) }) (λ m p.
+        (λ q. call (g .assign (moved s) (n .well)) (λ s′ y. record { well = y .well; moved = inl (omega arith); kept = search keeping; falls = omega (arith, n .gain) }) (λ u s₁ y.
+        expects c b ts Semicolon s₁ _ (y .well) refl (record { well = y .well; moved = inl (omega arith); kept = search keeping; falls = omega (arith, n .gain) }) (λ m p.
         push-last c b ts ReturnStmt false 1 0 _ (record {
           well = well-nodes _ _ (m .well);
           on = omega arith;
@@ -379,8 +380,8 @@ module _ (c : Ctx) (b : ℕ → ℕ) (ts : Toks c b) where
     expr-does : Decl c b (exprStmt c r)
     unfolding exprStmt go-on
     expr-does s w e =
-        call (g .assign s w) (λ s′ y. let h : 1 + s .at ≤ s′ .at = moved-on s s′ (y .slips .on) e (y .moved) in record { well = y .well; moved = inl h; falls = omega arith }) (λ u s₁ y.
-        expects c b ts Semicolon s₁ _ (y .well) refl (record { well = y .well; moved = inl (omega arith); falls = omega arith }) (λ m p.
+        call (g .assign s w) (λ s′ y. let h : 1 + s .at ≤ s′ .at = moved-on s s′ (y .slips .on) e (y .moved) in record { well = y .well; moved = inl h; kept = search keeping; falls = omega arith }) (λ u s₁ y.
+        expects c b ts Semicolon s₁ _ (y .well) refl (record { well = y .well; moved = inl (omega arith); kept = search keeping; falls = omega arith }) (λ m p.
         push-last c b ts ExprStmt false 1 0 _ (record {
           well = well-nodes _ _ (m .well);
           on = omega arith;
@@ -395,7 +396,7 @@ module _ (c : Ctx) (b : ℕ → ℕ) (ts : Toks c b) where
         (λ k₁. branch _ _ _ s (λ k. for-does s w k)
         (λ k₂. branch _ _ _ s (λ k. return-does s w k)
         (λ k₃. branch _ _ _ s
-        (λ k. last (g .block false [] s w) (λ s′ t. let h : suc (s .at) ≤ s′ .at = t .begun k in record { well = t .broke .well; moved = inl (omega arith); falls = omega arith })
+        (λ k. last (g .block false [] s w) (λ s′ t. let h : suc (s .at) ≤ s′ .at = t .begun k in record { well = t .broke .well; moved = inl (omega arith); kept = search keeping; falls = omega arith })
         (λ u s′ t. record { well = t .well; on = omega arith; counts = omega arith; grows = t .grows }))
         (λ k₄. expr-does s w e))))
 
@@ -423,17 +424,17 @@ module _ (c : Ctx) (b : ℕ → ℕ) (ts : Toks c b) where
     decls-do zero n₀ s w = is-done (no-decls n₀ s w)
     decls-do (suc f) n₀ s w =
         branch _ _ _ s (λ e. is-done (no-decls n₀ s w))
-        (λ e. call (decl-does s w (right (eqb (kindAt c s) RightBrace) (eqb (kindAt c s) Eof) e)) (λ s′ y. record { well = y .well; moved = inl (omega arith); falls = omega arith }) (λ u s₁ y.
-        last (decls-do f (suc n₀) s₁ (y .well)) (λ s′ v. record { well = v .well; moved = inl (omega arith); falls = omega arith })
+        (λ e. call (decl-does s w (right (eqb (kindAt c s) RightBrace) (eqb (kindAt c s) Eof) e)) (λ s′ y. record { well = y .well; moved = inl (omega arith); kept = search keeping; falls = omega arith }) (λ u s₁ y.
+        last (decls-do f (suc n₀) s₁ (y .well)) (λ s′ v. record { well = v .well; moved = inl (omega arith); kept = search keeping; falls = omega arith })
         (λ n s′ v. record { count = suc (v .count); is = omega (arith, v .is); does = record { well = v .does .well; on = omega arith; counts = omega arith; grows = grows-as (omega arith) (grows-then (y .grows) (v .does .grows)) } })))
 
     pub block-does : (body : Bool) (names : List ℕ) (s : St) → Well c s → Holds (block c r body names s) (λ u s′. Does c b 2 0 2 0 (length names) 1 s s′) (λ s′. BlockBroke c b (length names) s s′)
     unfolding block initScope closeScope setLevel go-on
     block-does body names s w =
-        expects-or c b ts LeftBrace s _ w refl (λ e. record { broke = record { well = w; moved = inl (omega arith); falls = omega arith }; begun = λ k. absurd (clash k e) }) (λ n e.
+        expects-or c b ts LeftBrace s _ w refl (λ e. record { broke = record { well = w; moved = inl (omega arith); kept = search keeping; falls = omega arith }; begun = λ k. absurd (clash k e) }) (λ n e.
         binds names _ _ (well-level (suc (s .level)) (omega (arith, w .level)) (n .well)) (λ xs v l.
-        call (decls-do _ 0 _ v) (λ s′ y. record { broke = record { well = y .well; moved = inl (omega arith); falls = omega (arith, n .gain) }; begun = λ k. omega arith }) (λ k s₁ y.
-        expects c b ts RightBrace s₁ _ (y .does .well) refl (record { broke = record { well = y .does .well; moved = inl (omega arith); falls = omega (arith, n .gain) }; begun = λ k. omega arith }) (λ m p.
+        call (decls-do _ 0 _ v) (λ s′ y. record { broke = record { well = y .well; moved = inl (omega arith); kept = search keeping; falls = omega (arith, n .gain) }; begun = λ k. omega arith }) (λ k s₁ y.
+        expects c b ts RightBrace s₁ _ (y .does .well) refl (record { broke = record { well = y .does .well; moved = inl (omega arith); kept = search keeping; falls = omega (arith, n .gain) }; begun = λ k. omega arith }) (λ m p.
         returns body k _ _
         (push-last c b ts Block false k (s₁ .level) _ (record {
           well = well-nodes _ _ (well-level (s₁ .level - 1) (omega (arith, y .does .well .level)) (m .well));
