@@ -2,7 +2,7 @@
 use Prim.Native.Nat.{ℕ, zero, suc, _+_}
 use mathlib.Core.List.{List, [], _∷_}
 use mathlib.Core.Bool.{Bool, true, false, _&&_, _||_, not}
-use lib.Dec.{eqb}
+use lib.Dec.{eqb, ltb}
 use lib.ListN.{take, drop, length}
 use Rattle.sifc_err.specs.declared.Token.{Token}
 use Rattle.sifc_err.specs.declared.Ending.{Ending}
@@ -37,6 +37,10 @@ unfoldable pub alnum : ℕ → Bool
 unfolding letter digit
 alnum b = letter b || digit b
 
+-- "a byte of 128 or more" is none
+unfoldable pub ascii : ℕ → Bool
+ascii b = ltb b 128
+
 -- any byte but a newline
 unfoldable pub inLine : ℕ → Bool
 inLine b = not (eqb b 10)
@@ -58,25 +62,31 @@ sign a b k = record { first = a; second = b; kind = k }
 unfoldable pub doubles : List Sign
 doubles = sign 61 61 22 ∷ sign 60 61 23 ∷ sign 62 61 24 ∷ sign 61 62 25 ∷ sign 33 61 26 ∷ sign 38 38 27 ∷ sign 124 124 28 ∷ sign 91 91 29 ∷ sign 93 93 30 ∷ []
 
--- ( ) { } [ ] ; = < > . , ! + - * / % & | @
+-- ( ) { } [ ] ; = < > . , ! + - * % & | @
 unfoldable pub singles : List Sign
-singles = sign 40 0 1 ∷ sign 41 0 2 ∷ sign 123 0 3 ∷ sign 125 0 4 ∷ sign 91 0 5 ∷ sign 93 0 6 ∷ sign 59 0 7 ∷ sign 61 0 8 ∷ sign 60 0 9 ∷ sign 62 0 10 ∷ sign 46 0 11 ∷ sign 44 0 12 ∷ sign 33 0 13 ∷ sign 43 0 14 ∷ sign 45 0 15 ∷ sign 42 0 16 ∷ sign 47 0 17 ∷ sign 37 0 18 ∷ sign 38 0 19 ∷ sign 124 0 20 ∷ sign 64 0 21 ∷ []
+singles = sign 40 0 1 ∷ sign 41 0 2 ∷ sign 123 0 3 ∷ sign 125 0 4 ∷ sign 91 0 5 ∷ sign 93 0 6 ∷ sign 59 0 7 ∷ sign 61 0 8 ∷ sign 60 0 9 ∷ sign 62 0 10 ∷ sign 46 0 11 ∷ sign 44 0 12 ∷ sign 33 0 13 ∷ sign 43 0 14 ∷ sign 45 0 15 ∷ sign 42 0 16 ∷ sign 37 0 18 ∷ sign 38 0 19 ∷ sign 124 0 20 ∷ sign 64 0 21 ∷ []
 
--- a sign of one byte; the last arm of `lex`: an unknown character
-unfoldable pub single : List Sign → ℕ → Step
-single [] b = Stop 0 UnknownChar
-single (s ∷ ss) b = elim (eqb (s .first) b) [ true ↦ Word (s .kind) 1 | false ↦ single ss b ]
+-- the kind of a sign of one byte, and of two; 0 where there is none
+unfoldable pub singleKind : List Sign → ℕ → ℕ
+unfolding if_then_else_
+singleKind [] b = 0
+singleKind (s ∷ ss) b = if eqb b (s .first) then s .kind else singleKind ss b
 
--- a sign of two bytes, found by peek_char, else one of one byte
-unfoldable pub double : List Sign → ℕ → List ℕ → Step
-unfolding single singles
-double ss b [] = single singles b
-double [] b (c ∷ bs) = single singles b
-double (s ∷ ss) b (c ∷ bs) = elim (eqb (s .first) b && eqb (s .second) c) [ true ↦ Word (s .kind) 2 | false ↦ double ss b (c ∷ bs) ]
+unfoldable pub doubleKind : List Sign → ℕ → ℕ → ℕ
+unfolding if_then_else_
+doubleKind [] b c = 0
+doubleKind (s ∷ ss) b c = if eqb b (s .first) && eqb c (s .second) then s .kind else doubleKind ss b c
 
+-- the arms of one byte; the last arm of `lex`: an unknown character
+unfoldable pub oneSign : ℕ → Step
+unfolding singleKind singles if_then_else_
+oneSign b = if eqb (singleKind singles b) 0 then Stop 0 UnknownChar else Word (singleKind singles b) 1
+
+-- the arms that look at the next byte by peek_char
 unfoldable pub lexSign : ℕ → List ℕ → Step
-unfolding double doubles
-lexSign b bs = double doubles b bs
+unfolding oneSign doubleKind doubles if_then_else_
+lexSign b [] = oneSign b
+lexSign b (c ∷ bs) = if eqb (doubleKind doubles b c) 0 then oneSign b else Word (doubleKind doubles b c) 2
 
 -- advance_to_next_line: `#` to the line's end or the script's. What ends the line is white space
 unfoldable pub hashComment : List ℕ → Step
@@ -91,6 +101,16 @@ lineEnd n (c ∷ r) = Skip n
 unfoldable pub slashComment : List ℕ → Step
 unfolding lineEnd span inLine
 slashComment bs = lineEnd (1 + span inLine bs) (drop (span inLine bs) bs)
+
+-- peek_char finds a byte
+unfoldable pub nextIs : ℕ → List ℕ → Bool
+nextIs b [] = false
+nextIs b (c ∷ bs) = eqb c b
+
+-- the arm '/'
+unfoldable pub lexSlash : List ℕ → Step
+unfolding nextIs slashComment if_then_else_
+lexSlash bs = if nextIs 47 bs then slashComment bs else Word 17 1
 
 -- lex_str: to the next quote, or an Eof at the script's end
 unfoldable pub closed : ℕ → List ℕ → Step
@@ -120,19 +140,14 @@ unfoldable pub lexIdent : ℕ → List ℕ → Step
 unfolding nameKind span alnum
 lexIdent b bs = Word (nameKind (b ∷ take (span alnum bs) bs)) (1 + span alnum bs)
 
--- peek_char
-unfoldable pub nextIs : ℕ → List ℕ → Bool
-nextIs b [] = false
-nextIs b (c ∷ bs) = eqb b c
-
 -- One turn of `lex` on the bytes that are left. The arms exclude one another, so their order is free; this one has the signs last.
 unfoldable pub step : List ℕ → Step
-unfolding white digit letter nextIs hashComment slashComment lexStr lexNum lexIdent lexSign if_then_else_
+unfolding white digit letter hashComment lexSlash lexStr lexNum lexIdent lexSign if_then_else_
 step [] = Stop 0 TrueEnd
 step (b ∷ bs) =
     if white b then Skip 1
     else if eqb b 35 then hashComment bs
-    else if eqb b 47 && nextIs 47 bs then slashComment bs
+    else if eqb b 47 then lexSlash bs
     else if eqb b 34 then lexStr bs
     else if digit b then lexNum bs
     else if letter b then lexIdent b bs
@@ -148,28 +163,32 @@ endKind (Panic k) = 48
 unfoldable pub endLen : Ending → ℕ
 endLen e = 0
 
+-- the tokens, why they end, and the offset of the end
 pub record Lexed : Type 0 where
   pub toks : List Token
   pub ending : Ending
+  pub at : ℕ
 
 abbrev pub before : Token → Lexed → Lexed
-before t l = record { toks = t ∷ l .toks; ending = l .ending }
+before t l = record { toks = t ∷ l .toks; ending = l .ending; at = l .at }
 
 unfoldable pub ended : Ending → ℕ → Lexed
 unfolding endKind endLen
-ended e off = record { toks = token (endKind e) off (endLen e) ∷ []; ending = e }
+ended e off = record { toks = token (endKind e) off (endLen e) ∷ []; ending = e; at = off }
+
+-- What a turn gives, where next lexes the bytes that are left from an offset on.
+unfoldable pub onStep : (ℕ → List ℕ → Lexed) → ℕ → List ℕ → Step → Lexed
+unfolding ended
+onStep next off s (Skip n) = next (off + n) (drop n s)
+onStep next off s (Word k n) = before (token k off n) (next (off + n) (drop n s))
+onStep next off s (Stop n e) = ended e (off + n)
 
 -- The tokens of the bytes s that stand at offset off. The first argument bounds the turns; each takes a byte or ends, so the
 -- number of bytes and one are enough (LexLaws.antt).
 unfoldable pub lexFrom : ℕ → ℕ → List ℕ → Lexed
-unfolding step ended
+unfolding step onStep ended
 lexFrom zero off s = ended TrueEnd off
-lexFrom (suc f) off s =
-    elim (step s) [
-      | Skip n ↦ lexFrom f (off + n) (drop n s)
-      | Word k n ↦ before (token k off n) (lexFrom f (off + n) (drop n s))
-      | Stop n e ↦ ended e (off + n)
-    ]
+lexFrom (suc f) off s = onStep (lexFrom f) off s (step s)
 
 -- Every token of a script, the last of kind 47 or 48, and why they end.
 unfoldable pub lexed : List ℕ → Lexed
@@ -183,3 +202,7 @@ lex s = lexed s .toks
 unfoldable pub ending : List ℕ → Ending
 unfolding lexed
 ending s = lexed s .ending
+
+unfoldable pub endAt : List ℕ → ℕ
+unfolding lexed
+endAt s = lexed s .at

@@ -21,8 +21,18 @@ unfoldable pub column : List ℕ → ℕ
 unfolding span inLine
 column s = span inLine (reverse s)
 
+-- the place after the first p bytes
+unfoldable pub walkedTo : List ℕ → ℕ → Place
+unfolding newlines column
+walkedTo s p = place (1 + newlines (take p s)) (column (take p s))
+
 -- The place of the token at offset p of the script s. Only an Eof stands at the script's end, and bytes stand after the last
 -- newline exactly where the script is not empty and has no final newline.
 unfoldable pub placeOf : List ℕ → ℕ → Place
-unfolding newlines column if_then_else_
-placeOf s p = if leb (length s) p && ltb 0 (column s) then place (2 + newlines s) 0 else place (1 + newlines (take p s)) (column (take p s))
+unfolding walkedTo newlines column if_then_else_
+placeOf s p = if leb (length s) p && ltb 0 (column s) then place (2 + newlines s) 0 else walkedTo s p
+
+-- the place after one byte more
+unfoldable pub nextPlace : Place → ℕ → Place
+unfolding if_then_else_
+nextPlace q b = if eqb b 10 then place (q .line + 1) 0 else place (q .line) (q .pos + 1)

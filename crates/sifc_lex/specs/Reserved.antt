@@ -2,7 +2,7 @@
 use Prim.Native.Nat.{ℕ}
 use mathlib.Core.List.{List, [], _∷_}
 use mathlib.Core.Bool.{Bool, true, false, _||_}
-use Rattle.sifc_lex.specs.Base.{same}
+use Rattle.sifc_lex.specs.Base.{if_then_else_, same}
 
 pub record Word : Type 0 where
   pub word : List ℕ
@@ -27,9 +27,9 @@ reservedWords =
 
 -- the kind of a name among some words: 31, Ident, if it is none of them
 unfoldable pub kindAmong : List Word → List ℕ → ℕ
-unfolding same
+unfolding same if_then_else_
 kindAmong [] name = 31
-kindAmong (w ∷ ws) name = elim (same (w .word) name) [ true ↦ w .kind | false ↦ kindAmong ws name ]
+kindAmong (w ∷ ws) name = if same (w .word) name then w .kind else kindAmong ws name
 
 -- lex_ident's kind of a name: the reserved word's, else Ident
 unfoldable pub nameKind : List ℕ → ℕ

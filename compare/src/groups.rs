@@ -1,0 +1,98 @@
+//! The groups of scripts that a run goes through, in the short and in the long form.
+
+use crate::host::OURS;
+use crate::report::{Report, Tally};
+use crate::scripts::random::Random;
+use crate::scripts::short::{self, ARMS, FEWER};
+use crate::scripts::{damaged, limits, soup};
+use crate::tokens::{check_all_rooms, check_script};
+
+/// How much of each group a form has.
+pub struct Form {
+    /// Lengths of the exhaustive groups over all ASCII bytes, over `ARMS` and over `FEWER`.
+    pub ascii_len: usize,
+    pub arms_len: usize,
+    pub fewer_len: usize,
+    pub soups: usize,
+    pub damaged: usize,
+    pub damaged_large: usize,
+}
+
+pub const SHORT: Form = Form {
+    ascii_len: 2,
+    arms_len: 4,
+    fewer_len: 5,
+    soups: 40_000,
+    damaged: 20_000,
+    damaged_large: 40,
+};
+
+pub const LONG: Form = Form {
+    ascii_len: 3,
+    arms_len: 4,
+    fewer_len: 6,
+    soups: 1_000_000,
+    damaged: 500_000,
+    damaged_large: 2_000,
+};
+
+/// The sizes of damaged scripts.
+const DAMAGED_BYTES: usize = 900;
+const DAMAGED_LARGE_BYTES: usize = 65_000;
+
+/// Runs all groups; true if nothing failed.
+pub fn run(form: &Form) -> bool {
+    println!("our side: {OURS}");
+    let mut report = Report::default();
+    short_scripts(&mut report, form);
+    random_scripts(&mut report, form);
+    report.group("greatest length, just under and over it", |tally| {
+        limits::lengths(|script| tally.add(script, check_script(script)));
+    });
+    report.group("bytes of 128 and more", |tally| {
+        limits::not_ascii(|script| tally.add(script, check_script(script)));
+    });
+    report.group("arrays of every small length, and long ones", |tally| {
+        limits::SMALL.iter().for_each(|script| tally.add(script, check_all_rooms(script)));
+    });
+    report.finish()
+}
+
+fn short_scripts(report: &mut Report, form: &Form) {
+    let mut every = |name: &str, alphabet: &[u8], longest: usize| {
+        let name =
+            format!("every script of up to {longest} bytes over {name} ({})", alphabet.len());
+        report.group(&name, |tally| {
+            short::every(alphabet, longest, |script| tally.add(script, check_script(script)));
+        });
+    };
+    every("all ASCII bytes", &short::ascii(), form.ascii_len);
+    every("bytes that reach every arm", ARMS, form.arms_len);
+    every("fewer of these", FEWER, form.fewer_len);
+}
+
+fn random_scripts(report: &mut Report, form: &Form) {
+    report.group("token soup", |tally| repeat(tally, form.soups, 1, soup::soup));
+    report.group("damaged scripts", |tally| {
+        repeat(tally, form.damaged, 2, |random| damaged::damaged(random, DAMAGED_BYTES));
+    });
+    report.group("damaged large scripts", |tally| {
+        repeat(tally, form.damaged_large, 3, |random| {
+            damaged::damaged(random, DAMAGED_LARGE_BYTES)
+        });
+    });
+}
+
+/// Makes and checks a number of scripts from one seed.
+fn repeat(
+    tally: &mut Tally,
+    count: usize,
+    seed: u64,
+    mut make: impl FnMut(&mut Random) -> Vec<u8>,
+) {
+    let mut random = Random::new(seed);
+    for _ in 0..count {
+        let script = make(&mut random);
+        tally.add(&script, check_script(&script));
+    }
+}

@@ -1,0 +1,73 @@
+//! An array as it is lent to a call: full of junk, between guard words that no call may touch.
+
+/// The guard words on each side.
+const GUARD: usize = 8;
+
+#[derive(Clone)]
+pub struct Lent {
+    whole: Vec<u32>,
+    salt: u32,
+}
+
+impl Lent {
+    /// An array of `len` elements; the salt varies the junk.
+    pub fn new(len: usize, salt: u32) -> Lent {
+        let whole = (0..len + 2 * GUARD).map(|at| junk(at, salt)).collect();
+        Lent { whole, salt }
+    }
+
+    pub fn len(&self) -> usize {
+        self.whole.len() - 2 * GUARD
+    }
+
+    pub fn elements(&self) -> &[u32] {
+        &self.whole[GUARD..GUARD + self.len()]
+    }
+
+    pub fn elements_mut(&mut self) -> &mut [u32] {
+        let len = self.len();
+        &mut self.whole[GUARD..GUARD + len]
+    }
+
+    /// Guards and elements, for a test that alters one of them.
+    #[cfg(test)]
+    pub fn whole(&self) -> &[u32] {
+        &self.whole
+    }
+
+    #[cfg(test)]
+    pub fn whole_mut(&mut self) -> &mut [u32] {
+        &mut self.whole
+    }
+
+    /// The guard words are as they were.
+    pub fn guards_kept(&self) -> Result<(), String> {
+        let end = GUARD + self.len();
+        self.kept(0..GUARD).and(self.kept(end..end + GUARD))
+    }
+
+    /// Every element is as it was.
+    pub fn untouched(&self) -> Result<(), String> {
+        self.kept(GUARD..GUARD + self.len())
+    }
+
+    /// Every element from an index on is 0.
+    pub fn zero_from(&self, from: usize) -> Result<(), String> {
+        match self.elements()[from..].iter().position(|&word| word != 0) {
+            Some(at) => Err(format!("element {} is not 0", from + at)),
+            None => Ok(()),
+        }
+    }
+
+    fn kept(&self, mut part: std::ops::Range<usize>) -> Result<(), String> {
+        match part.find(|&at| self.whole[at] != junk(at, self.salt)) {
+            Some(at) => Err(format!("element {} was touched", at as isize - GUARD as isize)),
+            None => Ok(()),
+        }
+    }
+}
+
+/// What stands at an index beforehand: never 0, so that a cleared element differs from an untouched one.
+fn junk(at: usize, salt: u32) -> u32 {
+    (at as u32).wrapping_mul(0x9E37_79B9).wrapping_add(salt) | 1
+}

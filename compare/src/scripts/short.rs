@@ -1,0 +1,63 @@
+//! Every short script over an alphabet.
+
+/// Bytes that reach every arm of `lex`: every sign; quote and both comment signs; a digit; letters of
+/// which reserved words can be made (`if`, `in`, `fn`); white space with and without a newline, an
+/// odd one among it; an unknown character.
+pub const ARMS: &[u8] = b"(){}[];.,+*%-@/=<>!&|\"#1ifn \n\x0b$";
+
+/// Fewer of them, for longer scripts: bytes that open, continue or end a token or comment.
+pub const FEWER: &[u8] = b"/.\"#1i; \n$=[";
+
+/// Every ASCII byte.
+pub fn ascii() -> Vec<u8> {
+    (0..128).collect()
+}
+
+/// Every script over an alphabet with lengths from 0 to `longest`.
+pub fn every(alphabet: &[u8], longest: usize, mut visit: impl FnMut(&[u8])) {
+    for len in 0..=longest {
+        every_of_length(alphabet, len, &mut visit);
+    }
+}
+
+/// Every script of one length, in the order of the alphabet.
+fn every_of_length(alphabet: &[u8], len: usize, visit: &mut impl FnMut(&[u8])) {
+    let mut digits = vec![0; len];
+    loop {
+        let script: Vec<u8> = digits.iter().map(|&digit: &usize| alphabet[digit]).collect();
+        visit(&script);
+        let Some(at) = digits.iter().rposition(|&digit| digit + 1 < alphabet.len()) else {
+            return;
+        };
+        digits[at] += 1;
+        digits[at + 1..].fill(0);
+    }
+}
+
+#[cfg(test)]
+mod tests {
+    use super::*;
+    use reference::{tokens, EOF_KIND, VAL_KIND};
+    use std::collections::{BTreeSet, HashSet};
+
+    #[test]
+    fn every_script_comes_once() {
+        let mut seen = HashSet::new();
+        let mut visits = 0;
+        every(b"abc", 3, |script| {
+            visits += 1;
+            seen.insert(script.to_vec());
+        });
+        assert_eq!(visits, 1 + 3 + 9 + 27);
+        assert_eq!(seen.len(), visits);
+    }
+
+    #[test]
+    fn every_arm_is_reached() {
+        let mut kinds = BTreeSet::new();
+        every(ARMS, 2, |script| kinds.extend(tokens(script).tokens.iter().map(|token| token.kind)));
+        let signs_and_literals = (1..=VAL_KIND).chain([EOF_KIND]);
+        assert!(kinds.is_superset(&signs_and_literals.collect()), "{kinds:?}");
+        assert!(FEWER.iter().all(|byte| ARMS.contains(byte)));
+    }
+}

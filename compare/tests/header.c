@@ -1,0 +1,5 @@
+/* include/sif.h compiles by itself, and declares what the Rust side declares. */
+#include "../../include/sif.h"
+
+uint32_t (*const tokens)(const uint8_t *, size_t, uint32_t *, size_t, uint32_t *, size_t,
+                         uint32_t *, uint32_t *, uint32_t *) = sif_tokens;

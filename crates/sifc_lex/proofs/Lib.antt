@@ -1,0 +1,4 @@
+pub mod Runs
+pub mod Clear
+pub mod Loading
+pub mod Calls
