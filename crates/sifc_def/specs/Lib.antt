@@ -16,6 +16,7 @@ pub mod GroveLaws
 pub mod StepLaws
 pub mod ExprLaws
 pub mod StmtLaws
+pub mod WalkLaws
 pub mod Case
 pub mod Cases
 pub mod Corners
