@@ -66,7 +66,7 @@ module _ (c : Ctx) (b : ℕ → ℕ) where
 module _ (c : Ctx) (b : ℕ → ℕ) (ts : Toks c b) where
   -- ── the levels ──
 
-  loose-eof : (n k : ℕ) → eqb (looseness k) (suc n) ≡ true → eqb k Eof ≡ false
+  pub loose-eof : (n k : ℕ) → eqb (looseness k) (suc n) ≡ true → eqb k Eof ≡ false
   unfolding looseness member if_then_else_
   loose-eof n k e = not-eof (λ x. eqb (looseness x) (suc n)) k e (eqb·zero-suc n)
 

@@ -17,6 +17,7 @@ pub mod StepLaws
 pub mod ExprLaws
 pub mod StmtLaws
 pub mod WalkLaws
+pub mod FuelLaws
 pub mod Case
 pub mod Cases
 pub mod Corners

@@ -157,7 +157,7 @@ module _ (c : Ctx) (b : ℕ → ℕ) (ts : Toks c b) where
   -- ── the statements, over good counted calls ──
 
   -- what does not begin at Eof and has moved on or stands at Eof has moved on
-  moved-on : (s s′ : St) → s .at ≤ s′ .at → eqb (kindAt c s) Eof ≡ false → (1 + s .at ≤ s′ .at) ⊎ (eqb (kindAt c s′) Eof ≡ true) → 1 + s .at ≤ s′ .at
+  pub moved-on : (s s′ : St) → s .at ≤ s′ .at → eqb (kindAt c s) Eof ≡ false → (1 + s .at ≤ s′ .at) ⊎ (eqb (kindAt c s′) Eof ≡ true) → 1 + s .at ≤ s′ .at
   moved-on s s′ on e (inl h) = h
   moved-on s s′ on e (inr q) = go (eqb (s .at) (s′ .at)) refl
     where
@@ -276,7 +276,7 @@ module _ (c : Ctx) (b : ℕ → ℕ) (ts : Toks c b) where
         }))))))))))
 
     -- an `elif` or an `else`, and its block
-    elif-does : (s : St) → Well c s → eqb (kindAt c s) Elif ≡ true → Holds (elifStmt c r s) (λ u s′. Does c b 1 0 0 0 0 1 s s′) (λ s′. Broke c b 1 0 0 s s′)
+    pub elif-does : (s : St) → Well c s → eqb (kindAt c s) Elif ≡ true → Holds (elifStmt c r s) (λ u s′. Does c b 1 0 0 0 0 1 s s′) (λ s′. Broke c b 1 0 0 s s′)
     unfolding elifStmt go-on
     elif-does s w e =
         consumes c b ts s _ w (other (kindAt c s) Elif Eof e refl) (λ n.
@@ -289,7 +289,7 @@ module _ (c : Ctx) (b : ℕ → ℕ) (ts : Toks c b) where
           grows = grows-over _ 0 (fit tt tt (omega (arith, w .here))) refl (grows-then (y .grows) (t .grows));
         }))))
 
-    else-does : (s : St) → Well c s → eqb (kindAt c s) Else ≡ true → Holds (elseBlock c r s) (λ u s′. Does c b 1 0 0 0 0 1 s s′) (λ s′. Broke c b 1 0 0 s s′)
+    pub else-does : (s : St) → Well c s → eqb (kindAt c s) Else ≡ true → Holds (elseBlock c r s) (λ u s′. Does c b 1 0 0 0 0 1 s s′) (λ s′. Broke c b 1 0 0 s s′)
     unfolding elseBlock go-on
     else-does s w e =
         consumes c b ts s _ w (other (kindAt c s) Else Eof e refl) (λ n.
@@ -415,7 +415,7 @@ module _ (c : Ctx) (b : ℕ → ℕ) (ts : Toks c b) where
     no-decls : (n₀ : ℕ) (s : St) → Well c s → Decls n₀ n₀ s s
     no-decls n₀ s w = record { count = 0; is = omega arith; does = record { well = w; on = omega arith; counts = omega arith; grows = grows-none (s .nodes) } }
 
-    right : (p q : Bool) → (p || q) ≡ false → q ≡ false
+    pub right : (p q : Bool) → (p || q) ≡ false → q ≡ false
     right true q e = absurd (clash refl e)
     right false q e = e
 

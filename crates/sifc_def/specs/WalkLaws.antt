@@ -21,7 +21,7 @@ use Rattle.sifc_def.specs.OutcomeLaws.{Holds, by-test, is-done, is-fail,
 use Rattle.sifc_def.specs.GroveLaws.{Fit, Grows, Kept, grows-none, grows-as, grows-then, grows-over}
 use Rattle.sifc_def.specs.StepLaws.{Toks, Well, Each, kindAt, well-nodes, pushes}
 use Rattle.sifc_def.specs.ExprLaws.{assign-reads, unary-reads, fn-call-reads}
-use Rattle.sifc_def.specs.StmtLaws.{Does, Broke, Decl, Good, decl-does, block-does}
+use Rattle.sifc_def.specs.StmtLaws.{Does, Broke, Decl, Good, moved-on, decl-does, block-does}
 
 -- "the node count falls back to where it began": the nodes that were there are back
 pub keep-kept : {ns ns′ : List Node} → Kept ns ns′ → keep (length ns) ns′ ≡ ns
@@ -49,33 +49,46 @@ module _ (c : Ctx) (b : ℕ → ℕ) (ts : Toks c b) where
     pub errors : length (s .errs) + b 0 ≤ b (s .at)
     pub grows : Grows (length (c .toks)) n [] (s .nodes)
 
-  -- a declaration at the top, of which n are read before: it is read, or leaves no nodes
-  After : ℕ → Option Err → St → Type 0
-  After n none s = Far (suc n) s
-  After n (some e) s = Far n s
+  -- after a declaration at the top, with n before it: it is read, or leaves no nodes; either way a token was taken
+  unfoldable pub FarOf : ℕ → Option Err → St → Type 0
+  FarOf n none s = Far (suc n) s
+  FarOf n (some e) s = Far n s
 
-  settled-far : (n : ℕ) (s : St) → Far n s → {o : Out (Unit {0})} → Holds o (λ u s′. Does c b 1 0 0 0 0 1 s s′) (λ s′. Broke c b 1 0 0 s s′)
-      → Holds (settled c (length (s .nodes)) o) (λ x s′. After n x s′) (λ s′. ⊥)
-  unfolding settled giveUp setNodes After go-on
-  settled-far n s x {o = done u s′} h = is-done (let y : Does c b 1 0 0 0 0 1 s s′ = h .holds in record {
-    well = y .well;
-    few = omega (arith, x .few);
-    names = omega (arith, x .names);
-    errors = omega (arith, x .errors);
-    grows = grows-as (omega arith) (grows-then (x .grows) (y .grows));
-  })
-  settled-far n s x {o = fail e s′} h = is-done (let y : Broke c b 1 0 0 s s′ = h .holds in let k : keep (length (s .nodes)) (s′ .nodes) ≡ s .nodes = keep-kept (y .kept) in record {
-    well = well-nodes _ _ (y .well);
-    few = rw k (omega (arith, x .few));
-    names = omega (arith, x .names);
-    errors = omega (arith, x .errors);
-    grows = rw k (x .grows);
-  })
-  settled-far n s x {o = refuse r} h = is-refused
+  pub record After (n : ℕ) (x : Option Err) (s s′ : St) : Type 0 where
+    pub far : FarOf n x s′
+    pub on : suc (s .at) ≤ s′ .at
 
-  top-far : (d : Void) → Decl c b d → (n : ℕ) (s : St) → Far n s → eqb (kindAt c s) Eof ≡ false → Holds (topDecl c d s) (λ x s′. After n x s′) (λ s′. ⊥)
+  settled-far : (n : ℕ) (s : St) → Far n s → eqb (kindAt c s) Eof ≡ false → {o : Out (Unit {0})} → Holds o (λ u s′. Does c b 1 0 0 0 0 1 s s′) (λ s′. Broke c b 1 0 0 s s′)
+      → Holds (settled c (length (s .nodes)) o) (λ x s′. After n x s s′) (λ s′. ⊥)
+  unfolding settled giveUp setNodes FarOf go-on
+  settled-far n s x e {o = done u s′} h = is-done (let y : Does c b 1 0 0 0 0 1 s s′ = h .holds in record {
+    far = record {
+      well = y .well;
+      few = omega (arith, x .few);
+      names = omega (arith, x .names);
+      errors = omega (arith, x .errors);
+      grows = grows-as (omega arith) (grows-then (x .grows) (y .grows));
+    };
+    on = omega arith;
+  })
+  settled-far n s x e {o = fail z s′} h = is-done (let y : Broke c b 1 0 0 s s′ = h .holds in
+      let k : keep (length (s .nodes)) (s′ .nodes) ≡ s .nodes = keep-kept (y .kept) in
+      let m : 1 + s .at ≤ s′ .at = moved-on c b ts s s′ (y .falls .on) e (y .moved) in record {
+        far = record {
+          well = well-nodes _ _ (y .well);
+          few = rw k (omega (arith, x .few));
+          names = omega (arith, x .names);
+          errors = omega (arith, x .errors);
+          grows = rw k (x .grows);
+        };
+        on = omega arith;
+      })
+  settled-far n s x e {o = refuse r} h = is-refused
+
+  -- Each top-level declaration takes at least one token other than Eof.
+  pub top-far : (d : Void) → Decl c b d → (n : ℕ) (s : St) → Far n s → eqb (kindAt c s) Eof ≡ false → Holds (topDecl c d s) (λ x s′. After n x s s′) (λ s′. ⊥)
   unfolding topDecl go-on
-  top-far d h n s x e = settled-far n s x (h s (x .well) e)
+  top-far d h n s x e = settled-far n s x e (h s (x .well) e)
 
   -- at the end, with the Program node
   pub record Ended (s : St) : Type 0 where
@@ -97,13 +110,13 @@ module _ (c : Ctx) (b : ℕ → ℕ) (ts : Toks c b) where
       }))
 
   pub program-ends : (f : ℕ) (d : Void) → Decl c b d → (n : ℕ) (flag : Bool) (s : St) → Far n s → Holds (program c f d n flag s) (λ e s′. Ended s′) (λ s′. ⊥)
-  unfolding program go-on After
+  unfolding program go-on FarOf
   program-ends zero d h n flag s x = end-ends n flag none s x
   program-ends (suc f) d h n flag s x =
       branch _ _ _ s (λ e. end-ends n flag none s x)
-      (λ e. call (top-far d h n s x e) (λ s′ y. absurd y) (λ o s′ y. next o s′ y (λ m g z. program-ends f d h m g s′ z)))
+      (λ e. call (top-far d h n s x e) (λ s′ y. absurd y) (λ o s′ y. next o s′ (y .far) (λ m g z. program-ends f d h m g s′ z)))
     where
-      next : (o : Option Err) (s′ : St) → After n o s′ → ((m : ℕ) (g : Bool) → Far m s′ → Holds (program c f d m g s′) (λ e s″. Ended s″) (λ s″. ⊥))
+      next : (o : Option Err) (s′ : St) → FarOf n o s′ → ((m : ℕ) (g : Bool) → Far m s′ → Holds (program c f d m g s′) (λ e s″. Ended s″) (λ s″. ⊥))
           → Holds ((elim o as (λ (x : Option Err). M End) [ none ↦ program c f d (suc n) flag | some e′ ↦ if continuable c (e′ .why) then program c f d n true else endRead c n true (some e′) ]) s′) (λ e s″. Ended s″) (λ s″. ⊥)
       next none s′ y k = k (suc n) flag y
       next (some e′) s′ y k = branch _ _ _ s′ (λ p. k n true y) (λ p. end-ends n true (some e′) s′ y)
