@@ -8,12 +8,13 @@ pub mod Error
 pub mod Walk
 pub mod Label
 pub mod Tree
-pub mod TreeLaws
 pub mod Text
 pub mod Read
 pub mod OutcomeLaws
 pub mod GroveLaws
+pub mod TreeLaws
 pub mod StepLaws
+pub mod TokLaws
 pub mod ExprLaws
 pub mod StmtLaws
 pub mod WalkLaws
