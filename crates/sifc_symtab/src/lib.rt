@@ -1,0 +1,1 @@
+// The symbol table over lent words: symtab.rs.
