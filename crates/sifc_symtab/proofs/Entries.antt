@@ -16,7 +16,7 @@ use Rattle.sifc_def.specs.declared.What.the-variants.{Placeholder, Function, Va
 use Rattle.sifc_def.specs.State.{Sym}
 use Rattle.sifc_def.specs.Symbols.{putAt}
 use Rattle.sifc_symtab.specs.declared.symtab.Stored.the-variants.{At, Full}
-use Rattle.sifc_symtab.specs.Table.{nameIn, whatOf, tagOf, valueOf, whatAt, symAt, listed, symsOf, roomOf, entered, Holds, Stores}
+use Rattle.sifc_symtab.specs.Table.{nameIn, whatOf, tagOf, valueOf, whatAt, symAt, listed, symsOf, roomOf, entered, Holds, newTable, Stores}
 use Rattle.sifc_symtab.specs.Scan.{scan}
 use Rattle.sifc_symtab.specs.Laws.{listed-ext, listed-last, length-listed}
 use Rattle.sifc_symtab.proofs.Levels.{put-old, put-new}
@@ -101,21 +101,21 @@ module _ (script offs words symbols : List ℕ) (n level i r : ℕ) (w : What) (
       (λ j a b d. sym-there symbols r level i w script offs words j d) (sym-here symbols r level i w (omega arith) script offs words) in
       let q = ap length p in
       let m = length-listed (symAt script offs words (entered symbols r level i w)) n 0 in
-      (le-leb _ (roomOf symbols) (omega arith), ap (λ (s : List ℕ). listed (symAt script offs words s) 0 n) c ∙ sym p)
+      record { room = le-leb _ (roomOf symbols) (omega arith); table = ap (λ (s : List ℕ). listed (symAt script offs words s) 0 n) c ∙ sym p }
 
   module _ (l : n ≤ r) where
-    new-key : putAt level (nameIn script offs words i) w (symsOf script offs words symbols n) ≡ symsOf script offs words symbols n ++ (record { level = level; name = nameIn script offs words i; what = w } ∷ [])
+    new-key : newTable script offs words symbols n level i w ≡ symsOf script offs words symbols n ++ (record { level = level; name = nameIn script offs words i; what = w } ∷ [])
     unfolding symsOf
     new-key = put-new (symAt script offs words symbols) (symAt script offs words symbols) level (nameIn script offs words i) w n 0 n (omega arith) (omega (arith, l, e))
 
-    new-length : length (putAt level (nameIn script offs words i) w (symsOf script offs words symbols n)) ≡ n + 1
+    new-length : length (newTable script offs words symbols n level i w) ≡ n + 1
     unfolding symsOf
     new-length = ap length new-key ∙ length-append (listed (symAt script offs words symbols) 0 n) _ ∙ ap (λ (m : ℕ). m + 1) (length-listed (symAt script offs words symbols) n 0)
 
     pub stored-full : roomOf symbols ≤ n → Stores script offs words symbols n level i w Full symbols
-    stored-full f = (let z = new-length in lt-leb _ (roomOf symbols) (omega arith), refl)
+    stored-full f = let z = new-length in record { room = lt-leb _ (roomOf symbols) (omega arith); kept = refl }
 
-    appended : n < roomOf symbols → symsOf script offs words (entered symbols n level i w) (n + 1) ≡ putAt level (nameIn script offs words i) w (symsOf script offs words symbols n)
+    appended : n < roomOf symbols → symsOf script offs words (entered symbols n level i w) (n + 1) ≡ newTable script offs words symbols n level i w
     unfolding symsOf
     appended h′ =
         let f = symAt script offs words (entered symbols n level i w) in
@@ -127,4 +127,4 @@ module _ (script offs words symbols : List ℕ) (n level i r : ℕ) (w : What) (
         ∙ sym new-key
 
     pub stored-new : n < roomOf symbols → (symbols′ : List ℕ) → symbols′ ≡ entered symbols n level i w → Stores script offs words symbols n level i w (At (n + 1)) symbols′
-    stored-new f symbols′ c = (let z = new-length in le-leb _ (roomOf symbols) (omega arith), ap (λ (s : List ℕ). symsOf script offs words s (n + 1)) c ∙ appended f)
+    stored-new f symbols′ c = let z = new-length in record { room = le-leb _ (roomOf symbols) (omega arith); table = ap (λ (s : List ℕ). symsOf script offs words s (n + 1)) c ∙ appended f }

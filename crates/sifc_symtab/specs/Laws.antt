@@ -18,7 +18,7 @@ use Rattle.sifc_def.specs.Symbols.{find, putAt, retrieve, store}
 use Rattle.sifc_symtab.specs.declared.symtab.Found.{Found}
 use Rattle.sifc_symtab.specs.declared.symtab.Stored.the-variants.{At, Full}
 use Rattle.sifc_symtab.specs.Toks.{toksOf}
-use Rattle.sifc_symtab.specs.Table.{nameIn, symAt, listed, symsOf, roomOf, Holds, foundOf, Stores}
+use Rattle.sifc_symtab.specs.Table.{nameIn, symAt, listed, symsOf, roomOf, Holds, foundOf, Retrieves, newTable, roomFor, Stores}
 
 -- ── the symbols, number by number ──
 
@@ -53,8 +53,8 @@ module _ (script offs words : List ℕ) where
   -- after a store the words hold the symbols that there are then
   pub holds-after : (symbols symbols′ : List ℕ) (n level i m : ℕ) (w : What) → Stores script offs words symbols n level i w (At m) symbols′ → length symbols′ ≡ length symbols → Holds symbols′ m
   holds-after symbols symbols′ n level i m w s e =
-      let a = leb-true _ (roomOf symbols) (s .0) in
-      let b = ap length (s .1) in
+      let a = leb-true _ (roomOf symbols) (s .room) in
+      let b = ap length (s .table) in
       let c = length-syms symbols′ m in
       omega arith
 
@@ -70,23 +70,23 @@ module _ (c : Ctx) (offs words : List ℕ) where
     pub name : nameIn (c .script) offs words i ≡ nameAt c i
     pub table : symsOf (c .script) offs words symbols n ≡ s .syms
 
-  pub retrieve-is : (s : St) (symbols : List ℕ) (n i : ℕ) → Stands s symbols n i → (r : Found)
-      → foundOf r ≡ find (s .level) (nameIn (c .script) offs words i) (symsOf (c .script) offs words symbols n) → retrieve c (nameAt c i) s ≡ done (foundOf r) s
+  pub retrieve-is : (s : St) (symbols : List ℕ) (n i : ℕ) → Stands s symbols n i → (r : Found) (symbols′ : List ℕ)
+      → Retrieves (c .script) offs words symbols n (s .level) i r symbols′ → retrieve c (nameAt c i) s ≡ done (foundOf r) s
   unfolding retrieve
-  retrieve-is s symbols n i t r e = ap (λ (o : Option What). done o s) (sym (e ∙ ap₂ (find (s .level)) (t .name) (t .table)))
+  retrieve-is s symbols n i t r symbols′ e = ap (λ (o : Option What). done o s) (sym (e .found ∙ ap₂ (find (s .level)) (t .name) (t .table)))
 
   module _ (s : St) (symbols : List ℕ) (n i : ℕ) (t : Stands s symbols n i) (room : c .symRoom ≡ roomOf symbols) (w : What) (symbols′ : List ℕ) where
-    new-is : putAt (s .level) (nameIn (c .script) offs words i) w (symsOf (c .script) offs words symbols n) ≡ putAt (s .level) (nameAt c i) w (s .syms)
+    new-is : newTable (c .script) offs words symbols n (s .level) i w ≡ putAt (s .level) (nameAt c i) w (s .syms)
     new-is = ap₂ (λ (x : List ℕ) (y : List Sym). putAt (s .level) x w y) (t .name) (t .table)
 
-    fits-is : leb (length (putAt (s .level) (nameAt c i) w (s .syms))) (c .symRoom) ≡ leb (length (putAt (s .level) (nameIn (c .script) offs words i) w (symsOf (c .script) offs words symbols n))) (roomOf symbols)
+    fits-is : leb (length (putAt (s .level) (nameAt c i) w (s .syms))) (c .symRoom) ≡ roomFor (c .script) offs words symbols n (s .level) i w
     fits-is = ap₂ (λ (x : List Sym) (y : ℕ). leb (length x) y) (sym new-is) room
 
     pub store-at : (m : ℕ) → Stores (c .script) offs words symbols n (s .level) i w (At m) symbols′
         → store c i w s ≡ done tt (record { at = s .at; nodes = s .nodes; syms = symsOf (c .script) offs words symbols′ m; level = s .level; check = s .check; errs = s .errs })
     unfolding store if_then_else_
-    store-at m p = rw (fits-is ∙ p .0, p .1 ∙ new-is) refl
+    store-at m p = rw (fits-is ∙ p .room, p .table ∙ new-is) refl
 
     pub store-full : Stores (c .script) offs words symbols n (s .level) i w Full symbols′ → store c i w s ≡ refuse SymbolsFull
     unfolding store if_then_else_
-    store-full p = rw (fits-is ∙ p .0) refl
+    store-full p = rw (fits-is ∙ p .room) refl

@@ -12,7 +12,7 @@ use Rattle.sifc_def.specs.declared.What.{What}
 use Rattle.sifc_def.specs.declared.What.the-variants.{Placeholder, Function, Variable, Other}
 use Rattle.sifc_def.specs.Read.{wordsPerSymbol}
 use Rattle.sifc_def.specs.State.{Sym, nameOf, wordIn, tokenAt}
-use Rattle.sifc_def.specs.Symbols.{putAt}
+use Rattle.sifc_def.specs.Symbols.{find, putAt}
 use Rattle.sifc_symtab.specs.declared.symtab.Found.{Found}
 use Rattle.sifc_symtab.specs.declared.symtab.Found.the-variants.{Nothing, Declared}
 use Rattle.sifc_symtab.specs.declared.symtab.Stored.{Stored}
@@ -90,12 +90,30 @@ abbrev pub foundOf : Found → Option What
 foundOf Nothing = none
 foundOf (Declared w) = some w
 
--- What store answers of the table new that it is asked to make: the number of symbols in the words, which stand for new; or Full, exactly when there is no
--- room for new, and the words are as they were.
-abbrev pub StoredBy : List ℕ → List ℕ → List ℕ → List ℕ → List Sym → Stored → List ℕ → Type 0
-StoredBy script offs words symbols new (At m) symbols′ = (leb (length new) (roomOf symbols) ≡ true) × (symsOf script offs words symbols′ m ≡ new)
-StoredBy script offs words symbols new Full symbols′ = (leb (length new) (roomOf symbols) ≡ false) × (symbols′ ≡ symbols)
+module _ (script offs words symbols : List ℕ) (n level i : ℕ) where
+  -- retrieve: what the definition finds, and the words are as they were.
+  pub record Retrieves (r : Found) (symbols′ : List ℕ) : Type 0 where
+    pub found : foundOf r ≡ find level (nameIn script offs words i) (symsOf script offs words symbols n)
+    pub kept : symbols′ ≡ symbols
 
-abbrev pub Stores : List ℕ → List ℕ → List ℕ → List ℕ → ℕ → ℕ → ℕ → What → Stored → List ℕ → Type 0
-Stores script offs words symbols n level i w r symbols′ =
-    StoredBy script offs words symbols (putAt level (nameIn script offs words i) w (symsOf script offs words symbols n)) r symbols′
+  -- the definition's table after a store
+  abbrev pub newTable : What → List Sym
+  newTable w = putAt level (nameIn script offs words i) w (symsOf script offs words symbols n)
+
+  -- whether there is room for it
+  abbrev pub roomFor : What → Bool
+  roomFor w = leb (length (newTable w)) (roomOf symbols)
+
+  pub record Put (w : What) (m : ℕ) (symbols′ : List ℕ) : Type 0 where
+    pub room : roomFor w ≡ true
+    pub table : symsOf script offs words symbols′ m ≡ newTable w
+
+  pub record NoRoom (w : What) (symbols′ : List ℕ) : Type 0 where
+    pub room : roomFor w ≡ false
+    pub kept : symbols′ ≡ symbols
+
+  -- store: the number of symbols that there are now, and the words stand for the definition's table; or Full, exactly when that has no room, and the words
+  -- are as they were.
+  abbrev pub Stores : What → Stored → List ℕ → Type 0
+  Stores w (At m) symbols′ = Put w m symbols′
+  Stores w Full symbols′ = NoRoom w symbols′

@@ -3,7 +3,14 @@ use sifc_def::What;
 ghost use mathlib.Core.Path.{_≡_};
 ghost use Prim.Native.Nat.{_+_, _*_, _≤_, _<_};
 ghost use lib.ListN.{length};
-ghost use Rattle.sifc_symtab.specs.Table.{whatOf, whatAt, tagOf, valueOf, entered};
+ghost use Rattle.sifc_symtab.specs.Table.{roomOf, whatOf, whatAt, tagOf, valueOf, entered};
+
+// How many symbols the words have room for.
+pub fn room(symbols: &[u32]) -> usize
+    ensures { λ r. ⌜ r ≡ roomOf (now (symbols .entry)) ⌝ }
+{
+    symbols.len() / 4
+}
 
 // What symbol k was declared as.
 pub fn what_at(symbols: &[u32], k: usize) -> What

@@ -1,5 +1,6 @@
 // store and retrieve of symtab.rs: the table is a map from (level, name).
 use crate::entry::put;
+use crate::entry::room;
 use crate::entry::what_at;
 use crate::token::name;
 use sifc_def::What;
@@ -7,8 +8,7 @@ use sifc_lex::same;
 ghost use mathlib.Core.Path.{_≡_};
 ghost use Prim.Native.Nat.{_+_, _*_, _≤_, _<_};
 ghost use lib.ListN.{length};
-ghost use Rattle.sifc_def.specs.Symbols.{find};
-ghost use Rattle.sifc_symtab.specs.Table.{nameIn, symAt, symsOf, foundOf, Holds, Fits, Stores};
+ghost use Rattle.sifc_symtab.specs.Table.{nameIn, symAt, symsOf, Holds, Fits, Retrieves, Stores};
 ghost use Rattle.sifc_symtab.specs.Scan.{hit, scan};
 
 // What retrieve answers.
@@ -90,7 +90,7 @@ pub fn retrieve(
     i: usize,
 ) -> Found
     requires { ⌜ Holds (now symbols) n ⌝ }
-    ensures { λ r. ⌜ (foundOf r ≡ find level (nameIn (now (script .entry)) (now (offs .entry)) (now (words .entry)) i) (symsOf (now (script .entry)) (now (offs .entry)) (now (words .entry)) (now (symbols .entry)) n)) × (now (symbols .exit) ≡ now (symbols .entry)) ⌝ }
+    ensures { λ r. ⌜ Retrieves (now (script .entry)) (now (offs .entry)) (now (words .entry)) (now (symbols .entry)) n level i r (now (symbols .exit)) ⌝ }
 {
     let k = look(script, offs, words, symbols, n, 0, level, i);
     if k < n {
@@ -118,7 +118,7 @@ pub fn store(
         put(symbols, k, level, i, what);
         return Stored::At(n);
     }
-    if symbols.len() / 4 <= n {
+    if room(symbols) <= n {
         return Stored::Full;
     }
     put(symbols, n, level, i, what);

@@ -30,7 +30,7 @@ returns c =
     let c-if1 = c .before .before in
     let c-look = c-if1 .before in
     let start = c-look .before .before .before .before .before .before in
-    (ap some (c .what-at .ensures) ∙ found-at (symAt (start .args .script .now) (start .args .offs .now) (start .args .words .now) (start .args .symbols .now)) (start .args .n) (start .args .level) (nameIn (start .args .script .now) (start .args .offs .now) (start .args .words .now) (start .args .i)) (c-look .look .result) (c-look .look .ensures) (c-if1 .if1 .taken), refl)
+    record { found = ap some (c .what-at .ensures) ∙ found-at (symAt (start .args .script .now) (start .args .offs .now) (start .args .words .now) (start .args .symbols .now)) (start .args .n) (start .args .level) (nameIn (start .args .script .now) (start .args .offs .now) (start .args .words .now) (start .args .i)) (c-look .look .result) (c-look .look .ensures) (c-if1 .if1 .taken); kept = refl }
 
 -- src/symtab.rt:83:1
 same-length-2 : tie.Need-same-length-2
@@ -42,7 +42,7 @@ unfolding symsOf symAt
 returns-2 c =
     let c-look = c .before in
     let start = c-look .before .before .before .before .before .before in
-    (found-none (symAt (start .args .script .now) (start .args .offs .now) (start .args .words .now) (start .args .symbols .now)) (start .args .n) (start .args .level) (nameIn (start .args .script .now) (start .args .offs .now) (start .args .words .now) (start .args .i)) (c-look .look .result) (c-look .look .ensures) (c .if1 .left), refl)
+    record { found = found-none (symAt (start .args .script .now) (start .args .offs .now) (start .args .words .now) (start .args .symbols .now)) (start .args .n) (start .args .level) (nameIn (start .args .script .now) (start .args .offs .now) (start .args .words .now) (start .args .i)) (c-look .look .result) (c-look .look .ensures) (c .if1 .left); kept = refl }
 
 pub retrieve-spec : {M : Type 1} → statement M
 retrieve-spec =
