@@ -1,13 +1,12 @@
 -- The words after a symbol is written, and the answers of store.
-use Prim.Native.Nat.{ℕ, zero, suc, _+_, _*_, _-_, _/_, _≤_, _<_}
+use Prim.Native.Nat.{ℕ, _+_, _*_, _-_, _≤_, _<_}
 use mathlib.Core.Path.{_≡_, refl, sym, ap, ap₂, _∙_}
 use mathlib.Core.List.{List, [], _∷_, _++_}
-use mathlib.Core.Bool.{Bool, true, false}
+use mathlib.Core.Bool.{true, false}
 use native.Mathlib.Omega.{arith}
 use native.Mathlib.Nat.{zero-add}
 use native.Mathlib.Numerals.{add-one}
 use borrow.Author.Tests.{le-leb, lt-leb}
-use lib.Dec.{leb}
 use lib.ListN.{length, getD, set, length-set, length-append}
 use lib.Seq.{getD-set-same, getD-set-other}
 use Rattle.sifc_lex.specs.Base.{if_then_else_}
@@ -16,7 +15,7 @@ use Rattle.sifc_def.specs.declared.What.the-variants.{Placeholder, Function, Va
 use Rattle.sifc_def.specs.State.{Sym}
 use Rattle.sifc_def.specs.Symbols.{putAt}
 use Rattle.sifc_symtab.specs.declared.symtab.Stored.the-variants.{At, Full}
-use Rattle.sifc_symtab.specs.Table.{nameIn, whatOf, tagOf, valueOf, whatAt, symAt, listed, symsOf, roomOf, entered, Holds, newTable, Stores}
+use Rattle.sifc_symtab.specs.Table.{nameIn, whatOf, tagOf, valueOf, symAt, listed, symsOf, roomOf, entered, Holds, newTable, Stores}
 use Rattle.sifc_symtab.specs.Scan.{scan}
 use Rattle.sifc_symtab.specs.Laws.{listed-ext, listed-last, length-listed}
 use Rattle.sifc_symtab.proofs.Levels.{put-old, put-new}

@@ -1,11 +1,10 @@
 -- The one pass over the symbols: what is found so far, and what is left to look at.
-use Prim.Native.Nat.{ℕ, zero, suc, _+_, _-_, _≤_, _<_}
-use mathlib.Core.Path.{_≡_, refl, sym, ap, ap₂, _∙_}
-use mathlib.Core.List.{List, [], _∷_}
+use Prim.Native.Nat.{ℕ, suc, _+_, _-_, _≤_, _<_}
+use mathlib.Core.Path.{_≡_, refl, sym, ap, _∙_}
+use mathlib.Core.List.{List, _∷_}
 use mathlib.Core.Bool.{true, false}
 use native.Mathlib.Omega.{arith}
 use native.Mathlib.Numerals.{add-one}
-use lib.ListN.{length}
 use Rattle.sifc_def.specs.State.{Sym}
 use Rattle.sifc_symtab.specs.Table.{listed}
 use Rattle.sifc_symtab.specs.Scan.{hit, scan}

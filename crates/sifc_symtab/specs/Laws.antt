@@ -1,9 +1,8 @@
 -- What the calls say in terms of the definition's nameAt, retrieve and store.
-use Prim.Native.Nat.{ℕ, zero, suc, _+_, _*_, _≤_, _<_}
+use Prim.Native.Nat.{ℕ, zero, suc, _+_, _≤_, _<_}
 use mathlib.Core.Path.{_≡_, refl, sym, ap, ap₂, _∙_}
 use mathlib.Core.List.{List, [], _∷_, _++_}
 use mathlib.Core.Option.{Option}
-use mathlib.Core.Bool.{Bool, true, false}
 use native.Mathlib.Omega.{arith}
 use native.Mathlib.Nat.{add-zero}
 use borrow.Author.Tests.{leb-true}
@@ -13,7 +12,7 @@ use Rattle.sifc_err.specs.declared.Token.{Token}
 use Rattle.sifc_err.specs.declared.Refusal.the-variants.{SymbolsFull}
 use Rattle.sifc_lex.specs.Base.{if_then_else_}
 use Rattle.sifc_def.specs.declared.What.{What}
-use Rattle.sifc_def.specs.State.{Sym, Ctx, St, Out, done, refuse, nameOf, wordIn, tokenAt, nameAt}
+use Rattle.sifc_def.specs.State.{Sym, Ctx, St, done, refuse, nameOf, wordIn, tokenAt, nameAt}
 use Rattle.sifc_def.specs.Symbols.{find, putAt, retrieve, store}
 use Rattle.sifc_symtab.specs.declared.symtab.Found.{Found}
 use Rattle.sifc_symtab.specs.declared.symtab.Stored.the-variants.{At, Full}

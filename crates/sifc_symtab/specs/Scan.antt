@@ -1,5 +1,5 @@
 -- One pass over the symbols: the number of the entry of a name that has the highest level between two levels.
-use Prim.Native.Nat.{ℕ, suc, _≤_}
+use Prim.Native.Nat.{ℕ, suc}
 use mathlib.Core.List.{List, [], _∷_}
 use mathlib.Core.Bool.{Bool, true, false, _&&_}
 use lib.Dec.{leb}

@@ -1,7 +1,7 @@
 -- The symbol table in its lent words, four to a symbol: the level, the name's token, and two for what it was declared as. Nothing outside this crate knows
 -- more of them than symsOf says.
 use Prim.Native.Nat.{ℕ, zero, suc, _+_, _*_, _/_, _≤_, _<_}
-use mathlib.Core.Path.{_≡_, refl}
+use mathlib.Core.Path.{_≡_}
 use mathlib.Core.List.{List, [], _∷_}
 use mathlib.Core.Option.{Option, none, some}
 use mathlib.Core.Bool.{Bool, true, false}

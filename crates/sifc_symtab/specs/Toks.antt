@@ -5,7 +5,7 @@ use mathlib.Core.List.{List, [], _∷_}
 use native.Mathlib.Omega.{arith}
 use native.Mathlib.Nat.{le-of-suc-le-suc, not-suc-le-zero}
 use lib.ListN.{length, take, getD, List·getD-eq-default}
-use lib.Seq.{getD-take, take-nil}
+use lib.Seq.{getD-take}
 use Rattle.sifc_err.specs.declared.Token.{Token}
 use Rattle.sifc_lex.specs.Kind.{Eof}
 use Rattle.sifc_lex.specs.Lex.{token}

@@ -1,7 +1,7 @@
 use borrow.Author.Needs.{needs}
 use native.Mathlib.Omega.{arith}
 use lib.ListN.{length-set}
-use mathlib.Core.Path.{_≡_, refl}
+use mathlib.Core.Path.{refl}
 use Rattle.sifc_symtab.specs.Table.{entered}
 use Rattle.sifc_symtab.proofs.entry.put.Statement.{statement}
 use Rattle.sifc_symtab.proofs.entry.put.Tie as tie

@@ -1,5 +1,4 @@
 use borrow.Author.Needs.{needs}
-use mathlib.Core.Path.{refl}
 use Rattle.sifc_symtab.specs.Table.{tagOf}
 use Rattle.sifc_symtab.proofs.entry.tag_of.Statement.{statement}
 use Rattle.sifc_symtab.proofs.entry.tag_of.Tie as tie

@@ -1,7 +1,7 @@
 use borrow.Author.Needs.{needs}
 use native.Mathlib.Omega.{arith}
-use Prim.Native.Nat.{ℕ, _-_, _*_, _+_}
-use mathlib.Core.Path.{_≡_, sym, _∙_, ap}
+use Prim.Native.Nat.{ℕ, _-_, _*_}
+use mathlib.Core.Path.{sym, _∙_, ap}
 use mathlib.Core.List.{List}
 use mathlib.Core.Logic.{⊎-elim}
 use Rattle.sifc_symtab.specs.Scan.{scan}

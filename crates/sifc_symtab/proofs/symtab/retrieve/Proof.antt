@@ -1,7 +1,6 @@
 use borrow.Author.Needs.{needs}
-use mathlib.Core.Path.{_≡_, refl, _∙_, ap}
+use mathlib.Core.Path.{refl, _∙_, ap}
 use mathlib.Core.Option.{some}
-use Rattle.sifc_def.specs.declared.What.{What}
 use Rattle.sifc_symtab.specs.Table.{nameIn, symAt, symsOf}
 use Rattle.sifc_symtab.proofs.Levels.{found-at, found-none}
 use Rattle.sifc_symtab.proofs.symtab.retrieve.Statement.{statement}
