@@ -12,6 +12,7 @@ use Rattle.sifc_lex.specs.declared.place.Place.{Place}
 use Rattle.sifc_lex.specs.Kind.{Eof}
 use Rattle.sifc_lex.specs.Lex.{token, lex}
 use Rattle.sifc_lex.specs.Place.{placeOf, place}
+use Rattle.sifc_lex.specs.Tokens.{offsOf, wordsOf, padded, zeroed}
 use Rattle.sifc_def.specs.declared.Early.{Early}
 use Rattle.sifc_def.specs.declared.Early.the-variants.{Never, By}
 use Rattle.sifc_def.specs.declared.Reading.{Reading}
@@ -20,7 +21,7 @@ use Rattle.sifc_def.specs.declared.Texting.{Texting}
 use Rattle.sifc_def.specs.declared.Texting.the-variants.{Wrote, Refused as NoText}
 use Rattle.sifc_def.specs.Ascii.{ascii}
 use Rattle.sifc_def.specs.State.{Node}
-use Rattle.sifc_def.specs.Read.{Arrays, Called, called, Written, padded, cleared, clearedArrays, tokenWord, headWord, reading, textCall}
+use Rattle.sifc_def.specs.Read.{Arrays, Called, called, Written, clearedArrays, headWord, reading, textCall}
 
 -- arrays for so many tokens, nodes, symbols and errors: not of zeros, so that what is cleared shows
 abbrev pub lentOf : ℕ → ℕ → ℕ → ℕ → Arrays
@@ -53,11 +54,11 @@ listed l p n a b = record { line = l; column = p; number = n; first = a; second 
 abbrev pub answers : List Token → List Node → List Listed → Bool → Early → Called Reading
 answers ts ns es f e =
     called (Read (record { tokens = length ts; nodes = length ns; errors = length es; flag = f; early = e })) (record {
-      offs = padded (map (λ (t : Token). t .off) ts) 40;
-      words = padded (map tokenWord ts) 40;
+      offs = padded (offsOf ts) 40;
+      words = padded (wordsOf ts) 40;
       heads = padded (map headWord ns) 40;
       loads = padded (map (λ (n : Node). n .pay) ns) 40;
-      symbols = cleared (lent .symbols);
+      symbols = zeroed (lent .symbols);
       places = padded (map (λ (x : Listed). 65536 * (x .line - 1) + x .column) es) 9;
       reasons = padded (map (λ (x : Listed). x .number + 16 * x .first + 1048576 * x .second) es) 9;
     })
@@ -106,6 +107,7 @@ lastPlace s = placeOf s (getD (lex s) (length (lex s) - 1) (token Eof 0 0) .off)
 
 -- a call leaves its text, or zeros
 unfoldable pub textLeft : ℕ → Texting → String → List ℕ
+unfolding padded
 textLeft n (Wrote m) t = padded (ascii t) n
 textLeft n (NoText r) t = replicate n 0
 
@@ -117,7 +119,7 @@ ran (writes n s x t) = let w : Written = textCall (ascii s) (lentOf 200 200 50 5
 ran (ends s l p) = stands (lastPlace (ascii s))
 
 unfoldable pub said : Case → Result
-unfolding textLeft
+unfolding textLeft offsOf wordsOf padded zeroed
 said (reads s x) = read x
 said (says k y e s x) = short x
 said (writes n s x t) = text x (textLeft n x t)

@@ -1,17 +1,21 @@
 -- The calls' answers and what they leave in the lent arrays: reading, and canonical text.
-use Prim.Native.Nat.{ℕ, _+_, _-_, _*_, _/_}
-use mathlib.Core.List.{List, [], _∷_, _++_, map, reverse}
+use Prim.Native.Nat.{ℕ, _+_, _*_, _/_}
+use mathlib.Core.List.{List, map, reverse}
 use mathlib.Core.Option.{Option, none, some}
-use mathlib.Core.Bool.{Bool, true, false, _&&_, not}
+use mathlib.Core.Bool.{Bool, true, false, _&&_}
 use lib.Dec.{eqb, ltb}
-use lib.ListN.{length, replicate}
+use lib.ListN.{length}
 use Rattle.sifc_err.specs.declared.Token.{Token}
 use Rattle.sifc_err.specs.declared.Ending.{Ending}
 use Rattle.sifc_err.specs.declared.Ending.the-variants.{TrueEnd, UnknownChar, UnterminatedString, Panic}
 use Rattle.sifc_err.specs.declared.Refusal.{Refusal}
-use Rattle.sifc_err.specs.declared.Refusal.the-variants.{LongScript, NotAscii, Uneven, TokensFull, Flagged, TextFull}
-use Rattle.sifc_lex.specs.Base.{if_then_else_, span}
+use Rattle.sifc_err.specs.declared.Refusal.the-variants.{Uneven, TokensFull, Flagged, TextFull}
+use Rattle.sifc_lex.specs.declared.call.Checked.{Checked}
+use Rattle.sifc_lex.specs.declared.call.Checked.the-variants.{Fine}
+use Rattle.sifc_lex.specs.declared.call.Checked.the-variants as check
+use Rattle.sifc_lex.specs.Base.{if_then_else_}
 use Rattle.sifc_lex.specs.Lex.{lex, ending}
+use Rattle.sifc_lex.specs.Tokens.{offsOf, wordsOf, padded, zeroed, checkOf}
 use Rattle.sifc_def.specs.declared.Err.{Err}
 use Rattle.sifc_def.specs.declared.Early.{Early}
 use Rattle.sifc_def.specs.declared.Early.the-variants.{Never, By}
@@ -25,10 +29,6 @@ use Rattle.sifc_def.specs.Label.{hasToken, scopeOf, textOf, labels}
 use Rattle.sifc_def.specs.State.{Node, Ctx, St, Out, done, fail, refuse}
 use Rattle.sifc_def.specs.Text.{text}
 use Rattle.sifc_def.specs.Walk.{End, walk}
-
--- "over 65,535 bytes"
-abbrev pub longest : ℕ
-longest = 65535
 
 -- "a 769th call of `block`, `assign_expr`, `unary_expr` or `fn_call_expr` would be active"
 abbrev pub depthLimit : ℕ
@@ -60,41 +60,27 @@ pub record Rooms : Type 0 where
 abbrev pub roomsOf : Arrays → Rooms
 roomsOf a = record { tokens = length (a .offs); nodes = length (a .heads); symbols = length (a .symbols) / wordsPerSymbol; errors = length (a .places) }
 
--- an array of n elements that begins with xs: "All lent elements past the used part are 0"
-abbrev pub padded : List ℕ → ℕ → List ℕ
-padded xs n = xs ++ replicate (n - length xs) 0
-
-abbrev pub cleared : List ℕ → List ℕ
-cleared xs = replicate (length xs) 0
-
 -- "the others set every lent output to 0 or blank"
 abbrev pub clearedArrays : Arrays → Arrays
 clearedArrays a =
     record {
-      offs = cleared (a .offs);
-      words = cleared (a .words);
-      heads = cleared (a .heads);
-      loads = cleared (a .loads);
-      symbols = cleared (a .symbols);
-      places = cleared (a .places);
-      reasons = cleared (a .reasons);
+      offs = zeroed (a .offs);
+      words = zeroed (a .words);
+      heads = zeroed (a .heads);
+      loads = zeroed (a .loads);
+      symbols = zeroed (a .symbols);
+      places = zeroed (a .places);
+      reasons = zeroed (a .reasons);
     }
 
 -- ── entry: refusals 1 to 3 ──
 
-unfoldable pub isAscii : ℕ → Bool
-isAscii b = ltb b 128
-
--- "two parallel arrays differ in length"
+-- no "two parallel arrays differ in length"
 unfoldable pub even : Arrays → Bool
 even a = eqb (length (a .offs)) (length (a .words)) && (eqb (length (a .heads)) (length (a .loads)) && eqb (length (a .places)) (length (a .reasons)))
 
-unfoldable pub entry : List ℕ → Bool → Option Refusal
-entry s e =
-    if ltb longest (length s) then some LongScript
-    else if ltb (span isAscii s) (length s) then some (NotAscii (span isAscii s))
-    else if not e then some Uneven
-    else none
+unfoldable pub entry : List ℕ → Arrays → Checked
+entry s a = elim (checkOf s) [ check.Refused r ↦ check.Refused r | Fine ↦ if even a then Fine else check.Refused Uneven ]
 
 -- ── the token list and the walk: refusals 4 to 9 ──
 
@@ -131,10 +117,6 @@ read r s = elim (ltb (r .tokens) (length (lex s))) [ true ↦ refused TokensFull
 
 -- ── the reading call ──
 
--- "kind + 64 × length (Str with its quotes)"
-abbrev pub tokenWord : Token → ℕ
-tokenWord t = t .kind + 64 * t .len
-
 abbrev pub bit : Bool → ℕ
 bit true = 1
 bit false = 0
@@ -162,11 +144,11 @@ module _ (c : Ctx) where
   abbrev pub filled : Found → Arrays → Arrays
   filled f a =
       record {
-        offs = padded (map (λ (t : Token). t .off) (f .toks)) (length (a .offs));
-        words = padded (map tokenWord (f .toks)) (length (a .words));
+        offs = padded (offsOf (f .toks)) (length (a .offs));
+        words = padded (wordsOf (f .toks)) (length (a .words));
         heads = padded (map headWord (f .nodes)) (length (a .heads));
         loads = padded (map (λ (n : Node). n .pay) (f .nodes)) (length (a .loads));
-        symbols = cleared (a .symbols);
+        symbols = zeroed (a .symbols);
         places = padded (map (errPlace c) (f .errs)) (length (a .places));
         reasons = padded (map (errReason c) (f .errs)) (length (a .reasons));
       }
@@ -177,8 +159,8 @@ answered s a (refused r) = called (Refused r) (clearedArrays a)
 
 -- The reading call: from the script and the lent arrays to the answer and the arrays as it leaves them. "1 to 3 touch nothing".
 unfoldable pub reading : List ℕ → Arrays → Called Reading
-unfolding isAscii even entry ended read answered walk lex ending parseErr errPlace span if_then_else_
-reading s a = elim (entry s (even a)) [ some r ↦ called (Refused r) a | none ↦ answered s a (read (roomsOf a) s) ]
+unfolding even entry ended read answered walk lex ending offsOf wordsOf padded zeroed checkOf parseErr errPlace if_then_else_
+reading s a = elim (entry s a) [ check.Refused r ↦ called (Refused r) a | Fine ↦ answered s a (read (roomsOf a) s) ]
 
 -- ── the text call ──
 
@@ -197,13 +179,13 @@ textFound s f = text (labels s (f .toks) (f .nodes))
 
 -- refusals 10 and 11: "the reading's flag is up", "the text is longer than its buffer"
 unfoldable pub texted : List ℕ → Arrays → List ℕ → Outcome → Written
-texted s a t (refused r) = written (NoText r) (clearedArrays a) (cleared t)
+texted s a t (refused r) = written (NoText r) (clearedArrays a) (zeroed t)
 texted s a t (found f) =
-    if f .flag then written (NoText Flagged) (clearedArrays a) (cleared t)
-    else if ltb (length t) (length (textFound s f)) then written (NoText TextFull) (clearedArrays a) (cleared t)
+    if f .flag then written (NoText Flagged) (clearedArrays a) (zeroed t)
+    else if ltb (length t) (length (textFound s f)) then written (NoText TextFull) (clearedArrays a) (zeroed t)
     else written (Wrote (length (textFound s f))) (filled (ctxOf (roomsOf a) s) f a) (padded (textFound s f) (length t))
 
 -- The text call, with a text buffer. After a success the arrays hold what the reading leaves in them.
 unfoldable pub textCall : List ℕ → Arrays → List ℕ → Written
-unfolding isAscii even entry ended read textFound texted walk lex ending parseErr errPlace text hasToken scopeOf textOf span if_then_else_
-textCall s a t = elim (entry s (even a)) [ some r ↦ written (NoText r) a t | none ↦ texted s a t (read (roomsOf a) s) ]
+unfolding even entry ended read textFound texted walk lex ending offsOf wordsOf padded zeroed checkOf parseErr errPlace text hasToken scopeOf textOf if_then_else_
+textCall s a t = elim (entry s a) [ check.Refused r ↦ written (NoText r) a t | Fine ↦ texted s a t (read (roomsOf a) s) ]

@@ -85,26 +85,26 @@ module _ (c : Ctx) where
       ok)
     push c IfStmt false (2 + n) 0
 
-module _ (c : Ctx) (r : Rec) where
-  -- ── var_decl, array_decl, table_decl, item_list ──
-
-  -- the loop of array_decl: how many items, after n
-  unfoldable pub arrayItems : ℕ → ℕ → M ℕ
-  arrayItems zero n = return n
-  arrayItems (suc f) n = do
+  -- The loops of array_decl and item_list, up to a closing kind: how many items, after n. "The final comma in the list is optional".
+  unfoldable pub commaList : ℕ → Void → ℕ → ℕ → M ℕ
+  commaList close item zero n = return n
+  commaList close item (suc f) n = do
     k ← kindNow c
-    if eqb k RightBracket then return n
+    if eqb k close then return n
         else if eqb k Eof then throw c (InvalidTknMsg endOfFile)
         else do
-          r .assign
+          item
           more ← optional c Comma
-          if more then arrayItems f (suc n) else return (suc n)
+          if more then commaList close item f (suc n) else return (suc n)
+
+module _ (c : Ctx) (r : Rec) where
+  -- ── var_decl, array_decl, table_decl, item_list ──
 
   -- token i is the declared name
   unfoldable pub arrayDecl : ℕ → Void
   arrayDecl i = do
     expect c LeftBracket
-    n ← arrayItems (fuel c) 0
+    n ← commaList c RightBracket (r .assign) (fuel c) 0
     expect c RightBracket
     expect c Semicolon
     arrayNodes c i n
@@ -118,21 +118,10 @@ module _ (c : Ctx) (r : Rec) where
     r .assign
     push c TableItem false 1 key
 
-  -- the loop of item_list: how many items, after n; repeated keys too
-  unfoldable pub items : ℕ → ℕ → M ℕ
-  items zero n = return n
-  items (suc f) n = do
-    k ← kindNow c
-    if eqb k DoubleRightBracket then return n
-        else if eqb k Eof then throw c (InvalidTknMsg endOfFile)
-        else do
-          tableItem
-          more ← optional c Comma
-          if more then items f (suc n) else return (suc n)
-
+  -- repeated keys too
   unfoldable pub itemList : Void
   itemList = do
-    n ← items (fuel c) 0
+    n ← commaList c DoubleRightBracket tableItem (fuel c) 0
     push c ItemList false n 0
 
   -- the name is stored before `;` is expected

@@ -16,7 +16,7 @@ use Rattle.sifc_def.specs.Error.{continuable}
 use Rattle.sifc_def.specs.State.{Ctx, St, Out, done, fail, refuse, M, Void, go-on, _>>=_, _>>_, return, ok, nameOf, kindNow, panicAt, arrive, consume, list, raise, addErrorWPos, addError, throw, throwPast, expect, optional, matchIdent, orThrow, ident, push, count, setNodes, keep, without}
 use Rattle.sifc_def.specs.Symbols.{isSym, findAt, find, putAt, retrieve, store, setLevel, initScope, closeScope, setCheck}
 use Rattle.sifc_def.specs.Expr.{Rec, fuel, looseness, isUnary, isLiteral, operators, levels, assignVar, assignToken, assignArray, assignNothing, assignTo, separator, paramList, single, callCounted, callDeclared, callName, isNamed, callNamed, literal, known, checkName, identExpr, assignExpr, unaryExpr, groupExpr, atExpr, primaryExpr, callPart, dot, index, postfix, fnCallExpr}
-use Rattle.sifc_def.specs.Stmt.{bind, withReturn, identNode, param, identPair, declareVar, arrayNodes, endIf, arrayItems, arrayDecl, tableItem, items, itemList, tableDecl, initial, varDecl, fnDecl, elifStmt, elseBlock, branches, ifStmt, forStmt, retStmt, exprStmt, stmt, decl, decls, block}
+use Rattle.sifc_def.specs.Stmt.{bind, withReturn, identNode, param, identPair, declareVar, arrayNodes, endIf, commaList, arrayDecl, tableItem, itemList, tableDecl, initial, varDecl, fnDecl, elifStmt, elseBlock, branches, ifStmt, forStmt, retStmt, exprStmt, stmt, decl, decls, block}
 
 -- refusal 6: one call too many is active
 abbrev pub tooDeep : Void
@@ -83,7 +83,7 @@ module _ (c : Ctx) where
   -- Parser::new, which looks at the first token, and parse, where at most so many counted calls may be active. Who unfolds `walk` unfolds all of it, to
   -- compute; a proof names what it opens.
   unfoldable pub walk : ℕ → Out End
-  unfolding nameOf panicAt arrive consume list raise addErrorWPos addError throw throwPast expect optional matchIdent orThrow ident push setNodes keep without isSym findAt find putAt retrieve store setLevel initScope closeScope setCheck looseness isUnary isLiteral operators levels assignVar assignToken assignArray assignNothing assignTo separator paramList single callCounted callDeclared callName isNamed callNamed literal known checkName identExpr assignExpr unaryExpr groupExpr atExpr primaryExpr callPart dot index postfix fnCallExpr bind withReturn identNode param identPair declareVar arrayNodes endIf arrayItems arrayDecl tableItem items itemList tableDecl initial varDecl fnDecl elifStmt elseBlock branches ifStmt forStmt retStmt exprStmt stmt decl decls block walkers giveUp settled topDecl endRead program isStdLibFn member same go-on if_then_else_
+  unfolding nameOf panicAt arrive consume list raise addErrorWPos addError throw throwPast expect optional matchIdent orThrow ident push setNodes keep without isSym findAt find putAt retrieve store setLevel initScope closeScope setCheck looseness isUnary isLiteral operators levels assignVar assignToken assignArray assignNothing assignTo separator paramList single callCounted callDeclared callName isNamed callNamed literal known checkName identExpr assignExpr unaryExpr groupExpr atExpr primaryExpr callPart dot index postfix fnCallExpr bind withReturn identNode param identPair declareVar arrayNodes endIf commaList arrayDecl tableItem itemList tableDecl initial varDecl fnDecl elifStmt elseBlock branches ifStmt forStmt retStmt exprStmt stmt decl decls block walkers giveUp settled topDecl endRead program isStdLibFn member same go-on if_then_else_
   walk depth =
       (do
         arrive c
