@@ -21,7 +21,7 @@ use Rattle.sifc_def.specs.Symbols.{find, putAt, store, setLevel, initScope, clo
 use Rattle.sifc_def.specs.Label.{Lab, lab, hasToken, scopeOf, textOf, label}
 use Rattle.sifc_def.specs.Walk.{walkers}
 use Rattle.sifc_def.specs.Expr.{Rec, fnParamMaxLen, looseness, fuel, separator, paramList}
-use Rattle.sifc_def.specs.Stmt.{bind, withReturn, identNode, param, identPair, declareVar, arrayNodes, endIf, arrayItems, arrayDecl, tableItem, items, itemList, tableDecl, initial, varDecl}
+use Rattle.sifc_def.specs.Stmt.{bind, withReturn, identNode, param, identPair, declareVar, arrayNodes, endIf, commaList, arrayDecl, tableItem, itemList, tableDecl, initial, varDecl}
 use Rattle.sifc_trip.specs.Typed.{Expr, prim, un, bin, call, dot, idx, set, mut, Exprs, nil, more, many, Items, noItem, item, manyItems, word, lp, rp, lb, rb, eq, comma, semi, arrow, dlb, drb, lbrace, varWord, between, betweenNames, betweenItems, pr, prs, prNames, prItems, bare, said, primLab, renc, rencs, rencNames, rencItems, rencArray, globalAt, ends, endss, seen, Ok, Oks, OkItems, OkNames, bound, declared, stored}
 use Rattle.sifc_trip.specs.Round.{true-of, not-eqb, not-leb, at-kind, and-l, and-r, or-r, ofSize, Res, and-then, yes-then, no-else, res-map, erased, In, in-stored, ident-name, labelled, Made, made-none, made-then, made-push}
 use Rattle.sifc_trip.specs.Round.Steps.{first, Pre, Ahead, Got, now, kind-now, test, later, stand, sees-length, stepped, pushed, storedAs, consume-eq, expect-eq, ident-eq, optional-yes, optional-no, push-ok, store-ok, pr-length, prs-length, between-length}
@@ -131,20 +131,20 @@ module _ (c : Ctx) where
 
   -- after an element: a comma and the others, or the end
   elements-tail : (es : Exprs) (f n : ℕ) (r : Rec) (rest : List W) {l : ℕ} {E : List Sym} {L : List Lab} {ns : List Node} (s : St)
-      → ((s₂ : St) → Ahead c l E true (prs es (rb ∷ rest)) s₂ → Res (arrayItems c r f (suc n) s₂) (Count (suc n + many es) (Got c l E true (rencs es) (rb ∷ rest) (s₂ .nodes))))
+      → ((s₂ : St) → Ahead c l E true (prs es (rb ∷ rest)) s₂ → Res (commaList c RightBracket (r .assign) f (suc n) s₂) (Count (suc n + many es) (Got c l E true (rencs es) (rb ∷ rest) (s₂ .nodes))))
       → Got c l E true L (between es (prs es (rb ∷ rest))) ns s
-      → Res (go-on (optional c Comma s) (λ more′. if_then_else_ {A = M ℕ} more′ (arrayItems c r f (suc n)) (return (suc n)))) (Count (n + suc (many es)) (Got c l E true (rencs es ++ L) (rb ∷ rest) ns))
+      → Res (go-on (optional c Comma s) (λ more′. if_then_else_ {A = M ℕ} more′ (commaList c RightBracket (r .assign) f (suc n)) (return (suc n)))) (Count (n + suc (many es)) (Got c l E true (rencs es ++ L) (rb ∷ rest) ns))
   unfolding between prs many rencs Res go-on if_then_else_
   elements-tail nil f n r rest s ih h = rw (optional-no Comma s (h .pre) refl) (record { num = omega arith; got = h })
   elements-tail (more e es) f n r rest {l} {E} {L} {ns} s ih h =
       rw (optional-yes Comma s (h .pre) refl refl)
-      (res-map (arrayItems c r f (suc n) (stepped s)) (Count (suc n + many (more e es)) (Got c l E true (rencs (more e es)) (rb ∷ rest) (s .nodes))) (Count (n + suc (many (more e es))) (Got c l E true (rencs (more e es) ++ L) (rb ∷ rest) ns))
+      (res-map (commaList c RightBracket (r .assign) f (suc n) (stepped s)) (Count (suc n + many (more e es)) (Got c l E true (rencs (more e es)) (rb ∷ rest) (s .nodes))) (Count (n + suc (many (more e es))) (Got c l E true (rencs (more e es) ++ L) (rb ∷ rest) ns))
       (ih (stepped s) (later (h .pre)))
       (λ m s₂ q. record { num = q .num ∙ omega arith; got = record { pre = q .got .pre; made = made-then (h .made) (q .got .made) } }))
 
   pub elements-ok : (es : Exprs) (d f n l : ℕ) (E : List Sym) (rest : List W) (s : St) → Oks (seen l E) true es → many es ≤ f → Ahead c l E true (prs es (rb ∷ rest)) s
-      → Res (arrayItems c (walkers c d) f n s) (Count (n + many es) (Got c l E true (rencs es) (rb ∷ rest) (s .nodes)))
-  unfolding arrayItems prs many Oks rencs Res member go-on if_then_else_
+      → Res (commaList c RightBracket (walkers c d .assign) f n s) (Count (n + many es) (Got c l E true (rencs es) (rb ∷ rest) (s .nodes)))
+  unfolding commaList prs many Oks rencs Res member go-on if_then_else_
   elements-ok nil d zero n l E rest s k len p = record { num = omega arith; got = record { pre = p; made = made-none } }
   elements-ok nil d (suc f) n l E rest s k len p = yes-then _ _ _ s _ (test (λ k. eqb k RightBracket) true p refl) (record { num = omega arith; got = record { pre = p; made = made-none } })
   elements-ok (more e es) d zero n l E rest s k len p = absurd (not-suc-le-zero len)
@@ -180,7 +180,7 @@ module _ (c : Ctx) where
   array-ok i x es d l E rest s ew k p =
       let Q : Unit {0} → St → Type 0 = λ u. Got c l (stored l x E) true (rencArray x es) rest (s .nodes) in
       rw (expect-eq LeftBracket s p refl refl)
-      (and-then (arrayItems c (walkers c d) (fuel c) 0 (stepped s)) _ (Count (0 + many es) (Got c l E true (rencs es) (rb ∷ semi ∷ rest) (s .nodes))) Q
+      (and-then (commaList c RightBracket (walkers c d .assign) (fuel c) 0 (stepped s)) _ (Count (0 + many es) (Got c l E true (rencs es) (rb ∷ semi ∷ rest) (s .nodes))) Q
       (elements-ok es d (fuel c) 0 l E (semi ∷ rest) (stepped s) k (let z = many-le es (rb ∷ semi ∷ rest) in let y = sees-length (later p) in omega arith) (later p))
       (λ m s₁ h.
       rw (expect-eq RightBracket s₁ (h .got .pre) refl refl)
@@ -193,14 +193,14 @@ module _ (c : Ctx) where
 
   -- after an item: a comma and the others, or the end
   items-tail : (is : Items) (f n : ℕ) (r : Rec) (rest : List W) {l : ℕ} {E : List Sym} {L : List Lab} {ns : List Node} (s : St)
-      → ((s₂ : St) → Ahead c l E true (prItems is (drb ∷ rest)) s₂ → Res (items c r f (suc n) s₂) (Count (suc n + manyItems is) (Got c l E true (rencItems is) (drb ∷ rest) (s₂ .nodes))))
+      → ((s₂ : St) → Ahead c l E true (prItems is (drb ∷ rest)) s₂ → Res (commaList c DoubleRightBracket (tableItem c r) f (suc n) s₂) (Count (suc n + manyItems is) (Got c l E true (rencItems is) (drb ∷ rest) (s₂ .nodes))))
       → Got c l E true L (betweenItems is (prItems is (drb ∷ rest))) ns s
-      → Res (go-on (optional c Comma s) (λ more′. if_then_else_ {A = M ℕ} more′ (items c r f (suc n)) (return (suc n)))) (Count (n + suc (manyItems is)) (Got c l E true (rencItems is ++ L) (drb ∷ rest) ns))
+      → Res (go-on (optional c Comma s) (λ more′. if_then_else_ {A = M ℕ} more′ (commaList c DoubleRightBracket (tableItem c r) f (suc n)) (return (suc n)))) (Count (n + suc (manyItems is)) (Got c l E true (rencItems is ++ L) (drb ∷ rest) ns))
   unfolding betweenItems prItems manyItems rencItems Res go-on if_then_else_
   items-tail noItem f n r rest s ih h = rw (optional-no Comma s (h .pre) refl) (record { num = omega arith; got = h })
   items-tail (item x e is) f n r rest {l} {E} {L} {ns} s ih h =
       rw (optional-yes Comma s (h .pre) refl refl)
-      (res-map (items c r f (suc n) (stepped s)) (Count (suc n + manyItems (item x e is)) (Got c l E true (rencItems (item x e is)) (drb ∷ rest) (s .nodes))) (Count (n + suc (manyItems (item x e is))) (Got c l E true (rencItems (item x e is) ++ L) (drb ∷ rest) ns))
+      (res-map (commaList c DoubleRightBracket (tableItem c r) f (suc n) (stepped s)) (Count (suc n + manyItems (item x e is)) (Got c l E true (rencItems (item x e is)) (drb ∷ rest) (s .nodes))) (Count (n + suc (manyItems (item x e is))) (Got c l E true (rencItems (item x e is) ++ L) (drb ∷ rest) ns))
       (ih (stepped s) (later (h .pre)))
       (λ m s₂ q. record { num = q .num ∙ omega arith; got = record { pre = q .got .pre; made = made-then (h .made) (q .got .made) } }))
 
@@ -216,8 +216,8 @@ module _ (c : Ctx) where
       (λ u s₁ h. push-ok c TableItem false 1 (s .at) s₁ Q (record { pre = h .pre; made = made-push (ap (λ (y : W). said TableItem false 1 y) (now p)) (h .made) }))))
 
   pub items-ok : (is : Items) (d f n l : ℕ) (E : List Sym) (rest : List W) (s : St) → OkItems (seen l E) is → manyItems is ≤ f → Ahead c l E true (prItems is (drb ∷ rest)) s
-      → Res (items c (walkers c d) f n s) (Count (n + manyItems is) (Got c l E true (rencItems is) (drb ∷ rest) (s .nodes)))
-  unfolding items prItems manyItems OkItems rencItems Res member go-on if_then_else_
+      → Res (commaList c DoubleRightBracket (tableItem c (walkers c d)) f n s) (Count (n + manyItems is) (Got c l E true (rencItems is) (drb ∷ rest) (s .nodes)))
+  unfolding commaList prItems manyItems OkItems rencItems Res member go-on if_then_else_
   items-ok noItem d zero n l E rest s k len p = record { num = omega arith; got = record { pre = p; made = made-none } }
   items-ok noItem d (suc f) n l E rest s k len p = yes-then _ _ _ s _ (test (λ k. eqb k DoubleRightBracket) true p refl) (record { num = omega arith; got = record { pre = p; made = made-none } })
   items-ok (item x e is) d zero n l E rest s k len p = absurd (not-suc-le-zero len)
@@ -244,7 +244,7 @@ module _ (c : Ctx) where
       let Q : Unit {0} → St → Type 0 = λ u. Got c l (stored l x E) true (said Table false 1 x ∷ L) rest (s .nodes) in
       rw (expect-eq DoubleLeftBracket s p refl refl)
       (and-then (itemList c (walkers c d) (stepped s)) _ (λ u. Got c l E true L (drb ∷ semi ∷ rest) (s .nodes)) Q
-      (and-then (items c (walkers c d) (fuel c) 0 (stepped s)) _ (Count (0 + manyItems is) (Got c l E true (rencItems is) (drb ∷ semi ∷ rest) (s .nodes))) (λ u. Got c l E true L (drb ∷ semi ∷ rest) (s .nodes))
+      (and-then (commaList c DoubleRightBracket (tableItem c (walkers c d)) (fuel c) 0 (stepped s)) _ (Count (0 + manyItems is) (Got c l E true (rencItems is) (drb ∷ semi ∷ rest) (s .nodes))) (λ u. Got c l E true L (drb ∷ semi ∷ rest) (s .nodes))
       (items-ok is d (fuel c) 0 l E (semi ∷ rest) (stepped s) k (let z = items-le is (drb ∷ semi ∷ rest) in let y = sees-length (later p) in omega arith) (later p))
       (λ m s₁ h. push-ok c ItemList false m 0 s₁ (λ u. Got c l E true L (drb ∷ semi ∷ rest) (s .nodes)) (record { pre = h .got .pre; made = made-push (ap (λ (z : ℕ). bare ItemList false z) (h .num ∙ zero-add (manyItems is))) (h .got .made) })))
       (λ u s₁ h.
