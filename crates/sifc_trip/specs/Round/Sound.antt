@@ -26,6 +26,7 @@ use Rattle.sifc_def.specs.Expr.{Rec, fnParamMaxLen, looseness, isUnary, isLiter
 use Rattle.sifc_trip.specs.Typed.{Expr, prim, un, bin, call, dot, idx, set, mut, Exprs, nil, more, many, bare, said, primLab, renc, rencs, ends, endss, isSome, wants, seen, fine, callable, Ok, Oks, Said, Saids}
 use Rattle.sifc_trip.specs.Round.{true-of, false-of, at-kind, and-l, and-r, and-in, or-l, or-r, or-case, erase, isSome-erase, wants-erase, In, Stands, looks, find-fair, ident-name, map-append, labelled, Made, made-none, made-then, made-push, taken-out, Newest, newest, topOf}
 pub mod Suffixes
+pub mod Parts
 
 -- ── outcomes: sound is what holds if it is done ──
 
