@@ -241,7 +241,7 @@ module _ (c : Ctx) where
   -- ── blocks ──
 
   -- the labels of a block inside level l
-  abbrev blockLabs : ℕ → Stmts → List Lab
+  abbrev pub blockLabs : ℕ → Stmts → List Lab
   blockLabs l ss = blockLab (counted ss) l ∷ rencSs l ss
 
   block-ok : (ss : Stmts) → AllSay ss → (body : Bool) (is : List ℕ) (xs : List W) (d l : ℕ) (E : List Sym) (rest : List W) (s : St) → T (not body || returns ss) → map (λ (i : ℕ). wordAt c i) is ≡ xs
