@@ -31,6 +31,7 @@ pub mod Levels
 pub mod Statements
 pub mod Program
 pub mod Sound
+pub mod Again
 
 -- ── truth values ──
 
