@@ -12,7 +12,7 @@ use Rattle.sifc_trip.specs.Typed.{Stmts, prProgram, rencProgram, OkProgr
 use Rattle.sifc_trip.specs.Round.{ofSize, Res, labelled}
 use Rattle.sifc_trip.specs.Round.Program.{ReadAs, program-read}
 use Rattle.sifc_trip.specs.Round.Sound.{Win}
-use Rattle.sifc_trip.specs.Round.Sound.Parts.Every.Program.{IsProgram, program-is-typed}
+use Rattle.sifc_trip.specs.Round.Sound.Program.{IsProgram, program-is-typed}
 
 -- no lexing panic ends the tokens
 abbrev pub Calm : Ctx → Type 0

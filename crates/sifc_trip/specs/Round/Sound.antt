@@ -27,6 +27,8 @@ use Rattle.sifc_trip.specs.Typed.{Expr, prim, un, bin, call, dot, idx, s
 use Rattle.sifc_trip.specs.Round.{true-of, false-of, at-kind, and-l, and-r, and-in, or-l, or-r, or-case, erase, isSome-erase, wants-erase, In, Stands, looks, find-fair, ident-name, map-append, labelled, Made, made-none, made-then, made-push, taken-out, Newest, newest, topOf}
 pub mod Suffixes
 pub mod Parts
+pub mod Statements
+pub mod Program
 
 -- ── outcomes: sound is what holds if it is done ──
 

@@ -30,7 +30,6 @@ use Rattle.sifc_trip.specs.Round.Statements.{ends-true, other-not}
 use Rattle.sifc_trip.specs.Round.Statements.Blocks.{primNode}
 use Rattle.sifc_trip.specs.Round.Sound.{Win, win-then, win-map, win-any, win-if, win-when, made-at, made-from, pushed, Kept, throw-sound, consume-sound, expect-sound, push-sound, Reads}
 use Rattle.sifc_trip.specs.Round.Sound.Suffixes.{separator-sound, walkers-sound}
-pub mod Every
 
 module _ (c : Ctx) where
   -- a token of the kind of a name was taken

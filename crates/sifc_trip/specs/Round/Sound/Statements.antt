@@ -29,7 +29,6 @@ use Rattle.sifc_trip.specs.Round.{true-of, and-l, and-r, or-l, or-r, era
 use Rattle.sifc_trip.specs.Round.Statements.Blocks.{primNode, loads-prims, blockLabs, in-level, levelled}
 use Rattle.sifc_trip.specs.Round.Sound.{Win, win-then, win-map, win-any, win-if, win-when, made-at, made-from, pushed, Kept, throw-sound, consume-sound, expect-sound, push-sound, top-kind}
 use Rattle.sifc_trip.specs.Round.Sound.Parts.{Named, ident-sound, store-sound, bind-sound, Declared, declare-sound, Expressed, ReadsExpr, expr-sound, Valued, initial-sound, NameNode, identNode-sound, Params, params-sound}
-pub mod Program
 
 -- ── the return that is inserted ──
 

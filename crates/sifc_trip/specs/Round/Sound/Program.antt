@@ -22,7 +22,7 @@ use Rattle.sifc_trip.specs.Typed.{Stmt, Stmts, stop, next, counted, prPr
 use Rattle.sifc_trip.specs.Round.{Res, Fairs, In, Stands, labelled, Made, made-none, made-then, made-push}
 use Rattle.sifc_trip.specs.Round.Program.{ReadAs, walk-eq, program-read}
 use Rattle.sifc_trip.specs.Round.Sound.{Win, win-then, win-map, win-any, win-if, win-when, pushed, push-sound}
-use Rattle.sifc_trip.specs.Round.Sound.Parts.Every.{Declares, declaration-sound}
+use Rattle.sifc_trip.specs.Round.Sound.Statements.{Declares, declaration-sound}
 
 module _ (c : Ctx) (Good : W → Type 0) (good : (i : ℕ) → Good (wordAt c i)) where
   -- a top-level declaration: what it is if it did not fail
