@@ -27,6 +27,7 @@ pub record Token′ (c : Ctx) (x : W) : Type 0 where
   pub place : ℕ
   pub is : wordAt c place ≡ x
 
+-- a typed program whose words are the script's tokens
 abbrev pub Typed′ : Ctx → End → St → Type 0
 Typed′ c e s = IsProgram c (Token′ c) (λ i. record { place = i; is = refl }) e s
 

@@ -24,6 +24,7 @@ use Rattle.sifc_trip.specs.Round.Steps.{first, Pre, Ahead, Got, test, se
 use Rattle.sifc_trip.specs.Round.Statements.Blocks.{declStarters, start-decl, member-test, Follow, follow-decls, prSs-length}
 use Rattle.sifc_trip.specs.Round.Statements.Blocks.Every.{declaration-read}
 
+-- no `if` goes on with the script's end
 follow-end : Follow (eofWord ∷ [])
 unfolding Follow
 follow-end = (refl, refl)
@@ -36,6 +37,7 @@ module _ (c : Ctx) where
   settled-ok n (fail e s) P h = absurd h
   settled-ok n (refuse r) P h = h
 
+  -- a declaration that is read is no failure at the top
   top-ok : (d : Void) (s : St) (P : St → Type 0) → Res (d s) (λ u. P) → Res (topDecl c d s) (λ v s. (v ≡ none) × P s)
   unfolding topDecl go-on
   top-ok d s P h = settled-ok (length (s .nodes)) (d s) P h
@@ -45,6 +47,7 @@ module _ (c : Ctx) where
     pub down : e ≡ end false none
     pub made : Made c L ns (s .nodes)
 
+  -- the Program node
   end-ok : (n : ℕ) (s : St) (L : List Lab) (ns : List Node) → Made c L ns (s .nodes) → Res (endRead c n false none s) (Ended (bare Program false n ∷ L) ns)
   unfolding endRead Res scopeOf textOf hasToken member if_then_else_ go-on
   end-ok n s L ns m =
@@ -52,6 +55,7 @@ module _ (c : Ctx) where
       (push-ok c Program false n 0 s (λ u s₁. Made c (bare Program false n ∷ L) ns (s₁ .nodes)) (made-push refl m))
       (λ u s₁ h. record { down = refl; made = h })
 
+  -- no declaration begins with the script's end
   not-eof : (t : Stmt) (E : List Sym) (rest : List W) (s : St) → OkS 0 E t → Ahead c 0 E true (prS t rest) s → eqb (tokAt c (s .at) .kind) Eof ≡ false
   unfolding member
   not-eof t E rest s k p = test (λ n. eqb n Eof) false p (member-test (first (prS t rest) .kind) Eof declStarters (start-decl t c 0 E rest k) tt)
