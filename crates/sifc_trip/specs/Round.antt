@@ -2,30 +2,23 @@
 use Prim.Native.Nat.{ℕ, zero, suc, _+_, _-_, _≤_, _<_}
 use mathlib.Core.Path.{_≡_, refl, sym, ap, ap₂, _∙_, subst}
 use mathlib.Core.Logic.{_≢_}
-use mathlib.Core.List.{List, [], _∷_, _++_, map, append-assoc, append-nil}
+use mathlib.Core.List.{List, [], _∷_, _++_, map, append-assoc}
 use mathlib.Core.Option.{Option, none, some}
 use mathlib.Core.Bool.{Bool, true, false, _&&_, _||_, not}
 use native.Mathlib.Omega.{arith}
-use native.Mathlib.Nat.{not-suc-le-zero}
-use lib.Dec.{T, eqb, leb, ltb, eqb→eq, leb→le}
-use lib.ListN.{take, drop, length, getD, length-drop, length-map, length-append}
+use lib.Dec.{T, eqb, leb, eqb→eq, leb→le}
+use lib.ListN.{length, getD, length-append}
 use lib.Seq.{take-append-seam, drop-append-add}
-use Rattle.sifc_err.specs.declared.Token.{Token}
 use Rattle.sifc_err.specs.declared.Refusal.{Refusal}
-use Rattle.sifc_err.specs.declared.Refusal.the-variants.{NodesFull, SymbolsFull, ErrorsFull}
 use Rattle.sifc_err.specs.Refusal.{numberOf}
-use Rattle.sifc_lex.specs.Base.{if_then_else_, member, same, part}
-use Rattle.sifc_lex.specs.Kind.{Percent, Star, Slash, Plus, Minus, Lt, LtEq, Gt, GtEq, BangEq, EqEq, AmpAmp, PipePipe, Ident, Str, Val, True, False, Eof, LexPanic}
-use Rattle.sifc_lex.specs.Lex.{token}
-use Rattle.sifc_def.specs.declared.Err.{Err}
-use Rattle.sifc_def.specs.declared.Why.{Why}
+use Rattle.sifc_lex.specs.Base.{if_then_else_, member, same}
+use Rattle.sifc_lex.specs.Kind.{Ident}
 use Rattle.sifc_def.specs.declared.What.{What}
 use Rattle.sifc_def.specs.declared.What.the-variants.{Placeholder, Function, Variable, Other}
-use Rattle.sifc_def.specs.State.{Node, node, Sym, Ctx, St, Out, done, fail, refuse, M, Void, go-on, W, nameOf, wordIn, tokAt, wordAt, nameAt, here, kindNow, arrive, consume, list, addErrorWPos, addError, expect, matchIdent, orThrow, ident, push, without}
-use Rattle.sifc_def.specs.Symbols.{isSym, findAt, find, putAt, store}
-use Rattle.sifc_def.specs.Expr.{looseness, isUnary, isLiteral, fuel}
-use Rattle.sifc_def.specs.Label.{Lab, lab, hasToken, scopeOf, textOf, label}
-use Rattle.sifc_trip.specs.Typed.{Expr, prim, un, bin, call, dot, idx, set, mut, Exprs, nil, more, word, lp, rp, rb, eq, height, wrap, between, pr, prs, isSome, wants}
+use Rattle.sifc_def.specs.State.{Node, node, Sym, Ctx, St, Out, done, fail, refuse, M, go-on, W, nameOf, wordAt, without}
+use Rattle.sifc_def.specs.Symbols.{isSym, findAt, find, putAt}
+use Rattle.sifc_def.specs.Label.{Lab, label}
+use Rattle.sifc_trip.specs.Typed.{isSome, wants}
 pub mod Steps
 pub mod Levels
 pub mod Statements

@@ -1,15 +1,15 @@
 -- The two halves meet in the typed program: a script read with the flag down, and any script whose tokens have the words of its print.
-use Prim.Native.Nat.{ℕ, zero, suc}
-use mathlib.Core.Path.{_≡_, refl, sym, ap, _∙_, subst}
-use mathlib.Core.List.{List, [], _∷_, map}
-use mathlib.Core.Bool.{Bool, true, false, not}
+use Prim.Native.Nat.{ℕ}
+use mathlib.Core.Path.{_≡_, refl, sym, _∙_, subst}
+use mathlib.Core.List.{List, map}
+use mathlib.Core.Bool.{false, not}
 use lib.Dec.{T, eqb}
 use Rattle.sifc_lex.specs.Kind.{LexPanic}
-use Rattle.sifc_def.specs.State.{Node, Ctx, St, Out, done, fail, refuse, W, wordIn, tokAt, wordAt}
-use Rattle.sifc_def.specs.Label.{Lab, labels}
-use Rattle.sifc_def.specs.Walk.{End, end, walk}
-use Rattle.sifc_trip.specs.Typed.{Stmts, prProgram, rencProgram, OkProgram, SaidSs}
-use Rattle.sifc_trip.specs.Round.{ofSize, Res, labelled}
+use Rattle.sifc_def.specs.State.{Ctx, St, Out, done, W, wordIn, tokAt, wordAt}
+use Rattle.sifc_def.specs.Label.{Lab}
+use Rattle.sifc_def.specs.Walk.{End, walk}
+use Rattle.sifc_trip.specs.Typed.{Stmts, prProgram, rencProgram, OkProgram}
+use Rattle.sifc_trip.specs.Round.{Res, labelled}
 use Rattle.sifc_trip.specs.Round.Program.{ReadAs, program-read}
 use Rattle.sifc_trip.specs.Round.Sound.{Win}
 use Rattle.sifc_trip.specs.Round.Sound.Program.{IsProgram, program-is-typed}

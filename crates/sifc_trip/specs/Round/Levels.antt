@@ -1,28 +1,27 @@
 -- Completeness of expressions: an expression's words are read as that expression, or a refusal of depth or room says otherwise.
-use Prim.Native.Nat.{ℕ, zero, suc, _+_, _-_, _≤_, _<_}
-use mathlib.Core.Path.{_≡_, refl, sym, ap, ap₂, _∙_, subst, subst₂}
+use Prim.Native.Nat.{ℕ, zero, suc, _≤_, _<_}
+use mathlib.Core.Path.{_≡_, refl, sym, ap, _∙_}
 use mathlib.Core.Logic.{_≢_}
-use mathlib.Core.List.{List, [], _∷_, _++_, map, append-assoc, append-nil}
+use mathlib.Core.List.{List, [], _∷_}
 use mathlib.Core.Option.{Option, none, some}
 use mathlib.Core.Bool.{Bool, true, false, _&&_, _||_, not}
 use native.Mathlib.Omega.{arith}
-use native.Mathlib.Nat.{zero-add, le-trans, not-suc-le-zero}
-use lib.Dec.{T, eqb, leb, ltb, eqb→eq, leb→le, nleb→lt, eqb-refl, le→leb}
-use lib.ListN.{take, drop, length, getD}
-use Rattle.sifc_lex.specs.Base.{if_then_else_, member, part}
-use Rattle.sifc_lex.specs.Kind.{LeftParen, RightParen, LeftBracket, RightBracket, Eq, Period, Comma, Bang, Minus, At, Ident, Str, Val, True, False, Eof, LexPanic}
+use native.Mathlib.Nat.{le-trans, not-suc-le-zero}
+use lib.Dec.{T, eqb, leb, ltb, leb→le, nleb→lt, eqb-refl}
+use lib.ListN.{length}
+use Rattle.sifc_lex.specs.Base.{if_then_else_, member}
+use Rattle.sifc_lex.specs.Kind.{LeftParen, RightParen, LeftBracket, Eq, Period, Bang, Minus, Ident, Str, Val, True, False, Eof}
 use Rattle.sifc_lex.specs.Reserved.{isStdLibFn}
 use Rattle.sifc_def.specs.declared.What.{What}
-use Rattle.sifc_def.specs.declared.What.the-variants.{Placeholder, Function, Variable, Other}
-use Rattle.sifc_def.specs.Ast.{TableAccess, ArrayAccess, ArrayMutExpr, FnCallExpr, VarAssignExpr, BinaryExpr, UnaryExpr, PrimaryExpr}
-use Rattle.sifc_def.specs.State.{Node, node, Sym, Ctx, St, Out, done, fail, refuse, M, Void, go-on, _>>=_, _>>_, return, ok, when, W, nameOf, wordIn, tokAt, wordAt, nameAt, here, kindNow, consume, expect, push, setNodes, without}
-use Rattle.sifc_def.specs.Symbols.{find, retrieve, setCheck}
-use Rattle.sifc_def.specs.Label.{Lab, lab, hasToken, scopeOf, textOf, label}
+use Rattle.sifc_def.specs.Ast.{BinaryExpr, UnaryExpr, PrimaryExpr}
+use Rattle.sifc_def.specs.State.{Node, node, Sym, Ctx, St, done, Void, go-on, _>>=_, ok, W, nameOf, nameAt, push}
+use Rattle.sifc_def.specs.Symbols.{find, retrieve}
+use Rattle.sifc_def.specs.Label.{hasToken, scopeOf, textOf}
 use Rattle.sifc_def.specs.Walk.{walkers}
-use Rattle.sifc_def.specs.Expr.{Rec, fnParamMaxLen, looseness, isUnary, isLiteral, fuel, operators, levels, literal, known, checkName, identExpr, assignExpr, unaryExpr, groupExpr, primaryExpr, postfix, fnCallExpr}
-use Rattle.sifc_trip.specs.Typed.{Expr, prim, un, bin, call, dot, idx, set, mut, Exprs, nil, more, many, word, lp, rp, lb, rb, eq, period, comma, height, wrap, between, pr, prs, bare, said, primLab, renc, rencs, ends, endss, isSome, wants, seen, fine, callable, Ok, Oks}
-use Rattle.sifc_trip.specs.Round.{true-of, not-eqb, at-kind, and-l, and-r, or-l, or-r, or-case, All, in-cases, ofSize, Res, and-then, yes-then, no-else, res-map, erase, isSome-erase, looks, labelled, Made, made-none, made-then, made-push}
-use Rattle.sifc_trip.specs.Round.Steps.{first, Pre, Ahead, Got, now, kind-now, test, later, sees-length, stepped, pushed, consume-eq, expect-eq, push-ok, loose-le, loose-end, loose-not, unary-end, wrap-length, between-length, pr-length, prs-length}
+use Rattle.sifc_def.specs.Expr.{Rec, looseness, isUnary, isLiteral, fuel, operators, levels, literal, known, checkName, identExpr, assignExpr, unaryExpr, groupExpr, primaryExpr, postfix, fnCallExpr}
+use Rattle.sifc_trip.specs.Typed.{Expr, prim, un, bin, lp, rp, rb, height, wrap, pr, said, primLab, renc, ends, isSome, seen, fine, Ok}
+use Rattle.sifc_trip.specs.Round.{true-of, not-eqb, and-l, and-r, or-l, or-r, or-case, All, in-cases, ofSize, Res, and-then, yes-then, no-else, isSome-erase, looks, Made, made-none, made-then, made-push}
+use Rattle.sifc_trip.specs.Round.Steps.{first, Ahead, Got, now, kind-now, test, later, sees-length, stepped, pushed, consume-eq, expect-eq, push-ok, loose-end, loose-not, unary-end, wrap-length, pr-length}
 pub mod Suffixes
 
 -- the kinds of a single token, and of what an expression begins with

@@ -1,26 +1,24 @@
 -- Completeness of programs: a script whose words are those of a program is read as that program, flag down, or a refusal 6 to 9 says otherwise.
-use Prim.Native.Nat.{ℕ, zero, suc, _+_, _≤_, _<_}
-use mathlib.Core.Path.{_≡_, refl, sym, ap, ap₂, _∙_, subst, subst₂}
+use Prim.Native.Nat.{ℕ, zero, suc, _+_, _≤_}
+use mathlib.Core.Path.{_≡_, refl, sym, ap, ap₂, _∙_, subst₂}
 use mathlib.Core.List.{List, [], _∷_, _++_, map, append-assoc, append-nil}
-use mathlib.Core.Option.{Option, none, some}
-use mathlib.Core.Bool.{Bool, true, false, _&&_, _||_, not}
+use mathlib.Core.Option.{none}
+use mathlib.Core.Bool.{true, false}
 use native.Mathlib.Omega.{arith}
 use native.Mathlib.Nat.{zero-add, add-zero, not-suc-le-zero}
-use lib.Dec.{T, eqb}
+use lib.Dec.{eqb}
 use lib.ListN.{length}
 use Rattle.sifc_lex.specs.Base.{if_then_else_, member}
-use Rattle.sifc_lex.specs.Kind.{Elif, Else, Eof, LexPanic}
-use Rattle.sifc_def.specs.declared.Err.{Err}
+use Rattle.sifc_lex.specs.Kind.{Eof, LexPanic}
 use Rattle.sifc_def.specs.Ast.{Program}
-use Rattle.sifc_def.specs.Error.{continuable}
-use Rattle.sifc_def.specs.State.{Node, node, Sym, Ctx, St, Out, done, fail, refuse, M, Void, go-on, W, wordIn, tokAt, arrive, push}
-use Rattle.sifc_def.specs.Label.{Lab, lab, hasToken, scopeOf, textOf, label}
+use Rattle.sifc_def.specs.State.{Node, Sym, Ctx, St, Out, done, fail, refuse, Void, go-on, W, wordIn, tokAt, arrive, push}
+use Rattle.sifc_def.specs.Label.{Lab, hasToken, scopeOf, textOf}
 use Rattle.sifc_def.specs.Expr.{fuel}
 use Rattle.sifc_def.specs.Stmt.{decl}
 use Rattle.sifc_def.specs.Walk.{End, end, start, walkers, settled, topDecl, endRead, program, walk}
-use Rattle.sifc_trip.specs.Typed.{Stmt, Stmts, stop, next, counted, eofWord, prS, prSs, prProgram, bare, rencS, rencSs, rencProgram, envS, envSs, OkS, OkSs, OkProgram}
-use Rattle.sifc_trip.specs.Round.{ofSize, Res, and-then, yes-then, no-else, res-map, Fairs, In, labelled, Made, made-none, made-then, made-push}
-use Rattle.sifc_trip.specs.Round.Steps.{first, Pre, Ahead, Got, test, sees-length, push-ok}
+use Rattle.sifc_trip.specs.Typed.{Stmt, Stmts, stop, next, counted, eofWord, prS, prSs, prProgram, bare, rencS, rencSs, rencProgram, envS, OkS, OkSs, OkProgram}
+use Rattle.sifc_trip.specs.Round.{Res, and-then, yes-then, no-else, res-map, Fairs, labelled, Made, made-none, made-then, made-push}
+use Rattle.sifc_trip.specs.Round.Steps.{first, Ahead, Got, test, sees-length, push-ok}
 use Rattle.sifc_trip.specs.Round.Statements.Blocks.{declStarters, start-decl, member-test, Follow, follow-decls, prSs-length}
 use Rattle.sifc_trip.specs.Round.Statements.Blocks.Every.{declaration-read}
 

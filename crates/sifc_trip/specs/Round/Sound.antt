@@ -1,30 +1,26 @@
 -- Soundness of expressions: whatever the walk reads without failing is an expression that the writer writes.
-use Prim.Native.Nat.{ℕ, zero, suc, _+_, _-_, _≤_, _<_}
-use mathlib.Core.Path.{_≡_, refl, sym, ap, ap₂, _∙_, subst, subst₂}
-use mathlib.Core.Logic.{_≢_}
-use mathlib.Core.List.{List, [], _∷_, _++_, map, append-assoc, append-nil}
+use Prim.Native.Nat.{ℕ, zero, suc}
+use mathlib.Core.Path.{_≡_, refl, sym, ap, _∙_, subst}
+use mathlib.Core.List.{List, _∷_}
 use mathlib.Core.Option.{Option, none, some}
-use mathlib.Core.Bool.{Bool, true, false, _&&_, _||_, not}
+use mathlib.Core.Bool.{Bool, true, false, _||_, not}
 use native.Mathlib.Omega.{arith}
-use native.Mathlib.Nat.{zero-add, le-trans, not-suc-le-zero}
-use lib.Dec.{T, eqb, leb, ltb, eqb→eq, leb→le, nleb→lt, eqb-refl, le→leb}
-use lib.ListN.{take, drop, length, getD}
-use Rattle.sifc_lex.specs.Base.{if_then_else_, member, part}
-use Rattle.sifc_lex.specs.Kind.{LeftParen, RightParen, LeftBracket, RightBracket, Eq, Period, Comma, Bang, Minus, At, Ident, Str, Val, True, False, Eof, LexPanic}
+use lib.Dec.{T, eqb, ltb, eqb→eq}
+use lib.ListN.{length}
+use Rattle.sifc_lex.specs.Base.{if_then_else_, member}
+use Rattle.sifc_lex.specs.Kind.{LeftParen, RightParen, At, Ident, Eof, LexPanic}
 use Rattle.sifc_lex.specs.Reserved.{isStdLibFn}
 use Rattle.sifc_def.specs.declared.What.{What}
-use Rattle.sifc_def.specs.declared.What.the-variants.{Placeholder, Function, Variable, Other}
 use Rattle.sifc_def.specs.Ast.{TableAccess, ArrayAccess, ArrayMutExpr, FnCallExpr, VarAssignExpr, BinaryExpr, UnaryExpr, PrimaryExpr}
-use Rattle.sifc_def.specs.State.{Node, node, Sym, Ctx, St, Out, done, fail, refuse, M, Void, go-on, _>>=_, _>>_, return, ok, when, W, nameOf, wordIn, tokAt, wordAt, nameAt, here, kindNow, consume, expect, push, setNodes, without}
-use Rattle.sifc_def.specs.Symbols.{find, retrieve, setCheck}
-use Rattle.sifc_def.specs.Label.{Lab, lab, hasToken, scopeOf, textOf, label}
-use Rattle.sifc_def.specs.Walk.{walkers}
+use Rattle.sifc_def.specs.State.{Node, node, Sym, Ctx, St, Out, done, fail, refuse, M, Void, go-on, W, nameOf, tokAt, wordAt, nameAt, consume, expect, push}
+use Rattle.sifc_def.specs.Symbols.{find, retrieve}
+use Rattle.sifc_def.specs.Label.{Lab, hasToken, scopeOf, textOf}
 use Rattle.sifc_def.specs.declared.Err.{Err}
 use Rattle.sifc_def.specs.declared.Why.{Why}
-use Rattle.sifc_def.specs.State.{arrive, panicAt, list, raise, addErrorWPos, addError, throw, throwPast}
-use Rattle.sifc_def.specs.Expr.{Rec, fnParamMaxLen, looseness, isUnary, isLiteral, fuel, operators, levels, assignVar, assignToken, assignArray, assignNothing, assignTo, separator, paramList, single, callCounted, callDeclared, callName, isNamed, callNamed, literal, known, checkName, identExpr, assignExpr, unaryExpr, groupExpr, atExpr, primaryExpr, callPart, dot as dotPart, index as indexPart, postfix, fnCallExpr}
-use Rattle.sifc_trip.specs.Typed.{Expr, prim, un, bin, call, dot, idx, set, mut, Exprs, nil, more, many, bare, said, primLab, renc, rencs, ends, endss, isSome, wants, seen, fine, callable, Ok, Oks, Said, Saids}
-use Rattle.sifc_trip.specs.Round.{true-of, false-of, at-kind, and-l, and-r, and-in, or-l, or-r, or-case, erase, isSome-erase, wants-erase, In, Stands, looks, find-fair, ident-name, map-append, labelled, Made, made-none, made-then, made-push, taken-out, Newest, newest, topOf}
+use Rattle.sifc_def.specs.State.{arrive, panicAt, raise, addError, throw, throwPast}
+use Rattle.sifc_def.specs.Expr.{Rec, looseness, isUnary, isLiteral, fuel, operators, levels, literal, known, checkName, identExpr, unaryExpr, groupExpr, atExpr, primaryExpr}
+use Rattle.sifc_trip.specs.Typed.{Expr, prim, un, bin, call, dot, idx, set, mut, renc, ends, isSome, seen, fine, Ok, Said}
+use Rattle.sifc_trip.specs.Round.{and-in, or-l, or-r, isSome-erase, Stands, looks, labelled, Made, made-none, made-then, made-push, Newest, newest, topOf}
 pub mod Suffixes
 pub mod Parts
 pub mod Statements
@@ -130,11 +126,6 @@ module _ (c : Ctx) where
   pub push-sound : (k : ℕ) (f : Bool) (n q : ℕ) (s : St) (Q : Unit {0} → St → Type 0) → Q tt (pushed k f n q s) → Win (push c k f n q s) Q
   unfolding push Win
   push-sound k f n q s Q h = win-when (ltb (length (s .nodes)) (c .nodeRoom)) _ _ Q (λ t. h) (λ t. tt)
-
-  -- a label's token, where its kind has one
-  text-of : (n : Node) (x : W) → n .kind ≡ PrimaryExpr → labelled c n ≡ primLab x → wordAt c (n .pay) .text ≡ x .text
-  unfolding textOf hasToken member if_then_else_
-  text-of n x k e = let z : textOf (c .script) (c .toks) n ≡ x .text = ap (λ (y : Lab). y .text) e in rw (at-kind (λ m. hasToken m ≡ true) (n .kind) PrimaryExpr k refl) at z
 
   -- the newest node has the newest label
   top-lab : {L : Lab} {ls : List Lab} {ns ns′ : List Node} → Made c (L ∷ ls) ns ns′ → labelled c (topOf ns′) ≡ L

@@ -1,31 +1,28 @@
 -- Completeness of declarations and statements, the parts: variables, arrays, tables, names that are bound.
-use Prim.Native.Nat.{ℕ, zero, suc, _+_, _-_, _≤_, _<_}
+use Prim.Native.Nat.{ℕ, zero, suc, _+_, _≤_}
 use mathlib.Core.Path.{_≡_, refl, sym, ap, ap₂, _∙_, subst, subst₂}
-use mathlib.Core.List.{List, [], _∷_, _++_, map, append-assoc, append-nil, reverse, reverseAux, reverseAux-eq, reverse-reverse}
-use mathlib.Core.Option.{Option, none, some}
-use mathlib.Core.Bool.{Bool, true, false, _&&_, _||_, not}
+use mathlib.Core.List.{List, [], _∷_, _++_, map}
+use mathlib.Core.Bool.{Bool, true, false}
 use native.Mathlib.Omega.{arith}
-use native.Mathlib.Nat.{zero-add, le-trans, not-suc-le-zero}
-use lib.Dec.{T, eqb, leb, ltb, eqb→eq, leb→le, nleb→lt, eqb-refl, le→leb}
-use lib.ListN.{take, drop, length, getD, length-reverse, length-map}
-use lib.Seq.{take-append-seam}
-use Rattle.sifc_lex.specs.Base.{if_then_else_, member, part}
-use Rattle.sifc_lex.specs.Kind.{LeftParen, RightParen, LeftBrace, RightBrace, LeftBracket, RightBracket, Semicolon, Eq, Comma, EqArrow, DoubleLeftBracket, DoubleRightBracket, Ident, Var, Fn, Return, If, Elif, Else, For, In as InKind, Eof}
-use Rattle.sifc_def.specs.declared.Why.{Why}
-use Rattle.sifc_def.specs.declared.Why.the-variants.{InvalidTknMsg, InvalidIfStmt, ExpectedIdent}
+use native.Mathlib.Nat.{zero-add, not-suc-le-zero}
+use lib.Dec.{T, eqb, eqb-refl}
+use lib.ListN.{length}
+use Rattle.sifc_lex.specs.Base.{if_then_else_, member}
+use Rattle.sifc_lex.specs.Kind.{LeftParen, LeftBracket, RightBracket, Semicolon, Eq, Comma, EqArrow, DoubleLeftBracket, DoubleRightBracket, Ident, Eof}
+use Rattle.sifc_def.specs.declared.Why.the-variants.{InvalidTknMsg, ExpectedIdent}
 use Rattle.sifc_def.specs.declared.What.{What}
-use Rattle.sifc_def.specs.declared.What.the-variants.{Placeholder, Function, Variable, Other}
-use Rattle.sifc_def.specs.Ast.{Block, IfStmt, ElifStmt, ForStmt, ReturnStmt, ExprStmt, VarDecl, FnDecl, FnParams, IdentPair, ItemList, TableItem, Table, Array, ArrayItems, PrimaryExpr}
-use Rattle.sifc_def.specs.State.{Node, node, Sym, Ctx, St, Out, done, fail, refuse, M, Void, go-on, _>>=_, _>>_, return, ok, when, W, nameOf, wordIn, tokAt, wordAt, nameAt, here, kindNow, consume, addErrorWPos, addError, list, expect, optional, ident, push, loads}
-use Rattle.sifc_def.specs.Symbols.{find, putAt, store, setLevel, initScope, closeScope}
-use Rattle.sifc_def.specs.Label.{Lab, lab, hasToken, scopeOf, textOf, label}
+use Rattle.sifc_def.specs.declared.What.the-variants.{Variable, Other}
+use Rattle.sifc_def.specs.Ast.{VarDecl, ItemList, TableItem, Table, Array, ArrayItems, PrimaryExpr}
+use Rattle.sifc_def.specs.State.{Node, Sym, Ctx, St, M, go-on, return, W, nameOf, wordAt, nameAt, optional, push}
+use Rattle.sifc_def.specs.Symbols.{putAt, store}
+use Rattle.sifc_def.specs.Label.{Lab, hasToken, scopeOf, textOf}
 use Rattle.sifc_def.specs.Walk.{walkers}
-use Rattle.sifc_def.specs.Expr.{Rec, fnParamMaxLen, looseness, fuel, separator, paramList}
-use Rattle.sifc_def.specs.Stmt.{bind, withReturn, identNode, param, identPair, declareVar, arrayNodes, endIf, arrayItems, arrayDecl, tableItem, items, itemList, tableDecl, initial, varDecl}
-use Rattle.sifc_trip.specs.Typed.{Expr, prim, un, bin, call, dot, idx, set, mut, Exprs, nil, more, many, Items, noItem, item, manyItems, word, lp, rp, lb, rb, eq, comma, semi, arrow, dlb, drb, lbrace, varWord, between, betweenNames, betweenItems, pr, prs, prNames, prItems, bare, said, primLab, renc, rencs, rencNames, rencItems, rencArray, globalAt, ends, endss, seen, Ok, Oks, OkItems, OkNames, bound, declared, stored}
-use Rattle.sifc_trip.specs.Round.{true-of, not-eqb, not-leb, at-kind, and-l, and-r, or-r, ofSize, Res, and-then, yes-then, no-else, res-map, erased, In, in-stored, ident-name, labelled, Made, made-none, made-then, made-push}
-use Rattle.sifc_trip.specs.Round.Steps.{first, Pre, Ahead, Got, now, kind-now, test, later, stand, sees-length, stepped, pushed, storedAs, consume-eq, expect-eq, ident-eq, optional-yes, optional-no, push-ok, store-ok, pr-length, prs-length, between-length}
-use Rattle.sifc_trip.specs.Round.Levels.{Stop, starters}
+use Rattle.sifc_def.specs.Expr.{Rec, looseness, fuel}
+use Rattle.sifc_def.specs.Stmt.{bind, identNode, declareVar, arrayNodes, arrayItems, arrayDecl, tableItem, items, itemList, tableDecl}
+use Rattle.sifc_trip.specs.Typed.{Expr, prim, un, bin, call, dot, idx, set, mut, Exprs, nil, more, many, Items, noItem, item, manyItems, lb, rb, comma, semi, arrow, dlb, drb, lbrace, between, betweenItems, pr, prs, prItems, bare, said, renc, rencs, rencItems, rencArray, globalAt, ends, endss, seen, Ok, Oks, OkItems, bound, declared, stored}
+use Rattle.sifc_trip.specs.Round.{true-of, not-eqb, at-kind, Res, and-then, yes-then, no-else, res-map, erased, In, in-stored, ident-name, made-none, made-then, made-push}
+use Rattle.sifc_trip.specs.Round.Steps.{Ahead, Got, now, test, later, stand, sees-length, stepped, pushed, expect-eq, ident-eq, optional-yes, optional-no, push-ok, store-ok, pr-length, between-length}
+use Rattle.sifc_trip.specs.Round.Levels.{Stop}
 use Rattle.sifc_trip.specs.Round.Levels.Suffixes.{start-test, expression-read}
 pub mod Blocks
 
@@ -49,10 +46,6 @@ mutual
   pub endss-true : (es : Exprs) → endss true es ≡ true
   endss-true nil = refl
   endss-true (more e es) = ap (λ (b : Bool). endss b es) (ends-true e) ∙ endss-true es
-
--- what ends an expression in a statement
-abbrev pub enders : List ℕ
-enders = RightParen ∷ LeftBrace ∷ RightBracket ∷ Semicolon ∷ Comma ∷ DoubleRightBracket ∷ []
 
 -- a token ends an expression if it is no operator and begins no suffix
 pub stop-of : (x : W) (rest : List W) → looseness (x .kind) ≡ 0 → eqb (x .kind) LeftParen ≡ false → eqb (x .kind) LeftBracket ≡ false → eqb (x .kind) 11 ≡ false → eqb (x .kind) Eq ≡ false → Stop (x ∷ rest)

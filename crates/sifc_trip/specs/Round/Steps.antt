@@ -1,29 +1,27 @@
 -- Completeness, the small steps: what stands ahead, and what consume, expect, push, store and the like do there.
-use Prim.Native.Nat.{ℕ, zero, suc, _+_, _-_, _≤_, _<_}
-use mathlib.Core.Path.{_≡_, refl, sym, ap, ap₂, _∙_, subst}
+use Prim.Native.Nat.{ℕ, zero, suc, _≤_, _<_}
+use mathlib.Core.Path.{_≡_, refl, ap, _∙_, subst}
 use mathlib.Core.Logic.{_≢_}
-use mathlib.Core.List.{List, [], _∷_, _++_, map}
-use mathlib.Core.Option.{Option, none, some}
-use mathlib.Core.Bool.{Bool, true, false, _&&_, _||_, not}
+use mathlib.Core.List.{List, [], _∷_, map}
+use mathlib.Core.Bool.{Bool, true, false}
 use native.Mathlib.Omega.{arith}
 use native.Mathlib.Nat.{not-suc-le-zero}
-use lib.Dec.{T, eqb, leb, ltb, eqb→eq, leb→le}
-use lib.ListN.{take, drop, length, getD, length-drop, length-map}
+use lib.Dec.{T, eqb, leb, ltb, eqb→eq}
+use lib.ListN.{drop, length, getD, length-drop, length-map}
 use Rattle.sifc_err.specs.declared.Token.{Token}
-use Rattle.sifc_err.specs.declared.Refusal.{Refusal}
 use Rattle.sifc_err.specs.declared.Refusal.the-variants.{NodesFull, SymbolsFull, ErrorsFull}
-use Rattle.sifc_lex.specs.Base.{if_then_else_, member, part}
+use Rattle.sifc_lex.specs.Base.{if_then_else_, member}
 use Rattle.sifc_lex.specs.Kind.{Percent, Star, Slash, Plus, Minus, Lt, LtEq, Gt, GtEq, BangEq, EqEq, AmpAmp, PipePipe, Ident, Eof, LexPanic}
 use Rattle.sifc_lex.specs.Lex.{token}
 use Rattle.sifc_def.specs.declared.Err.{Err}
 use Rattle.sifc_def.specs.declared.Why.{Why}
 use Rattle.sifc_def.specs.declared.What.{What}
-use Rattle.sifc_def.specs.State.{Node, node, Sym, Ctx, St, Out, done, fail, refuse, M, Void, go-on, W, nameOf, wordIn, tokAt, wordAt, nameAt, here, kindNow, arrive, consume, list, addErrorWPos, addError, expect, optional, matchIdent, orThrow, ident, push}
+use Rattle.sifc_def.specs.State.{Node, node, Sym, Ctx, St, Out, done, refuse, go-on, W, wordIn, tokAt, wordAt, nameAt, arrive, consume, list, expect, optional, matchIdent, orThrow, ident, push}
 use Rattle.sifc_def.specs.Symbols.{putAt, store}
 use Rattle.sifc_def.specs.Expr.{looseness, isUnary, fuel}
 use Rattle.sifc_def.specs.Label.{Lab}
-use Rattle.sifc_trip.specs.Typed.{Expr, prim, un, bin, call, dot, idx, set, mut, Exprs, nil, more, word, lp, rp, rb, eq, height, wrap, between, pr, prs}
-use Rattle.sifc_trip.specs.Round.{Res, and-then, ofSize, at-kind, In, Fairs, eraseSym, erased, in-stored, Made}
+use Rattle.sifc_trip.specs.Typed.{Expr, prim, un, bin, call, dot, idx, set, mut, Exprs, nil, more, word, rp, rb, eq, height, wrap, between, pr, prs}
+use Rattle.sifc_trip.specs.Round.{Res, ofSize, at-kind, In, Made}
 
 -- the first word, Eof where there is none
 abbrev pub first : List W → W

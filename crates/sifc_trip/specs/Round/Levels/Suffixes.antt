@@ -1,29 +1,28 @@
 -- Completeness of expressions, the rest: what goes on with a single token, assignments, and the whole expression.
-use Prim.Native.Nat.{ℕ, zero, suc, _+_, _-_, _≤_, _<_}
-use mathlib.Core.Path.{_≡_, refl, sym, ap, ap₂, _∙_, subst, subst₂}
-use mathlib.Core.Logic.{_≢_}
-use mathlib.Core.List.{List, [], _∷_, _++_, map, append-assoc, append-nil}
+use Prim.Native.Nat.{ℕ, zero, suc, _+_, _≤_}
+use mathlib.Core.Path.{_≡_, refl, sym, ap, _∙_, subst}
+use mathlib.Core.List.{List, [], _∷_, _++_}
 use mathlib.Core.Option.{Option, none, some}
-use mathlib.Core.Bool.{Bool, true, false, _&&_, _||_, not}
+use mathlib.Core.Bool.{Bool, true, false, _||_, not}
 use native.Mathlib.Omega.{arith}
-use native.Mathlib.Nat.{zero-add, le-trans, not-suc-le-zero}
-use lib.Dec.{T, eqb, leb, ltb, eqb→eq, leb→le, nleb→lt, eqb-refl, le→leb}
-use lib.ListN.{take, drop, length, getD}
-use Rattle.sifc_lex.specs.Base.{if_then_else_, member, part}
-use Rattle.sifc_lex.specs.Kind.{LeftParen, RightParen, LeftBracket, RightBracket, Eq, Period, Comma, Bang, Minus, At, Ident, Str, Val, True, False, Eof, LexPanic}
+use native.Mathlib.Nat.{zero-add, not-suc-le-zero}
+use lib.Dec.{T, eqb, leb, ltb, eqb→eq, leb→le}
+use lib.ListN.{length}
+use Rattle.sifc_lex.specs.Base.{if_then_else_, member}
+use Rattle.sifc_lex.specs.Kind.{LeftParen, RightParen, LeftBracket, RightBracket, Eq, Period, Comma, Bang, Minus, Ident, Str, Eof}
 use Rattle.sifc_lex.specs.Reserved.{isStdLibFn}
 use Rattle.sifc_def.specs.declared.What.{What}
 use Rattle.sifc_def.specs.declared.What.the-variants.{Placeholder, Function, Variable, Other}
-use Rattle.sifc_def.specs.Ast.{TableAccess, ArrayAccess, ArrayMutExpr, FnCallExpr, VarAssignExpr, BinaryExpr, UnaryExpr, PrimaryExpr}
-use Rattle.sifc_def.specs.State.{Node, node, Sym, Ctx, St, Out, done, fail, refuse, M, Void, go-on, _>>=_, _>>_, return, ok, when, W, nameOf, wordIn, tokAt, wordAt, nameAt, here, kindNow, consume, expect, push, setNodes, without}
+use Rattle.sifc_def.specs.Ast.{TableAccess, ArrayAccess, ArrayMutExpr, FnCallExpr, VarAssignExpr, PrimaryExpr}
+use Rattle.sifc_def.specs.State.{Node, node, Sym, Ctx, St, Void, go-on, W, nameOf, tokAt, wordAt, push, setNodes}
 use Rattle.sifc_def.specs.Symbols.{find, retrieve, setCheck}
-use Rattle.sifc_def.specs.Label.{Lab, lab, hasToken, scopeOf, textOf, label}
+use Rattle.sifc_def.specs.Label.{Lab, lab, hasToken, scopeOf, textOf}
 use Rattle.sifc_def.specs.Walk.{walkers}
-use Rattle.sifc_def.specs.Expr.{Rec, fnParamMaxLen, looseness, isUnary, isLiteral, fuel, levels, assignVar, assignToken, assignArray, assignTo, separator, paramList, single, callCounted, callDeclared, callName, isNamed, callNamed, assignExpr, callPart, dot as dotPart, index as indexPart, postfix, fnCallExpr}
-use Rattle.sifc_trip.specs.Typed.{Expr, prim, un, bin, call, dot, idx, set, mut, Exprs, nil, more, many, word, lp, rp, lb, rb, eq, period, comma, height, wrap, between, pr, prs, bare, said, primLab, renc, rencs, ends, endss, isSome, wants, seen, fine, callable, Ok, Oks}
-use Rattle.sifc_trip.specs.Round.{true-of, not-eqb, not-leb, at-kind, and-l, and-r, or-l, or-r, or-case, All, in-cases, ofSize, Res, and-then, yes-then, no-else, res-map, erase, wants-erase, isSome-erase, In, looks, find-fair, ident-name, map-append, labelled, Made, made-none, made-then, made-push, taken-out, Newest, newest, topOf}
-use Rattle.sifc_trip.specs.Round.Steps.{first, Pre, Ahead, Got, now, kind-now, test, later, stand, sees-length, stepped, pushed, consume-eq, expect-eq, push-ok, loose-le, loose-end, loose-not, unary-end, wrap-length, between-length, pr-length, prs-length}
-use Rattle.sifc_trip.specs.Round.Levels.{singles, starters, Calm, Stop, stop-rp, stop-rb, single-read, made-single, look, After, Has, fine-kind, after-single, to-call, descend, Level, Unary, Assign, Both, postfix-none, prim-unary, assign-low, un-unary, bin-level, bin-cps, by-call, both-low, both-high}
+use Rattle.sifc_def.specs.Expr.{looseness, isUnary, fuel, levels, assignVar, assignToken, assignArray, assignTo, separator, paramList, single, callCounted, callDeclared, callName, isNamed, callNamed, assignExpr, callPart, dot as dotPart, index as indexPart, postfix}
+use Rattle.sifc_trip.specs.Typed.{Expr, prim, un, bin, call, dot, idx, set, mut, Exprs, nil, more, many, lp, rp, lb, rb, eq, period, height, wrap, between, pr, prs, bare, primLab, renc, rencs, ends, endss, wants, seen, fine, callable, Ok, Oks}
+use Rattle.sifc_trip.specs.Round.{true-of, not-eqb, not-leb, at-kind, and-l, and-r, or-case, All, in-cases, ofSize, Res, and-then, yes-then, no-else, res-map, erase, wants-erase, In, looks, find-fair, ident-name, map-append, labelled, made-none, made-then, made-push, taken-out, Newest, newest, topOf}
+use Rattle.sifc_trip.specs.Round.Steps.{first, Ahead, Got, now, test, later, stand, sees-length, stepped, pushed, consume-eq, expect-eq, push-ok, loose-le, between-length, pr-length}
+use Rattle.sifc_trip.specs.Round.Levels.{singles, starters, Calm, Stop, stop-rb, single-read, made-single, look, After, Has, fine-kind, after-single, to-call, descend, Level, Unary, Assign, Both, postfix-none, prim-unary, assign-low, un-unary, bin-level, bin-cps, by-call, both-low, both-high}
 
 -- what stands between two arguments ends an argument
 stop-sep : (es : Exprs) (rest : List W) → Stop (between es (prs es (rp ∷ rest)))

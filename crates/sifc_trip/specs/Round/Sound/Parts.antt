@@ -1,31 +1,29 @@
 -- Soundness of declarations and statements, the parts: names, variables, arrays, tables, parameters.
-use Prim.Native.Nat.{ℕ, zero, suc, _+_, _-_, _≤_, _<_}
-use mathlib.Core.Path.{_≡_, refl, sym, ap, ap₂, _∙_, subst, subst₂}
-use mathlib.Core.List.{List, [], _∷_, _++_, map, append-assoc, append-nil, reverse, reverseAux, reverseAux-eq, reverse-reverse}
+use Prim.Native.Nat.{ℕ, zero, suc, _+_, _≤_}
+use mathlib.Core.Path.{_≡_, refl, sym, ap, _∙_, subst}
+use mathlib.Core.List.{List, [], _∷_, map, reverseAux}
 use mathlib.Core.Option.{Option, none, some}
-use mathlib.Core.Bool.{Bool, true, false, _&&_, _||_, not}
+use mathlib.Core.Bool.{Bool, true, false, not}
 use native.Mathlib.Omega.{arith}
-use native.Mathlib.Nat.{zero-add, le-trans, not-suc-le-zero}
-use lib.Dec.{T, eqb, leb, ltb, eqb→eq, leb→le, nleb→lt, eqb-refl, le→leb}
-use lib.ListN.{take, drop, length, getD, length-reverse, length-map}
-use lib.Seq.{take-append-seam}
-use Rattle.sifc_lex.specs.Base.{if_then_else_, member, part}
-use Rattle.sifc_lex.specs.Kind.{LeftParen, RightParen, LeftBrace, RightBrace, LeftBracket, RightBracket, Semicolon, Eq, Comma, EqArrow, DoubleLeftBracket, DoubleRightBracket, Ident, Var, Fn, Return, If, Elif, Else, For, In as InKind, Eof}
+use native.Mathlib.Nat.{zero-add}
+use lib.Dec.{T, eqb, leb, eqb→eq, nleb→lt}
+use lib.ListN.{length}
+use Rattle.sifc_lex.specs.Base.{if_then_else_, member}
+use Rattle.sifc_lex.specs.Kind.{RightParen, LeftBracket, RightBracket, Semicolon, Comma, EqArrow, DoubleLeftBracket, DoubleRightBracket, Ident, Eof}
 use Rattle.sifc_def.specs.declared.Why.{Why}
-use Rattle.sifc_def.specs.declared.Why.the-variants.{InvalidTknMsg, InvalidIfStmt, ExpectedIdent}
+use Rattle.sifc_def.specs.declared.Why.the-variants.{ExpectedIdent}
 use Rattle.sifc_def.specs.declared.What.{What}
-use Rattle.sifc_def.specs.declared.What.the-variants.{Placeholder, Function, Variable, Other}
-use Rattle.sifc_def.specs.Ast.{Block, IfStmt, ElifStmt, ForStmt, ReturnStmt, ExprStmt, VarDecl, FnDecl, FnParams, IdentPair, ItemList, TableItem, Table, Array, ArrayItems, PrimaryExpr}
-use Rattle.sifc_def.specs.State.{Node, node, Sym, Ctx, St, Out, done, fail, refuse, M, Void, go-on, _>>=_, _>>_, return, ok, when, W, nameOf, wordIn, tokAt, wordAt, nameAt, here, kindNow, consume, addErrorWPos, addError, list, expect, optional, ident, push, loads}
-use Rattle.sifc_def.specs.Symbols.{find, putAt, store, setLevel, initScope, closeScope}
-use Rattle.sifc_def.specs.Label.{Lab, lab, hasToken, scopeOf, textOf, label}
+use Rattle.sifc_def.specs.declared.What.the-variants.{Variable, Other}
+use Rattle.sifc_def.specs.Ast.{VarDecl, ItemList, TableItem, Table, Array, ArrayItems, PrimaryExpr}
+use Rattle.sifc_def.specs.State.{Node, node, Sym, Ctx, St, Void, go-on, W, tokAt, wordAt, nameAt, consume, addError, expect, optional, ident, push}
+use Rattle.sifc_def.specs.Symbols.{putAt, store}
+use Rattle.sifc_def.specs.Label.{Lab, hasToken, scopeOf, textOf}
 use Rattle.sifc_def.specs.Walk.{walkers}
-use Rattle.sifc_def.specs.Expr.{Rec, fnParamMaxLen, looseness, fuel, separator, paramList}
-use Rattle.sifc_def.specs.declared.Err.{Err}
-use Rattle.sifc_def.specs.State.{throw, matchIdent, orThrow}
-use Rattle.sifc_def.specs.Stmt.{bind, identNode, param, identPair, declareVar, arrayNodes, arrayItems, arrayDecl, tableItem, items, itemList, tableDecl, initial}
-use Rattle.sifc_trip.specs.Typed.{Expr, Exprs, nil, more, many, Items, noItem, item, manyItems, Stmt, varNone, varExpr, varArray, varTable, bare, said, primLab, renc, rencs, rencNames, rencItems, rencArray, globalAt, rencS, ends, seen, Ok, Oks, OkItems, OkNames, bound, declared, stored, envS, OkS, Said, Saids, SaidNames, SaidItems, SaidS}
-use Rattle.sifc_trip.specs.Round.{and-in, erased, In, Stands, in-stored, ident-name, labelled, Made, made-none, made-then, made-push}
+use Rattle.sifc_def.specs.Expr.{Rec, fuel, separator, paramList}
+use Rattle.sifc_def.specs.State.{matchIdent, orThrow}
+use Rattle.sifc_def.specs.Stmt.{bind, identNode, param, declareVar, arrayNodes, arrayItems, arrayDecl, tableItem, items, itemList, tableDecl, initial}
+use Rattle.sifc_trip.specs.Typed.{Expr, Exprs, nil, more, many, Items, noItem, item, manyItems, Stmt, varExpr, varArray, varTable, bare, said, renc, rencs, rencNames, rencItems, rencArray, globalAt, rencS, seen, Ok, Oks, OkItems, OkNames, bound, declared, stored, envS, OkS, Said, Saids, SaidNames, SaidItems, SaidS}
+use Rattle.sifc_trip.specs.Round.{erased, In, Stands, in-stored, ident-name, Made, made-none, made-then, made-push}
 use Rattle.sifc_trip.specs.Round.Statements.{ends-true, other-not}
 use Rattle.sifc_trip.specs.Round.Statements.Blocks.{primNode}
 use Rattle.sifc_trip.specs.Round.Sound.{Win, win-then, win-map, win-any, win-if, win-when, made-at, made-from, pushed, Kept, throw-sound, consume-sound, expect-sound, push-sound, Reads}

@@ -13,14 +13,14 @@ use Rattle.sifc_lex.specs.Kind.{Eof, LexPanic}
 use Rattle.sifc_def.specs.declared.Err.{Err}
 use Rattle.sifc_def.specs.Ast.{Program}
 use Rattle.sifc_def.specs.Error.{continuable}
-use Rattle.sifc_def.specs.State.{Node, node, Sym, Ctx, St, Out, done, fail, refuse, M, Void, go-on, W, wordIn, tokAt, wordAt, arrive, setNodes, push}
-use Rattle.sifc_def.specs.Label.{Lab, lab, hasToken, scopeOf, textOf, label}
+use Rattle.sifc_def.specs.State.{Node, node, Sym, Ctx, St, Out, done, fail, refuse, M, Void, go-on, W, tokAt, wordAt, arrive, setNodes, push}
+use Rattle.sifc_def.specs.Label.{Lab, hasToken, scopeOf, textOf}
 use Rattle.sifc_def.specs.Expr.{fuel}
 use Rattle.sifc_def.specs.Stmt.{decl}
 use Rattle.sifc_def.specs.Walk.{End, end, start, walkers, giveUp, settled, topDecl, endRead, program, walk}
-use Rattle.sifc_trip.specs.Typed.{Stmt, Stmts, stop, next, counted, prProgram, bare, rencS, rencSs, rencProgram, envS, envSs, OkS, OkSs, OkProgram, SaidS, SaidSs}
-use Rattle.sifc_trip.specs.Round.{Res, Fairs, In, Stands, labelled, Made, made-none, made-then, made-push}
-use Rattle.sifc_trip.specs.Round.Program.{ReadAs, walk-eq, program-read}
+use Rattle.sifc_trip.specs.Typed.{Stmts, stop, next, counted, bare, rencS, rencSs, rencProgram, envS, OkSs, OkProgram, SaidSs}
+use Rattle.sifc_trip.specs.Round.{Fairs, Stands, labelled, Made, made-none, made-then, made-push}
+use Rattle.sifc_trip.specs.Round.Program.{walk-eq}
 use Rattle.sifc_trip.specs.Round.Sound.{Win, win-then, win-map, win-any, win-if, win-when, pushed, push-sound}
 use Rattle.sifc_trip.specs.Round.Sound.Statements.{Declares, declaration-sound}
 

@@ -1,33 +1,30 @@
 -- Soundness of declarations and statements: whatever the walk reads without failing is a declaration that the writer writes.
-use Prim.Native.Nat.{ℕ, zero, suc, _+_, _-_, _≤_, _<_}
+use Prim.Native.Nat.{ℕ, zero, suc, _+_, _-_, _≤_}
 use mathlib.Core.Path.{_≡_, refl, sym, ap, ap₂, _∙_, subst, subst₂}
-use mathlib.Core.List.{List, [], _∷_, _++_, map, append-assoc, append-nil, reverse, reverseAux, reverseAux-eq, reverse-reverse}
-use mathlib.Core.Option.{Option, none, some}
+use mathlib.Core.List.{List, [], _∷_, _++_, map, append-assoc, reverse}
 use mathlib.Core.Bool.{Bool, true, false, _&&_, _||_, not}
 use native.Mathlib.Omega.{arith}
-use native.Mathlib.Nat.{zero-add, add-zero, le-trans, not-suc-le-zero}
-use lib.Dec.{T, eqb, leb, ltb, eqb→eq, leb→le, nleb→lt, eqb-refl, le→leb}
-use lib.ListN.{take, drop, length, getD, length-reverse, length-map}
-use lib.Seq.{take-append-seam}
-use Rattle.sifc_lex.specs.Base.{if_then_else_, member, part}
-use Rattle.sifc_lex.specs.Kind.{LeftParen, RightParen, LeftBrace, RightBrace, LeftBracket, RightBracket, Semicolon, Eq, Comma, EqArrow, DoubleLeftBracket, DoubleRightBracket, Ident, Var, Fn, Return, If, Elif, Else, For, In as InKind, Eof}
+use native.Mathlib.Nat.{zero-add, add-zero}
+use lib.Dec.{T, eqb, ltb}
+use lib.ListN.{take, length, length-map}
+use Rattle.sifc_lex.specs.Base.{if_then_else_, member}
+use Rattle.sifc_lex.specs.Kind.{LeftParen, RightParen, LeftBrace, RightBrace, Semicolon, Eq, Comma, Ident, Var, Fn, Return, If, Elif, Else, For, In as InKind, Eof}
 use Rattle.sifc_def.specs.declared.Why.{Why}
-use Rattle.sifc_def.specs.declared.Why.the-variants.{InvalidTknMsg, InvalidIfStmt, ExpectedIdent}
-use Rattle.sifc_def.specs.declared.What.{What}
-use Rattle.sifc_def.specs.declared.What.the-variants.{Placeholder, Function, Variable, Other}
-use Rattle.sifc_def.specs.Ast.{Block, IfStmt, ElifStmt, ForStmt, ReturnStmt, ExprStmt, VarDecl, FnDecl, FnParams, IdentPair, ItemList, TableItem, Table, Array, ArrayItems, PrimaryExpr}
-use Rattle.sifc_def.specs.State.{Node, node, Sym, Ctx, St, Out, done, fail, refuse, M, Void, go-on, _>>=_, _>>_, return, ok, when, W, nameOf, wordIn, tokAt, wordAt, nameAt, here, kindNow, consume, addErrorWPos, addError, list, expect, optional, ident, push, loads}
-use Rattle.sifc_def.specs.Symbols.{find, putAt, store, setLevel, initScope, closeScope}
-use Rattle.sifc_def.specs.Label.{Lab, lab, hasToken, scopeOf, textOf, label}
+use Rattle.sifc_def.specs.declared.Why.the-variants.{InvalidIfStmt, ExpectedIdent}
+use Rattle.sifc_def.specs.declared.What.the-variants.{Placeholder, Function}
+use Rattle.sifc_def.specs.Ast.{Block, IfStmt, ElifStmt, ForStmt, ReturnStmt, ExprStmt, VarDecl, FnDecl, FnParams, IdentPair}
+use Rattle.sifc_def.specs.State.{Node, node, Sym, Ctx, St, Void, go-on, _>>_, ok, W, tokAt, wordAt, nameAt, consume, addErrorWPos, addError, list, expect, ident, push}
+use Rattle.sifc_def.specs.Symbols.{putAt, store, setLevel, initScope, closeScope}
+use Rattle.sifc_def.specs.Label.{Lab, hasToken, scopeOf, textOf}
 use Rattle.sifc_def.specs.Walk.{walkers}
-use Rattle.sifc_def.specs.Expr.{Rec, fnParamMaxLen, looseness, fuel, separator, paramList}
+use Rattle.sifc_def.specs.Expr.{Rec, fuel, paramList}
 use Rattle.sifc_def.specs.declared.Err.{Err}
-use Rattle.sifc_def.specs.State.{err, throw}
+use Rattle.sifc_def.specs.State.{err}
 use Rattle.sifc_def.specs.Stmt.{bind, withReturn, identNode, param, identPair, declareVar, endIf, initial, varDecl, fnDecl, elifStmt, elseBlock, branches, ifStmt, forStmt, retStmt, exprStmt as exprPart, stmt, decl, decls, block as blockPart}
-use Rattle.sifc_trip.specs.Typed.{Expr, Exprs, Items, Stmt, varNone, varExpr, varArray, varTable, func, block, cond, loop, ret, retExpr, exprStmt, Stmts, stop, next, Branches, noBranch, elifOf, elseOf, counted, manyBranches, bare, said, primLab, blockLab, renc, rencNames, rencArray, globalAt, rencS, rencSs, rencBs, seen, Ok, OkNames, isReturn, returns, returnsLast, bound, declared, inside, envS, envSs, envBs, OkS, OkSs, OkBs, Said, SaidNames, SaidS, SaidSs, SaidBs}
-use Rattle.sifc_trip.specs.Round.{true-of, and-l, and-r, or-l, or-r, erased, In, Stands, labelled, Made, made-none, made-then, made-push, Newest, newest, topOf}
+use Rattle.sifc_trip.specs.Typed.{Expr, Stmt, varNone, varExpr, varArray, varTable, func, block, cond, loop, ret, retExpr, exprStmt, Stmts, stop, next, Branches, noBranch, elifOf, elseOf, counted, manyBranches, bare, said, primLab, blockLab, renc, rencArray, globalAt, rencS, rencSs, rencBs, seen, Ok, isReturn, returns, returnsLast, bound, declared, inside, envS, envSs, envBs, OkS, OkSs, OkBs, Said, SaidS, SaidSs, SaidBs}
+use Rattle.sifc_trip.specs.Round.{and-l, and-r, erased, Stands, Made, made-none, made-then, made-push, topOf}
 use Rattle.sifc_trip.specs.Round.Statements.Blocks.{primNode, loads-prims, blockLabs, in-level, levelled}
-use Rattle.sifc_trip.specs.Round.Sound.{Win, win-then, win-map, win-any, win-if, win-when, made-at, made-from, pushed, Kept, throw-sound, consume-sound, expect-sound, push-sound, top-kind}
+use Rattle.sifc_trip.specs.Round.Sound.{Win, win-then, win-map, win-if, win-when, made-at, made-from, pushed, Kept, throw-sound, consume-sound, expect-sound, push-sound, top-kind}
 use Rattle.sifc_trip.specs.Round.Sound.Parts.{Named, ident-sound, store-sound, bind-sound, Declared, declare-sound, Expressed, ReadsExpr, expr-sound, Valued, initial-sound, NameNode, identNode-sound, Params, params-sound}
 
 -- ── the return that is inserted ──

@@ -1,29 +1,28 @@
 -- Soundness of expressions, the rest: what follows a primary expression, assignments, and all the counted calls.
-use Prim.Native.Nat.{ℕ, zero, suc, _+_, _-_, _≤_, _<_}
+use Prim.Native.Nat.{ℕ, zero, suc, _+_, _-_, _≤_}
 use mathlib.Core.Path.{_≡_, refl, sym, ap, ap₂, _∙_, subst, subst₂}
-use mathlib.Core.Logic.{_≢_}
-use mathlib.Core.List.{List, [], _∷_, _++_, map, append-assoc, append-nil}
+use mathlib.Core.List.{List, [], _∷_, _++_}
 use mathlib.Core.Option.{Option, none, some}
 use mathlib.Core.Bool.{Bool, true, false, _&&_, _||_, not}
 use native.Mathlib.Omega.{arith}
-use native.Mathlib.Nat.{zero-add, le-trans, not-suc-le-zero}
-use lib.Dec.{T, eqb, leb, ltb, eqb→eq, leb→le, nleb→lt, eqb-refl, le→leb}
-use lib.ListN.{take, drop, length, getD}
-use Rattle.sifc_lex.specs.Base.{if_then_else_, member, part}
-use Rattle.sifc_lex.specs.Kind.{LeftParen, RightParen, LeftBracket, RightBracket, Eq, Period, Comma, Bang, Minus, At, Ident, Str, Val, True, False, Eof, LexPanic}
+use native.Mathlib.Nat.{zero-add}
+use lib.Dec.{T, eqb, leb, eqb→eq, nleb→lt, le→leb}
+use lib.ListN.{length}
+use Rattle.sifc_lex.specs.Base.{if_then_else_, member}
+use Rattle.sifc_lex.specs.Kind.{LeftParen, RightParen, LeftBracket, RightBracket, Eq, Period, Comma, Ident, Str, Eof}
 use Rattle.sifc_lex.specs.Reserved.{isStdLibFn}
 use Rattle.sifc_def.specs.declared.What.{What}
 use Rattle.sifc_def.specs.declared.What.the-variants.{Placeholder, Function, Variable, Other}
-use Rattle.sifc_def.specs.Ast.{TableAccess, ArrayAccess, ArrayMutExpr, FnCallExpr, VarAssignExpr, BinaryExpr, UnaryExpr, PrimaryExpr}
-use Rattle.sifc_def.specs.State.{Node, node, Sym, Ctx, St, Out, done, fail, refuse, M, Void, go-on, _>>=_, _>>_, return, ok, when, W, nameOf, wordIn, tokAt, wordAt, nameAt, here, kindNow, consume, expect, push, setNodes, without}
+use Rattle.sifc_def.specs.Ast.{TableAccess, ArrayAccess, ArrayMutExpr, FnCallExpr, VarAssignExpr, PrimaryExpr}
+use Rattle.sifc_def.specs.State.{Node, node, Sym, Ctx, St, Void, go-on, W, nameOf, tokAt, wordAt, nameAt, consume, expect, setNodes}
 use Rattle.sifc_def.specs.Symbols.{find, retrieve, setCheck}
-use Rattle.sifc_def.specs.Label.{Lab, lab, hasToken, scopeOf, textOf, label}
+use Rattle.sifc_def.specs.Label.{Lab, lab, hasToken, scopeOf, textOf}
 use Rattle.sifc_def.specs.Walk.{walkers}
-use Rattle.sifc_def.specs.State.{addErrorWPos, raise}
-use Rattle.sifc_def.specs.Expr.{Rec, fnParamMaxLen, fuel, levels, assignVar, assignToken, assignArray, assignNothing, assignTo, separator, paramList, single, callCounted, callDeclared, callName, isNamed, callNamed, assignExpr, unaryExpr, primaryExpr, callPart, dot as dotPart, index as indexPart, postfix, fnCallExpr}
-use Rattle.sifc_trip.specs.Typed.{Expr, prim, un, bin, call, dot, idx, set, mut, Exprs, nil, more, many, bare, said, primLab, renc, rencs, ends, endss, isSome, wants, seen, fine, callable, Ok, Oks, Said, Saids}
-use Rattle.sifc_trip.specs.Round.{true-of, false-of, and-l, and-r, and-in, or-l, or-r, wants-erase, In, Stands, looks, find-fair, ident-name, map-append, labelled, Made, made-none, made-then, made-push, taken-out, Newest, newest, topOf, erase}
-use Rattle.sifc_trip.specs.Round.Sound.{Win, win-then, win-map, win-any, win-if, made-at, made-from, pushed, checked, Kept, raise-sound, throw-sound, throwPast-sound, panic-sound, consume-sound, expect-sound, push-sound, Spelt, IsSingle, is-single, IsIndexed, is-indexed, look, Keeps, Reads, Sound, levels-sound, SoundRec, unary-sound, primary-sound}
+use Rattle.sifc_def.specs.State.{addErrorWPos}
+use Rattle.sifc_def.specs.Expr.{Rec, fuel, levels, assignVar, assignToken, assignArray, assignNothing, assignTo, separator, paramList, single, callCounted, callDeclared, callName, isNamed, callNamed, assignExpr, primaryExpr, callPart, dot as dotPart, index as indexPart, postfix, fnCallExpr}
+use Rattle.sifc_trip.specs.Typed.{Expr, call, dot, idx, set, mut, Exprs, nil, more, many, bare, primLab, renc, rencs, ends, endss, wants, seen, fine, callable, Ok, Oks, Said, Saids}
+use Rattle.sifc_trip.specs.Round.{true-of, false-of, and-l, and-r, and-in, or-l, or-r, wants-erase, Stands, looks, find-fair, ident-name, map-append, labelled, Made, made-none, made-then, made-push, taken-out, Newest, newest, topOf, erase}
+use Rattle.sifc_trip.specs.Round.Sound.{Win, win-then, win-map, win-any, win-if, made-at, pushed, checked, Kept, raise-sound, throw-sound, throwPast-sound, panic-sound, consume-sound, expect-sound, push-sound, Spelt, IsSingle, is-single, IsIndexed, is-indexed, Reads, Sound, levels-sound, SoundRec, unary-sound, primary-sound}
 
 module _ (c : Ctx) (Good : W → Type 0) (good : (i : ℕ) → Good (wordAt c i)) (l : ℕ) (E : List Sym) where
   -- an expression was read, as the sections above say it

@@ -1,33 +1,28 @@
 -- Completeness of declarations and statements: their words are read as them, or a refusal 6 to 9 says otherwise.
 use Prim.Native.Nat.{ℕ, zero, suc, _+_, _-_, _≤_, _<_}
-use mathlib.Core.Path.{_≡_, refl, sym, ap, ap₂, _∙_, subst, subst₂}
-use mathlib.Core.List.{List, [], _∷_, _++_, map, append-assoc, append-nil, reverse, reverseAux, reverseAux-eq, reverse-reverse}
-use mathlib.Core.Option.{Option, none, some}
-use mathlib.Core.Bool.{Bool, true, false, _&&_, _||_, not}
+use mathlib.Core.Path.{_≡_, refl, sym, ap, ap₂, _∙_, subst}
+use mathlib.Core.List.{List, [], _∷_, _++_, map, reverse, reverseAux, reverseAux-eq, reverse-reverse}
+use mathlib.Core.Bool.{Bool, true, false, _||_, not}
 use native.Mathlib.Omega.{arith}
-use native.Mathlib.Nat.{zero-add, le-trans, not-suc-le-zero}
-use lib.Dec.{T, eqb, leb, ltb, eqb→eq, leb→le, nleb→lt, eqb-refl, le→leb}
-use lib.ListN.{take, drop, length, getD, length-reverse, length-map}
+use native.Mathlib.Nat.{zero-add, not-suc-le-zero}
+use lib.Dec.{T, eqb, ltb, eqb→eq, le→leb}
+use lib.ListN.{take, length, length-reverse, length-map}
 use lib.Seq.{take-append-seam}
-use Rattle.sifc_lex.specs.Base.{if_then_else_, member, part}
-use Rattle.sifc_lex.specs.Kind.{LeftParen, RightParen, LeftBrace, RightBrace, LeftBracket, RightBracket, Semicolon, Eq, Comma, EqArrow, DoubleLeftBracket, DoubleRightBracket, Ident, Var, Fn, Return, If, Elif, Else, For, In as InKind, Eof}
-use Rattle.sifc_def.specs.declared.Why.{Why}
-use Rattle.sifc_def.specs.declared.Why.the-variants.{InvalidTknMsg, InvalidIfStmt, ExpectedIdent}
-use Rattle.sifc_def.specs.declared.What.{What}
-use Rattle.sifc_def.specs.declared.What.the-variants.{Placeholder, Function, Variable, Other}
-use Rattle.sifc_def.specs.Ast.{Block, IfStmt, ElifStmt, ForStmt, ReturnStmt, ExprStmt, VarDecl, FnDecl, FnParams, IdentPair, ItemList, TableItem, Table, Array, ArrayItems, PrimaryExpr}
-use Rattle.sifc_def.specs.State.{Node, node, Sym, Ctx, St, Out, done, fail, refuse, M, Void, go-on, _>>=_, _>>_, return, ok, when, W, nameOf, wordIn, tokAt, wordAt, nameAt, here, kindNow, consume, addErrorWPos, addError, list, expect, optional, ident, push, loads}
-use Rattle.sifc_def.specs.Symbols.{find, putAt, store, setLevel, initScope, closeScope}
-use Rattle.sifc_def.specs.Label.{Lab, lab, hasToken, scopeOf, textOf, label}
+use Rattle.sifc_lex.specs.Base.{if_then_else_, member}
+use Rattle.sifc_lex.specs.Kind.{LeftBrace, RightBrace, Semicolon, Var, Fn, Return, If, Elif, Else, For, Eof}
+use Rattle.sifc_def.specs.Ast.{Block, ReturnStmt, ExprStmt, PrimaryExpr}
+use Rattle.sifc_def.specs.State.{Node, node, Sym, Ctx, St, done, go-on, W, tokAt, wordAt}
+use Rattle.sifc_def.specs.Symbols.{setLevel, initScope, closeScope}
+use Rattle.sifc_def.specs.Label.{Lab, hasToken, scopeOf, textOf}
 use Rattle.sifc_def.specs.Walk.{walkers}
-use Rattle.sifc_def.specs.Expr.{Rec, fnParamMaxLen, looseness, fuel, separator, paramList}
-use Rattle.sifc_def.specs.Stmt.{bind, withReturn, identNode, param, identPair, declareVar, endIf, initial, varDecl, fnDecl, elifStmt, elseBlock, branches, ifStmt, forStmt, retStmt, exprStmt as exprPart, stmt, decl, decls, block as blockPart}
-use Rattle.sifc_trip.specs.Typed.{Expr, Exprs, nil, more, Items, noItem, item, Stmt, varNone, varExpr, varArray, varTable, func, block, cond, loop, ret, retExpr, exprStmt, Stmts, stop, next, Branches, noBranch, elifOf, elseOf, counted, manyBranches, manyItems, word, lp, rp, lb, rb, eq, comma, semi, dlb, drb, lbrace, rbrace, varWord, fnWord, returnWord, ifWord, elifWord, elseWord, forWord, inWord, betweenNames, betweenItems, pr, prs, prNames, prItems, prS, prSs, prBs, bare, said, primLab, blockLab, renc, rencNames, rencItems, rencArray, globalAt, rencS, rencSs, rencBs, seen, Ok, Oks, OkItems, OkNames, isReturn, returns, returnsLast, bound, declared, stored, inside, envS, envSs, envBs, OkS, OkSs, OkBs}
-use Rattle.sifc_trip.specs.Round.{true-of, not-eqb, not-leb, at-kind, and-l, and-r, or-l, or-r, ofSize, Res, and-then, yes-then, no-else, res-map, erased, In, ident-name, labelled, Made, made-none, made-then, made-push, Newest, newest, topOf}
-use Rattle.sifc_trip.specs.Round.Steps.{first, Pre, Ahead, Got, now, kind-now, test, later, stand, sees-length, stepped, pushed, listed, consume-eq, expect-eq, ident-eq, push-ok, list-ok, pr-length, prs-length}
-use Rattle.sifc_trip.specs.Round.Levels.{Stop, starters, made-single}
+use Rattle.sifc_def.specs.Expr.{Rec, fuel}
+use Rattle.sifc_def.specs.Stmt.{bind, withReturn, retStmt, exprStmt as exprPart, stmt, decl, decls, block as blockPart}
+use Rattle.sifc_trip.specs.Typed.{Expr, Items, noItem, item, Stmt, varNone, varExpr, varArray, varTable, func, block, cond, loop, ret, retExpr, exprStmt, Stmts, stop, next, Branches, noBranch, elifOf, elseOf, counted, manyBranches, rp, rb, comma, semi, drb, lbrace, rbrace, returnWord, betweenNames, betweenItems, pr, prNames, prItems, prS, prSs, prBs, bare, blockLab, renc, rencS, rencSs, isReturn, returns, returnsLast, bound, envS, envSs, OkS, OkSs}
+use Rattle.sifc_trip.specs.Round.{true-of, at-kind, or-r, ofSize, Res, and-then, yes-then, no-else, res-map, In, labelled, Made, made-none, made-then, made-push, Newest, newest, topOf}
+use Rattle.sifc_trip.specs.Round.Steps.{first, Ahead, Got, test, later, stand, sees-length, stepped, consume-eq, expect-eq, push-ok, pr-length, prs-length}
+use Rattle.sifc_trip.specs.Round.Levels.{starters}
 use Rattle.sifc_trip.specs.Round.Levels.Suffixes.{start}
-use Rattle.sifc_trip.specs.Round.Statements.{stop-semi, stop-lbrace, Count, other-not, read-expr, store-got, store-other, declare-ok, array-ok, table-ok, bind-ok, identNode-eq}
+use Rattle.sifc_trip.specs.Round.Statements.{stop-semi, Count, read-expr, bind-ok}
 pub mod Every
 
 -- ── lists ──

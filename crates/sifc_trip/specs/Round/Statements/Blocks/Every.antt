@@ -1,36 +1,33 @@
 -- Completeness of declarations and statements, the rest: variables, functions, if and for, and every declaration.
-use Prim.Native.Nat.{ℕ, zero, suc, _+_, _-_, _≤_, _<_}
+use Prim.Native.Nat.{ℕ, zero, suc, _+_, _≤_}
 use mathlib.Core.Path.{_≡_, refl, sym, ap, ap₂, _∙_, subst, subst₂}
-use mathlib.Core.List.{List, [], _∷_, _++_, map, append-assoc, append-nil, reverse, reverseAux, reverseAux-eq, reverse-reverse}
-use mathlib.Core.Option.{Option, none, some}
-use mathlib.Core.Bool.{Bool, true, false, _&&_, _||_, not}
+use mathlib.Core.List.{List, [], _∷_, _++_, map, append-assoc, reverse, reverseAux}
+use mathlib.Core.Bool.{Bool, true, false, not}
 use native.Mathlib.Omega.{arith}
-use native.Mathlib.Nat.{zero-add, add-zero, le-trans, not-suc-le-zero}
-use lib.Dec.{T, eqb, leb, ltb, eqb→eq, leb→le, nleb→lt, eqb-refl, le→leb}
-use lib.ListN.{take, drop, length, getD, length-reverse, length-map}
-use lib.Seq.{take-append-seam}
-use Rattle.sifc_lex.specs.Base.{if_then_else_, member, part}
-use Rattle.sifc_lex.specs.Kind.{LeftParen, RightParen, LeftBrace, RightBrace, LeftBracket, RightBracket, Semicolon, Eq, Comma, EqArrow, DoubleLeftBracket, DoubleRightBracket, Ident, Var, Fn, Return, If, Elif, Else, For, In as InKind, Eof}
+use native.Mathlib.Nat.{zero-add, add-zero, not-suc-le-zero}
+use lib.Dec.{T, eqb, ltb}
+use lib.ListN.{take, length, length-map}
+use Rattle.sifc_lex.specs.Base.{if_then_else_, member}
+use Rattle.sifc_lex.specs.Kind.{LeftParen, RightParen, LeftBracket, Semicolon, Eq, Comma, DoubleLeftBracket, Ident, Var, Fn, If, Elif, Else, For, In as InKind, Eof}
 use Rattle.sifc_def.specs.declared.Why.{Why}
-use Rattle.sifc_def.specs.declared.Why.the-variants.{InvalidTknMsg, InvalidIfStmt, ExpectedIdent}
-use Rattle.sifc_def.specs.declared.What.{What}
-use Rattle.sifc_def.specs.declared.What.the-variants.{Placeholder, Function, Variable, Other}
-use Rattle.sifc_def.specs.Ast.{Block, IfStmt, ElifStmt, ForStmt, ReturnStmt, ExprStmt, VarDecl, FnDecl, FnParams, IdentPair, ItemList, TableItem, Table, Array, ArrayItems, PrimaryExpr}
-use Rattle.sifc_def.specs.State.{Node, node, Sym, Ctx, St, Out, done, fail, refuse, M, Void, go-on, _>>=_, _>>_, return, ok, when, W, nameOf, wordIn, tokAt, wordAt, nameAt, here, kindNow, consume, addErrorWPos, addError, list, expect, optional, ident, push, loads}
-use Rattle.sifc_def.specs.Symbols.{find, putAt, store, setLevel, initScope, closeScope}
-use Rattle.sifc_def.specs.Label.{Lab, lab, hasToken, scopeOf, textOf, label}
+use Rattle.sifc_def.specs.declared.Why.the-variants.{InvalidIfStmt, ExpectedIdent}
+use Rattle.sifc_def.specs.declared.What.the-variants.{Placeholder, Function}
+use Rattle.sifc_def.specs.Ast.{IfStmt, ElifStmt, ForStmt, VarDecl, FnDecl, FnParams, IdentPair, ItemList, Table, PrimaryExpr}
+use Rattle.sifc_def.specs.State.{Node, Sym, Ctx, St, M, Void, go-on, _>>_, ok, W, nameOf, wordAt, addErrorWPos, addError, list, push}
+use Rattle.sifc_def.specs.Symbols.{putAt, store}
+use Rattle.sifc_def.specs.Label.{Lab, hasToken, scopeOf, textOf}
 use Rattle.sifc_def.specs.Walk.{walkers}
-use Rattle.sifc_def.specs.Expr.{Rec, fnParamMaxLen, looseness, fuel, separator, paramList}
+use Rattle.sifc_def.specs.Expr.{fuel, separator, paramList}
 use Rattle.sifc_def.specs.declared.Err.{Err}
 use Rattle.sifc_def.specs.State.{err}
-use Rattle.sifc_def.specs.Stmt.{bind, withReturn, identNode, param, identPair, declareVar, arrayDecl, tableDecl, endIf, initial, varDecl, fnDecl, elifStmt, elseBlock, branches, ifStmt, forStmt, stmt, decl, decls}
-use Rattle.sifc_trip.specs.Typed.{Expr, Exprs, nil, more, Items, noItem, item, Stmt, varNone, varExpr, varArray, varTable, func, block, cond, loop, ret, retExpr, exprStmt, Stmts, stop, next, Branches, noBranch, elifOf, elseOf, counted, manyBranches, manyItems, word, lp, rp, lb, rb, eq, comma, semi, dlb, drb, lbrace, rbrace, varWord, fnWord, returnWord, ifWord, elifWord, elseWord, forWord, inWord, betweenNames, pr, prs, prNames, prItems, prS, prSs, prBs, bare, said, primLab, blockLab, renc, rencNames, rencItems, rencArray, globalAt, rencS, rencSs, rencBs, seen, Ok, Oks, OkItems, OkNames, isReturn, returns, bound, declared, stored, inside, envS, envSs, envBs, OkS, OkSs, OkBs}
-use Rattle.sifc_trip.specs.Round.{true-of, not-eqb, not-leb, at-kind, and-l, and-r, or-l, or-r, ofSize, Res, and-then, yes-then, no-else, res-map, erased, In, ident-name, labelled, Made, made-none, made-then, made-push}
-use Rattle.sifc_trip.specs.Round.Steps.{first, Pre, Ahead, Got, now, kind-now, test, later, stand, sees-length, stepped, pushed, listed, consume-eq, expect-eq, ident-eq, push-ok, list-ok, pr-length, prs-length}
-use Rattle.sifc_trip.specs.Round.Levels.{Stop, starters, made-single}
+use Rattle.sifc_def.specs.Stmt.{identNode, param, identPair, endIf, initial, varDecl, fnDecl, elifStmt, elseBlock, branches, ifStmt, forStmt, stmt, decl}
+use Rattle.sifc_trip.specs.Typed.{Expr, Exprs, Items, Stmt, varNone, varExpr, varArray, varTable, func, block, cond, loop, ret, retExpr, exprStmt, Stmts, stop, next, Branches, noBranch, elifOf, elseOf, manyBranches, manyItems, lp, rp, lb, rb, eq, comma, semi, dlb, drb, lbrace, rbrace, varWord, ifWord, forWord, inWord, betweenNames, pr, prs, prNames, prItems, prS, prSs, prBs, bare, said, primLab, renc, rencNames, rencItems, rencArray, globalAt, rencS, rencBs, seen, Ok, Oks, OkItems, OkNames, bound, declared, stored, inside, envS, envSs, envBs, OkS, OkSs, OkBs}
+use Rattle.sifc_trip.specs.Round.{not-leb, at-kind, Res, and-then, yes-then, no-else, res-map, erased, Made, made-none, made-then, made-push}
+use Rattle.sifc_trip.specs.Round.Steps.{first, Ahead, Got, now, test, later, sees-length, stepped, pushed, listed, consume-eq, expect-eq, ident-eq, push-ok, list-ok}
+use Rattle.sifc_trip.specs.Round.Levels.{starters, made-single}
 use Rattle.sifc_trip.specs.Round.Levels.Suffixes.{start}
-use Rattle.sifc_trip.specs.Round.Statements.{stop-semi, stop-lbrace, Count, other-not, read-expr, store-got, store-other, declare-ok, array-ok, table-ok, bind-ok, identNode-eq}
-use Rattle.sifc_trip.specs.Round.Statements.Blocks.{primNode, loads-prims, member-test, declStarters, Follow, names-length, prBs-length, made-empty, Says, AllSay, blockLabs, block-ok, plain-ok, to-stmt, expr-says, block-says, ret-says, retExpr-says}
+use Rattle.sifc_trip.specs.Round.Statements.{stop-semi, stop-lbrace, read-expr, store-got, declare-ok, array-ok, table-ok, identNode-eq}
+use Rattle.sifc_trip.specs.Round.Statements.Blocks.{primNode, loads-prims, member-test, Follow, names-length, prBs-length, made-empty, Says, AllSay, blockLabs, block-ok, plain-ok, to-stmt, expr-says, block-says, ret-says, retExpr-says}
 
 module _ (c : Ctx) where
   -- ── variables ──
