@@ -171,12 +171,12 @@ done-found r s x z w = go (ltb (r .tokens) (length (lex s))) (read-is r s)
     go false h = finds (unfold byRoom ended in (h ∙ ap (ended (lex s)) w))
 
 -- A walk that is refused for size or depth is a reading that is.
-pub refused-cramped : (r : Rooms) (s : List ℕ) (x : Refusal) (f : Found) → walk (ctxOf r s) depthLimit ≡ refuse x → T (sizeOrDepth x) → Finds r s f
-refused-cramped r s x f w t = go (ltb (r .tokens) (length (lex s))) (read-is r s)
+pub refused-too : (r : Rooms) (s : List ℕ) (x : Refusal) → walk (ctxOf r s) depthLimit ≡ refuse x → T (sizeOrDepth x) → (y : Refusal) × (read r s ≡ refused y) × T (sizeOrDepth y)
+refused-too r s x w t = go (ltb (r .tokens) (length (lex s))) (read-is r s)
   where
-    go : (p : Bool) → read r s ≡ byRoom (lex s) p (walk (ctxOf r s) depthLimit) → Finds r s f
-    go true h = cramped TokensFull (unfold byRoom in h) (unfold sizeOrDepth member in tt)
-    go false h = cramped x (unfold byRoom ended in (h ∙ ap (ended (lex s)) w)) t
+    go : (p : Bool) → read r s ≡ byRoom (lex s) p (walk (ctxOf r s) depthLimit) → (y : Refusal) × (read r s ≡ refused y) × T (sizeOrDepth y)
+    go true h = (TokensFull, unfold byRoom in h, unfold sizeOrDepth member in tt)
+    go false h = (x, unfold byRoom ended in (h ∙ ap (ended (lex s)) w), t)
 
 -- ── the calls ──
 

@@ -1,0 +1,67 @@
+-- Laws of the canonical text: it is a function of the labels; of a typed program it is the print, which lexes to the program's words.
+use Prim.Native.Nat.{ℕ, _<_, _≤_}
+use mathlib.Core.Path.{_≡_, refl, sym, ap, _∙_, subst}
+use mathlib.Core.List.{List, [], _∷_, _++_, map, reverse}
+use mathlib.Core.Bool.{Bool, true, false}
+use native.Mathlib.Omega.{arith}
+use lib.Dec.{T, ltb, ltb→lt}
+use lib.ListN.{length}
+use Rattle.sifc_err.specs.declared.Ending.the-variants.{TrueEnd}
+use Rattle.sifc_lex.specs.Base.{span}
+use Rattle.sifc_lex.specs.Lex.{lex, ending}
+use Rattle.sifc_def.specs.Ast.{Program}
+use Rattle.sifc_def.specs.State.{W, wordIn}
+use Rattle.sifc_def.specs.Read.{isAscii}
+use Rattle.sifc_def.specs.Label.{Lab, lab}
+use Rattle.sifc_def.specs.Text.{text, line, lines, pieces, declarations}
+use Rattle.sifc_def.specs.Tree.{dec, gather}
+use Rattle.sifc_trip.specs.Typed.{Stmts, prProgram, rencProgram, OkProgram, SaidSs, eofWord}
+use Rattle.sifc_bridge.specs.Bytes.{printed, Fine, Lined, print-lexed, print-ends, print-ascii, print-lined}
+use Rattle.sifc_bridge.specs.Words.{Tells, declWords, text-printed}
+use Rattle.sifc_bridge.specs.Operators.{good-tells}
+use Rattle.sifc_bridge.specs.Print.{each-fine, joined-words}
+use Rattle.sifc_bridge.specs.Lexed.{carry-Ss}
+
+-- Equal label lists have equal texts: the text is a function of them.
+pub text-equal : (xs ys : List Lab) → xs ≡ ys → text xs ≡ text ys
+text-equal xs ys e = ap text e
+
+-- The text of no declarations is empty: "an empty tree gives no bytes".
+pub text-nothing : text (lab Program false 0 0 [] ∷ []) ≡ []
+unfolding text
+text-nothing = refl
+
+abbrev pub print : Stmts → List ℕ
+print ts = printed (declWords ts)
+
+-- of each fine word, that its text tells how it binds
+tells : (ts : Stmts) → SaidSs Fine ts → SaidSs Tells ts
+tells ts g = carry-Ss Fine Tells (λ x f. good-tells x (f .good)) ts g
+
+not-less : (n : ℕ) → ltb n n ≡ false
+not-less n = go (ltb n n) refl
+  where
+    go : (q : Bool) → ltb n n ≡ q → ltb n n ≡ false
+    go true e = absurd (let z : n < n = ltb→lt n n (rw e tt) in let y : ⊥ = omega arith in y)
+    go false e = e
+
+module _ (ts : Stmts) (ok : OkProgram ts) (fine : SaidSs Fine ts) where
+  -- The canonical text of a typed program's labels is its print.
+  pub text-print : text (reverse (rencProgram ts)) ≡ print ts
+  text-print = text-printed ts ok (tells ts fine)
+
+  -- It lexes to the program's words, and then Eof.
+  pub print-words : map (wordIn (print ts)) (lex (print ts)) ≡ prProgram ts
+  print-words = print-lexed (declWords ts) (each-fine ts fine) ∙ joined-words ts (eofWord ∷ []) fine
+
+  -- It ends at its true end: no unknown character, no open string, no lexing panic.
+  pub print-end : ending (print ts) ≡ TrueEnd
+  print-end = print-ends (declWords ts) (each-fine ts fine)
+
+  -- No byte of it is 128 or more: entry's test.
+  pub print-passes : ltb (span isAscii (print ts)) (length (print ts)) ≡ false
+  print-passes = rw (print-ascii (declWords ts) (each-fine ts fine)) (not-less (length (print ts)))
+
+  -- It is empty or ends in a newline.
+  pub print-line : Lined (print ts)
+  print-line = print-lined (declWords ts)
