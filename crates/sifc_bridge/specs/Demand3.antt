@@ -1,0 +1,158 @@
+-- Demand 3 of the definition (Demand.antt has its words), from the two halves of the round trip.
+use Prim.Native.Nat.{ℕ}
+use mathlib.Core.Path.{_≡_, refl, sym, ap, _∙_, subst}
+use mathlib.Core.List.{List, [], _∷_, _++_, map, reverse, reverseAux}
+use mathlib.Core.Bool.{Bool, true, false, _&&_}
+use native.Mathlib.Omega.{arith}
+use lib.Dec.{T}
+use lib.ListN.{length}
+use Rattle.sifc_err.specs.declared.Refusal.{Refusal}
+use Rattle.sifc_err.specs.declared.Refusal.the-variants.{LongScript, NotAscii, Uneven, TokensFull, SourceFault, TooDeep, NodesFull, SymbolsFull, ErrorsFull, Flagged, TextFull}
+use Rattle.sifc_lex.specs.Base.{member}
+use Rattle.sifc_lex.specs.Lex.{lex}
+use Rattle.sifc_def.specs.declared.Reading.{Reading}
+use Rattle.sifc_def.specs.State.{Node, St, Out, done, fail, refuse, wordIn}
+use Rattle.sifc_def.specs.Label.{Lab, label, labels}
+use Rattle.sifc_def.specs.Walk.{End, walk}
+use Rattle.sifc_def.specs.Text.{text}
+use Rattle.sifc_def.specs.Read.{depthLimit, Arrays, Rooms, roomsOf, Found, Outcome, found, refused, ctxOf, read, Called, called, summary, filled, reading, Written, textFound, textCall}
+use Rattle.sifc_trip.specs.Typed.{Stmts, prProgram, rencProgram, OkProgram, SaidSs}
+use Rattle.sifc_trip.specs.Round.{ofSize, Res}
+use Rattle.sifc_bridge.specs.Bytes.{Fine}
+use Rattle.sifc_bridge.specs.Lexed.{FromScript, from-script-fine, carry-Ss}
+use Rattle.sifc_bridge.specs.Laws.{print, text-print, print-words, print-passes}
+use Rattle.sifc_bridge.specs.Kinds.{Small, small-program}
+use Rattle.sifc_bridge.specs.Demand.{sizeOrDepth, Fits, FitsText, FlagDown, SameTree, Writes, bytesOf, Lent, itsReading, itsText, canonical, nextReading, nextText, AllFit, RoundTrip, Demand3}
+use Rattle.sifc_bridge.specs.Same.{Told, told, labels-same, same-labels}
+use Rattle.sifc_bridge.specs.Calls.{plain-script, Finds, finds, cramped, other-rooms, Walked, walked, done-found, refused-too, Reads, reads-reading, Down, flag-down, fits-reads, fits-text, writes-bytes, down-ascii}
+
+-- ── the two halves of the round trip ──
+
+-- the typed program of a walk's nodes: a reading accepts it, each of its words is one of the script's, and the nodes are labelled as it is
+pub record IsTyped (s : List ℕ) (z : St) : Type 0 where
+  pub program : Stmts
+  pub ok : OkProgram program
+  pub said : SaidSs (FromScript s) program
+  pub labelled : labels s (lex s) (z .nodes) ≡ rencProgram program
+
+-- SOUND: a walk that is done with the flag down has read a typed program.
+abbrev pub Sound : Type 0
+Sound = (r : Rooms) (s : List ℕ) (depth : ℕ) (e : End) (z : St) → walk (ctxOf r s) depth ≡ done e z → e .flag ≡ false → IsTyped s z
+
+-- COMPLETE: a walk over the words of a typed program is done, flag down, with its labels, or is refused (6 to 9).
+abbrev pub Complete : Type 0
+Complete = (r : Rooms) (s : List ℕ) (depth : ℕ) (ts : Stmts) → OkProgram ts → map (wordIn s) (lex s) ≡ prProgram ts
+    → Res (walk (ctxOf r s) depth) (λ e z. (e .flag ≡ false) × (labels s (lex s) (z .nodes) ≡ rencProgram ts))
+
+-- ── lists ──
+
+map-reverseAux : {A B : Type 0} (f : A → B) (xs ys : List A) → map f (reverseAux xs ys) ≡ reverseAux (map f xs) (map f ys)
+map-reverseAux f [] ys = refl
+map-reverseAux f (x ∷ xs) ys = map-reverseAux f xs (x ∷ ys)
+
+turned : (s : List ℕ) (ns : List Node) (xs : List Lab) → labels s (lex s) ns ≡ xs → labels s (lex s) (reverse ns) ≡ reverse xs
+turned s ns xs e = map-reverseAux (label s (lex s)) ns [] ∙ ap reverse e
+
+-- a refusal 6 to 9 is one for size or depth
+deep-size : (x : Refusal) → T (ofSize x) → T (sizeOrDepth x)
+unfolding ofSize sizeOrDepth member
+deep-size LongScript t = tt
+deep-size (NotAscii o) t = absurd t
+deep-size Uneven t = tt
+deep-size TokensFull t = tt
+deep-size (SourceFault k o) t = absurd t
+deep-size TooDeep t = tt
+deep-size NodesFull t = tt
+deep-size SymbolsFull t = tt
+deep-size ErrorsFull t = tt
+deep-size Flagged t = absurd t
+deep-size TextFull t = tt
+
+-- ── what is known of a script that is read with the flag down ──
+
+-- what f has found in the script s is the typed program ts
+record Shows (s : List ℕ) (f : Found) (ts : Stmts) : Type 0 where
+  toks : f .toks ≡ lex s
+  flag : f .flag ≡ false
+  labelled : labels s (lex s) (f .nodes) ≡ reverse (rencProgram ts)
+
+shows-text : (s : List ℕ) (f : Found) (ts : Stmts) → OkProgram ts → SaidSs Fine ts → Shows s f ts → textFound s f ≡ print ts
+unfolding textFound
+shows-text s f ts ok fine h = rw (h .toks, h .labelled) (text-print ts ok fine)
+
+shows-small : (s : List ℕ) (f : Found) (ts : Stmts) → Shows s f ts → Small (labels s (lex s) (f .nodes))
+shows-small s f ts h = rw (h .labelled) (small-program ts)
+
+reads-told : (s : List ℕ) (a : Arrays) (f : Found) → Reads s a f → f .toks ≡ lex s → Told s (f .nodes) (reading s a)
+reads-told s a f h e = rw (reads-reading s a f h) (told s (ctxOf (roomsOf a) s) f a e)
+
+-- the reading of p in the rooms r shows ts, or is refused for size or depth
+data Again (r : Rooms) (p : List ℕ) (ts : Stmts) : Type 0 where
+  again : (f : Found) → read r p ≡ found f → Shows p f ts → Again r p ts
+  tight : (x : Refusal) → read r p ≡ refused x → T (sizeOrDepth x) → Again r p ts
+
+other-outcome : {X : Type 0} (x : Refusal) (f : Found) (o : Outcome) → o ≡ refused x → o ≡ found f → X
+other-outcome x f o p q = absurd (let z : _≡_ {A = ℕ} 0 1 = cc in let y : ⊥ = omega arith in y)
+
+found-same : (f g : Found) (o : Outcome) → o ≡ found f → o ≡ found g → f ≡ g
+found-same f g o p q = cc
+
+-- the typed program of a script that is read with the flag down
+record Typed (s : List ℕ) (a : Arrays) : Type 0 where
+  what : Found
+  reads : Reads s a what
+  program : Stmts
+  ok : OkProgram program
+  fine : SaidSs Fine program
+  shows : Shows s what program
+
+-- the second half of a round trip: the program ts is printed, read in the arrays a, and written by a call with the arrays b and the buffer t
+record Half (ts : Stmts) (a b : Arrays) (t : List ℕ) : Type 0 where
+  what : Found
+  reads : Reads (print ts) a what
+  shows : Shows (print ts) what ts
+  itself : Writes (textCall (print ts) b t) (print ts)
+
+module _ (sound : Sound) (complete : Complete) where
+  typed : (s : List ℕ) (a : Arrays) → Down s a → Typed s a
+  typed s a d =
+      let w = walked (roomsOf a) s (d .what) (d .reads .found-it) (d .flag) in
+      let t = sound (roomsOf a) s depthLimit (w .end) (w .state) (w .walks) (w .flag) in
+      record {
+        what = d .what;
+        reads = d .reads;
+        program = t .program;
+        ok = t .ok;
+        fine = carry-Ss (FromScript s) Fine (from-script-fine s (plain-script s (down-ascii s a d))) (t .program) (t .said);
+        shows = record { toks = w .toks; flag = d .flag; labelled = ap (labels s (lex s)) (w .nodes) ∙ turned s (w .state .nodes) (rencProgram (t .program)) (t .labelled) };
+      }
+
+  -- reading a print, in any rooms
+  read-again : (r : Rooms) (ts : Stmts) → OkProgram ts → SaidSs Fine ts → Again r (print ts) ts
+  read-again r ts ok fine = go (walk (ctxOf r (print ts)) depthLimit) refl (complete r (print ts) depthLimit ts ok (print-words ts ok fine))
+    where
+      settle : (f : Found) → Shows (print ts) f ts → Finds r (print ts) f → Again r (print ts) ts
+      settle f h (finds k) = again f k h
+      settle f h (cramped x k t) = tight x k t
+
+      go : (o : Out End) → walk (ctxOf r (print ts)) depthLimit ≡ o → Res o (λ e z. (e .flag ≡ false) × (labels (print ts) (lex (print ts)) (z .nodes) ≡ rencProgram ts)) → Again r (print ts) ts
+      go (done e z) w h =
+          let k : (e .flag ≡ false) × (labels (print ts) (lex (print ts)) (z .nodes) ≡ rencProgram ts) = unfold Res in h in
+          settle _ (record { toks = refl; flag = k .0; labelled = turned (print ts) (z .nodes) (rencProgram ts) (k .1) }) (done-found r (print ts) e z w)
+      go (fail e z) w h = absurd (unfold Res in h)
+      go (refuse x) w h = let y = refused-too r (print ts) x w (deep-size x (unfold Res in h)) in tight (y .0) (y .1) (y .2)
+
+  -- the second half, where neither call meets a refusal for size or depth
+  half : (ts : Stmts) (a b : Arrays) (t : List ℕ) → OkProgram ts → SaidSs Fine ts → Fits (reading (print ts) a .answer) → FitsText (textCall (print ts) b t .answer) → Half ts a b t
+  half ts a b t ok fine h k = go (read-again (roomsOf a) ts ok fine)
+    where
+      go : Again (roomsOf a) (print ts) ts → Half ts a b t
+      go (again f m q) =
+          let p = print-passes ts ok fine in
+          record {
+            what = f;
+            reads = fits-reads (print ts) a f p (finds m) h;
+            shows = q;
+            itself = subst (λ (z : List ℕ). Writes (textCall (print ts) b t) z) (shows-text (print ts) f ts ok fine q) (fits-text (print ts) b t f p (q .flag) (other-rooms (roomsOf a) (roomsOf b) (print ts) f m) k);
+          }
+      go (tight x m q) = ?
