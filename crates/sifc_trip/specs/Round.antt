@@ -28,6 +28,8 @@ use Rattle.sifc_def.specs.Label.{Lab, lab, hasToken, scopeOf, textOf, label}
 use Rattle.sifc_trip.specs.Typed.{Expr, prim, un, bin, call, dot, idx, set, mut, Exprs, nil, more, word, lp, rp, rb, eq, height, wrap, between, pr, prs, isSome, wants}
 pub mod Steps
 pub mod Levels
+pub mod Statements
+pub mod Program
 
 -- ── truth values ──
 

@@ -53,7 +53,7 @@ module _ (c : Ctx) (l : ℕ) (E : List Sym) where
   unfolding All member
   single-start b x t = in-cases (λ k. T (member k starters)) (x .kind) singles (tt, (tt, (tt, (tt, (tt, tt))))) (fine-kind c l E b x t)
 
-  start : (e : Expr) (b : Bool) → Ok (look c l E) b e → (rest : List W) → T (member (first (pr e rest) .kind) starters)
+  pub start : (e : Expr) (b : Bool) → Ok (look c l E) b e → (rest : List W) → T (member (first (pr e rest) .kind) starters)
   unfolding Ok pr isUnary member
   start (prim x) b k rest = single-start b x k
   start (un o e) b k rest = or-case (eqb (o .kind) Bang) (eqb (o .kind) Minus) (λ t. subst (λ (n : ℕ). T (member n starters)) (sym (eqb→eq (o .kind) Bang t)) tt) (λ t. subst (λ (n : ℕ). T (member n starters)) (sym (eqb→eq (o .kind) Minus t)) tt) (k .0)
