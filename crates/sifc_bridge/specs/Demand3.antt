@@ -1,7 +1,9 @@
 -- Demand 3 of the definition (Demand.antt has its words), from the two halves of the round trip.
 use Prim.Native.Nat.{ℕ}
 use mathlib.Core.Path.{_≡_, refl, sym, ap, _∙_, subst}
+use mathlib.Core.Logic.{_↔_}
 use mathlib.Core.List.{List, [], _∷_, _++_, map, reverse, reverseAux}
+use mathlib.Core.Option.{Option, none, some}
 use mathlib.Core.Bool.{Bool, true, false, _&&_}
 use native.Mathlib.Omega.{arith}
 use lib.Dec.{T}
@@ -18,9 +20,10 @@ use Rattle.sifc_def.specs.Text.{text}
 use Rattle.sifc_def.specs.Read.{depthLimit, Arrays, Rooms, roomsOf, Found, Outcome, found, refused, ctxOf, read, Called, called, summary, filled, reading, Written, textFound, textCall}
 use Rattle.sifc_trip.specs.Typed.{Stmts, prProgram, rencProgram, OkProgram, SaidSs}
 use Rattle.sifc_trip.specs.Round.{ofSize, Res}
+use Rattle.sifc_trip.specs.Round.Program.{ReadAs, program-read}
 use Rattle.sifc_bridge.specs.Bytes.{Fine}
 use Rattle.sifc_bridge.specs.Lexed.{FromScript, from-script-fine, carry-Ss}
-use Rattle.sifc_bridge.specs.Laws.{print, text-print, print-words, print-passes}
+use Rattle.sifc_bridge.specs.Laws.{print, text-print, print-words, print-calm, print-passes}
 use Rattle.sifc_bridge.specs.Kinds.{Small, small-program}
 use Rattle.sifc_bridge.specs.Demand.{sizeOrDepth, Fits, FitsText, FlagDown, SameTree, Writes, bytesOf, Lent, itsReading, itsText, canonical, nextReading, nextText, AllFit, RoundTrip, Demand3}
 use Rattle.sifc_bridge.specs.Same.{Told, told, labels-same, same-labels}
@@ -38,11 +41,6 @@ pub record IsTyped (s : List ℕ) (z : St) : Type 0 where
 -- SOUND: a walk that is done with the flag down has read a typed program.
 abbrev pub Sound : Type 0
 Sound = (r : Rooms) (s : List ℕ) (depth : ℕ) (e : End) (z : St) → walk (ctxOf r s) depth ≡ done e z → e .flag ≡ false → IsTyped s z
-
--- COMPLETE: a walk over the words of a typed program is done, flag down, with its labels, or is refused (6 to 9).
-abbrev pub Complete : Type 0
-Complete = (r : Rooms) (s : List ℕ) (depth : ℕ) (ts : Stmts) → OkProgram ts → map (wordIn s) (lex s) ≡ prProgram ts
-    → Res (walk (ctxOf r s) depth) (λ e z. (e .flag ≡ false) × (labels s (lex s) (z .nodes) ≡ rencProgram ts))
 
 -- ── lists ──
 
@@ -113,7 +111,125 @@ record Half (ts : Stmts) (a b : Arrays) (t : List ℕ) : Type 0 where
   shows : Shows (print ts) what ts
   itself : Writes (textCall (print ts) b t) (print ts)
 
-module _ (sound : Sound) (complete : Complete) where
+-- reading a print, in any rooms
+read-again : (r : Rooms) (ts : Stmts) → OkProgram ts → SaidSs Fine ts → Again r (print ts) ts
+read-again r ts ok fine = go (walk (ctxOf r (print ts)) depthLimit) refl (program-read (ctxOf r (print ts)) ts depthLimit (print-calm ts ok fine) (print-words ts ok fine) ok)
+  where
+    settle : (f : Found) → Shows (print ts) f ts → Finds r (print ts) f → Again r (print ts) ts
+    settle f h (finds k) = again f k h
+    settle f h (cramped x k t) = tight x k t
+
+    go : (o : Out End) → walk (ctxOf r (print ts)) depthLimit ≡ o → Res o (ReadAs (ctxOf r (print ts)) (rencProgram ts)) → Again r (print ts) ts
+    go (done e z) w h =
+        let k : ReadAs (ctxOf r (print ts)) (rencProgram ts) e z = unfold Res in h in
+        settle _ (record { toks = refl; flag = ap (λ (x : End). x .flag) (k .down); labelled = turned (print ts) (z .nodes) (rencProgram ts) (k .labs) }) (done-found r (print ts) e z w)
+    go (fail e z) w h = absurd (unfold Res in h)
+    go (refuse x) w h = let y = refused-too r (print ts) x w (deep-size x (unfold Res in h)) in tight (y .0) (y .1) (y .2)
+
+-- the second half, where neither call meets a refusal for size or depth
+half : (ts : Stmts) (a b : Arrays) (t : List ℕ) → OkProgram ts → SaidSs Fine ts → Fits (reading (print ts) a .answer) → FitsText (textCall (print ts) b t .answer) → Half ts a b t
+half ts a b t ok fine h k = go (read-again (roomsOf a) ts ok fine)
+  where
+    go : Again (roomsOf a) (print ts) ts → Half ts a b t
+    go (again f m q) =
+        let p = print-passes ts ok fine in
+        record {
+          what = f;
+          reads = fits-reads (print ts) a f p (finds m) h;
+          shows = q;
+          itself = subst (λ (z : List ℕ). Writes (textCall (print ts) b t) z) (shows-text (print ts) f ts ok fine q) (fits-text (print ts) b t f p (q .flag) (other-rooms (roomsOf a) (roomsOf b) (print ts) f m) k);
+        }
+    go (tight x m q) =
+        let f : Found = record { toks = []; nodes = []; errs = []; flag = false; early = none } in
+        other-outcome x f (read (roomsOf a) (print ts)) m (fits-reads (print ts) a f (print-passes ts ok fine) (cramped x m q) h .found-it)
+
+-- all that is known of one script and its four calls
+record Side (x : Lent) : Type 0 where
+  typed : Typed (x .script) (x .arrays₁)
+  written : Writes (itsText x) (canonical x)
+  text : canonical x ≡ print (typed .program)
+  half : Half (typed .program) (x .arrays₃) (x .arrays₄) (x .buffer₄)
+
+-- the labels of a script's tree
+side-labels : (x : Lent) (h : Side x) → labels (x .script) (lex (x .script)) (h .typed .what .nodes) ≡ reverse (rencProgram (h .typed .program))
+side-labels x h = h .typed .shows .labelled
+
+side-told : (x : Lent) (h : Side x) → Told (x .script) (h .typed .what .nodes) (itsReading x)
+side-told x h = reads-told (x .script) (x .arrays₁) (h .typed .what) (h .typed .reads) (h .typed .shows .toks)
+
+side-small : (x : Lent) (h : Side x) → Small (labels (x .script) (lex (x .script)) (h .typed .what .nodes))
+side-small x h = shows-small (x .script) (h .typed .what) (h .typed .program) (h .typed .shows)
+
+-- what a reading answers where it finds something with the flag down
+reads-down : (s : List ℕ) (a : Arrays) (f : Found) → Reads s a f → f .flag ≡ false → FlagDown (reading s a .answer)
+unfolding FlagDown
+reads-down s a f h e = rw (reads-reading s a f h) e
+
+-- One script's round trip.
+side-trip : (x : Lent) → Side x → RoundTrip x
+side-trip x h =
+    let ts : Stmts = h .typed .program in
+    let f : Found = h .half .what in
+    let e : print ts ≡ canonical x = sym (h .text) in
+    let t : Told (print ts) (f .nodes) (reading (print ts) (x .arrays₃)) = reads-told (print ts) (x .arrays₃) f (h .half .reads) (h .half .shows .toks) in
+    let m : SameTree (x .script) (itsReading x) (print ts) (reading (print ts) (x .arrays₃)) =
+    labels-same (x .script) (print ts) (h .typed .what .nodes) (f .nodes) (itsReading x) (reading (print ts) (x .arrays₃)) (side-told x h) t (side-small x h)
+    (side-labels x h ∙ sym (h .half .shows .labelled)) in
+    record {
+      written = h .written;
+      flagDown = subst (λ (p : List ℕ). FlagDown (reading p (x .arrays₃) .answer)) e (reads-down (print ts) (x .arrays₃) f (h .half .reads) (h .half .shows .flag));
+      sameTree = subst (λ (p : List ℕ). SameTree (x .script) (itsReading x) p (reading p (x .arrays₃))) e m;
+      itself = subst (λ (p : List ℕ). Writes (textCall p (x .arrays₄) (x .buffer₄)) p) e (h .half .itself);
+    }
+
+-- Two programs with one print have the same labels: both are what one reading of it finds.
+same-print : (x y : Lent) (h : Side x) (k : Side y) → print (h .typed .program) ≡ print (k .typed .program)
+    → reverse (rencProgram (h .typed .program)) ≡ reverse (rencProgram (k .typed .program))
+same-print x y h k e = go (subst (λ (p : List ℕ). Again r p us) (sym e) (read-again r us (k .typed .ok) (k .typed .fine)))
+  where
+    ts : Stmts
+    ts = h .typed .program
+
+    us : Stmts
+    us = k .typed .program
+
+    r : Rooms
+    r = roomsOf (x .arrays₃)
+
+    f : Found
+    f = h .half .what
+
+    go : Again r (print ts) us → reverse (rencProgram ts) ≡ reverse (rencProgram us)
+    go (again g m q) =
+        sym (h .half .shows .labelled)
+        ∙ ap (λ (z : Found). labels (print ts) (lex (print ts)) (z .nodes)) (found-same f g (read r (print ts)) (h .half .reads .found-it) m)
+        ∙ q .labelled
+    go (tight z m q) = other-outcome z f (read r (print ts)) m (h .half .reads .found-it)
+
+-- "Their canonical texts are the same bytes exactly when their trees are the same".
+exactly-when : (x y : Lent) → Side x → Side y → (canonical x ≡ canonical y) ↔ SameTree (x .script) (itsReading x) (y .script) (itsReading y)
+exactly-when x y h k = (there, back)
+  where
+    ts : Stmts
+    ts = h .typed .program
+
+    us : Stmts
+    us = k .typed .program
+
+    there : canonical x ≡ canonical y → SameTree (x .script) (itsReading x) (y .script) (itsReading y)
+    there e =
+        labels-same (x .script) (y .script) (h .typed .what .nodes) (k .typed .what .nodes) (itsReading x) (itsReading y) (side-told x h) (side-told y k) (side-small x h)
+        (side-labels x h ∙ same-print x y h k (sym (h .text) ∙ e ∙ k .text) ∙ sym (side-labels y k))
+
+    back : SameTree (x .script) (itsReading x) (y .script) (itsReading y) → canonical x ≡ canonical y
+    back m =
+        let e : reverse (rencProgram ts) ≡ reverse (rencProgram us) =
+        sym (side-labels x h)
+        ∙ same-labels (x .script) (y .script) (h .typed .what .nodes) (k .typed .what .nodes) (itsReading x) (itsReading y) (side-told x h) (side-told y k) (side-small x h) (side-small y k) m
+        ∙ side-labels y k in
+        h .text ∙ sym (text-print ts (h .typed .ok) (h .typed .fine)) ∙ ap text e ∙ text-print us (k .typed .ok) (k .typed .fine) ∙ sym (k .text)
+
+module _ (sound : Sound) where
   typed : (s : List ℕ) (a : Arrays) → Down s a → Typed s a
   typed s a d =
       let w = walked (roomsOf a) s (d .what) (d .reads .found-it) (d .flag) in
@@ -127,32 +243,30 @@ module _ (sound : Sound) (complete : Complete) where
         shows = record { toks = w .toks; flag = d .flag; labelled = ap (labels s (lex s)) (w .nodes) ∙ turned s (w .state .nodes) (rencProgram (t .program)) (t .labelled) };
       }
 
-  -- reading a print, in any rooms
-  read-again : (r : Rooms) (ts : Stmts) → OkProgram ts → SaidSs Fine ts → Again r (print ts) ts
-  read-again r ts ok fine = go (walk (ctxOf r (print ts)) depthLimit) refl (complete r (print ts) depthLimit ts ok (print-words ts ok fine))
-    where
-      settle : (f : Found) → Shows (print ts) f ts → Finds r (print ts) f → Again r (print ts) ts
-      settle f h (finds k) = again f k h
-      settle f h (cramped x k t) = tight x k t
+  side : (x : Lent) → FlagDown (itsReading x .answer) → AllFit x → Side x
+  side x d h =
+      let s : List ℕ = x .script in
+      let n : Down s (x .arrays₁) = flag-down s (x .arrays₁) d in
+      let t : Typed s (x .arrays₁) = typed s (x .arrays₁) n in
+      let w : Writes (itsText x) (textFound s (t .what)) =
+      fits-text s (x .arrays₂) (x .buffer₂) (t .what) (down-ascii s (x .arrays₁) n) (t .shows .flag)
+      (other-rooms (roomsOf (x .arrays₁)) (roomsOf (x .arrays₂)) s (t .what) (t .reads .found-it)) (h .text) in
+      let e : canonical x ≡ textFound s (t .what) = writes-bytes (itsText x) (textFound s (t .what)) w in
+      let p : canonical x ≡ print (t .program) = e ∙ shows-text s (t .what) (t .program) (t .ok) (t .fine) (t .shows) in
+      record {
+        typed = t;
+        written = subst (λ (z : List ℕ). Writes (itsText x) z) (sym e) w;
+        text = p;
+        half =
+            half (t .program) (x .arrays₃) (x .arrays₄) (x .buffer₄) (t .ok) (t .fine) (subst (λ (z : List ℕ). Fits (reading z (x .arrays₃) .answer)) p (h .next))
+            (subst (λ (z : List ℕ). FitsText (textCall z (x .arrays₄) (x .buffer₄) .answer)) p (h .nextText));
+      }
 
-      go : (o : Out End) → walk (ctxOf r (print ts)) depthLimit ≡ o → Res o (λ e z. (e .flag ≡ false) × (labels (print ts) (lex (print ts)) (z .nodes) ≡ rencProgram ts)) → Again r (print ts) ts
-      go (done e z) w h =
-          let k : (e .flag ≡ false) × (labels (print ts) (lex (print ts)) (z .nodes) ≡ rencProgram ts) = unfold Res in h in
-          settle _ (record { toks = refl; flag = k .0; labelled = turned (print ts) (z .nodes) (rencProgram ts) (k .1) }) (done-found r (print ts) e z w)
-      go (fail e z) w h = absurd (unfold Res in h)
-      go (refuse x) w h = let y = refused-too r (print ts) x w (deep-size x (unfold Res in h)) in tight (y .0) (y .1) (y .2)
-
-  -- the second half, where neither call meets a refusal for size or depth
-  half : (ts : Stmts) (a b : Arrays) (t : List ℕ) → OkProgram ts → SaidSs Fine ts → Fits (reading (print ts) a .answer) → FitsText (textCall (print ts) b t .answer) → Half ts a b t
-  half ts a b t ok fine h k = go (read-again (roomsOf a) ts ok fine)
-    where
-      go : Again (roomsOf a) (print ts) ts → Half ts a b t
-      go (again f m q) =
-          let p = print-passes ts ok fine in
-          record {
-            what = f;
-            reads = fits-reads (print ts) a f p (finds m) h;
-            shows = q;
-            itself = subst (λ (z : List ℕ). Writes (textCall (print ts) b t) z) (shows-text (print ts) f ts ok fine q) (fits-text (print ts) b t f p (q .flag) (other-rooms (roomsOf a) (roomsOf b) (print ts) f m) k);
-          }
-      go (tight x m q) = ?
+  -- Demand 3: take any two scripts that are read with the flag down, whatever each of the eight calls is lent; none of the calls meets a refusal for size or
+  -- depth. Then their canonical texts are the same bytes exactly when their trees are the same, and for each of the two, reading its canonical text gives the
+  -- same tree with the flag down, and the canonical text of that text is itself.
+  pub demand3-definition : (x y : Lent) → FlagDown (itsReading x .answer) → FlagDown (itsReading y .answer) → AllFit x → AllFit y → Demand3 x y
+  demand3-definition x y d d′ h h′ =
+      let k : Side x = side x d h in
+      let k′ : Side y = side y d′ h′ in
+      record { exactlyWhen = exactly-when x y k k′; firstTrip = side-trip x k; secondTrip = side-trip y k′ }
