@@ -23,6 +23,7 @@ use Rattle.sifc_trip.specs.Round.{ofSize, Res}
 use Rattle.sifc_trip.specs.Round.Program.{ReadAs, program-read}
 use Rattle.sifc_bridge.specs.Bytes.{Fine}
 use Rattle.sifc_bridge.specs.Lexed.{FromScript, from-script-fine, carry-Ss}
+use Rattle.sifc_bridge.specs.Kinded.{IfToken, token-Ss}
 use Rattle.sifc_bridge.specs.Laws.{print, text-print, print-words, print-calm, print-passes}
 use Rattle.sifc_bridge.specs.Kinds.{Small, small-program}
 use Rattle.sifc_bridge.specs.Demand.{sizeOrDepth, Fits, FitsText, FlagDown, SameTree, Writes, bytesOf, Lent, itsReading, itsText, canonical, nextReading, nextText, AllFit, RoundTrip, Demand3}
@@ -239,7 +240,7 @@ module _ (sound : Sound) where
         reads = d .reads;
         program = t .program;
         ok = t .ok;
-        fine = carry-Ss (FromScript s) Fine (from-script-fine s (plain-script s (down-ascii s a d))) (t .program) (t .said);
+        fine = token-Ss Fine 0 [] (t .program) (t .ok) (carry-Ss (FromScript s) (IfToken Fine) (from-script-fine s (plain-script s (down-ascii s a d))) (t .program) (t .said));
         shows = record { toks = w .toks; flag = d .flag; labelled = ap (labels s (lex s)) (w .nodes) ∙ turned s (w .state .nodes) (rencProgram (t .program)) (t .labelled) };
       }
 

@@ -19,11 +19,10 @@ use Rattle.sifc_bridge.specs.Bytes.{speltOf, Plain, Fine}
 
 -- ── a token of a script ──
 
--- the word x is token i of the script s, and not its end
+-- the word x is a token of the script s
 pub record FromScript (s : List ℕ) (x : W) : Type 0 where
   pub index : ℕ
   pub is : wordIn s (tokenAt (lex s) index) ≡ x
-  pub token : x .kind ≤ 45
 
 abbrev noToken : Token
 noToken = token 47 0 0
@@ -67,9 +66,9 @@ fine-at s p i k =
       plain = plain-take (t .len) (drop (t .off) s) (plain-drop (t .off) s p);
     }
 
--- A word of an ASCII script is fine.
-pub from-script-fine : (s : List ℕ) → Plain s → (x : W) → FromScript s x → Fine x
-from-script-fine s p x f = subst (λ (y : W). Fine y) (f .is) (fine-at s p (f .index) (subst (λ (y : W). y .kind ≤ 45) (sym (f .is)) (f .token)))
+-- A word of an ASCII script that is not its end is fine.
+pub from-script-fine : (s : List ℕ) → Plain s → (x : W) → FromScript s x → x .kind ≤ 45 → Fine x
+from-script-fine s p x f k = subst (λ (y : W). Fine y) (f .is) (fine-at s p (f .index) (subst (λ (y : W). y .kind ≤ 45) (sym (f .is)) k))
 
 -- ── each word of a typed tree ──
 
