@@ -29,23 +29,29 @@ use Rattle.sifc_bridge.specs.Rooms.{forRoom, Alike, same-out, left-out, 
 
 -- ── the definition's calls, one step open ──
 
+-- a reading, by what entry says and by what is read
 byEntry : List ℕ → Arrays → Option Refusal → Outcome → Called Reading
 byEntry s a x o = elim x [ some r ↦ called (Refused r) a | none ↦ answered s a o ]
 
+-- The reading call is that.
 reading-is : (s : List ℕ) (a : Arrays) → reading s a ≡ byEntry s a (entry s (even a)) (read (roomsOf a) s)
 unfolding reading byEntry
 reading-is s a = refl
 
+-- a text call, likewise
 byEntryText : List ℕ → Arrays → List ℕ → Option Refusal → Outcome → Written
 byEntryText s a t x o = elim x [ some r ↦ written (NoText r) a t | none ↦ texted s a t o ]
 
+-- The text call is that.
 text-is : (s : List ℕ) (a : Arrays) (t : List ℕ) → textCall s a t ≡ byEntryText s a t (entry s (even a)) (read (roomsOf a) s)
 unfolding textCall byEntryText
 text-is s a t = refl
 
+-- what is read, by whether the tokens lack room and by how the walk ends
 byRoom : List Token → Bool → Out End → Outcome
 byRoom ts q o = elim q [ true ↦ refused TokensFull | false ↦ ended ts o ]
 
+-- What is read is that.
 read-is : (r : Rooms) (s : List ℕ) → read r s ≡ byRoom (lex s) (ltb (r .tokens) (length (lex s))) (walk (ctxOf r s) depthLimit)
 unfolding read byRoom
 read-is r s = refl
@@ -78,6 +84,7 @@ entry-ascii s e h = go (ltb longest (length s)) (ltb (span isAscii s) (length s)
     go false false true h = inl refl
     go false false false h = inr tt
 
+-- Where every byte passes the test, all are ASCII.
 plain-span : (s : List ℕ) → length s ≤ span isAscii s → Plain s
 unfolding Plain span
 plain-span [] h = tt
@@ -98,6 +105,7 @@ pub data Finds (r : Rooms) (s : List ℕ) (f : Found) : Type 0 where
   finds : read r s ≡ found f → Finds r s f
   cramped : (x : Refusal) → read r s ≡ refused x → T (sizeOrDepth x) → Finds r s f
 
+-- A refusal for room is one for size or depth.
 room-size : (x : Refusal) → T (forRoom x) → T (sizeOrDepth x)
 unfolding forRoom sizeOrDepth member
 room-size LongScript t = tt
@@ -112,6 +120,7 @@ room-size ErrorsFull t = tt
 room-size Flagged t = absurd t
 room-size TextFull t = tt
 
+-- An outcome is not both a refusal and something found.
 clash : {X : Type 0} (x : Refusal) (f : Found) → refused x ≡ found f → X
 clash x f e = absurd (let z : _≡_ {A = ℕ} 0 1 = cc in let y : ⊥ = omega arith in y)
 
@@ -140,6 +149,7 @@ pub record Walked (r : Rooms) (s : List ℕ) (f : Found) : Type 0 where
   pub nodes : f .nodes ≡ reverse (state .nodes)
   pub toks : f .toks ≡ lex s
 
+-- what an outcome has found
 foundOr : Found → Outcome → Found
 foundOr d (found f) = f
 foundOr d (refused x) = d
@@ -205,6 +215,7 @@ flag-down s a h = go (entry s (even a)) (read (roomsOf a) s) refl refl (subst (�
     go none (refused x) e k d = absurd (unfold byEntry answered FlagDown in d)
     go none (found f) e k d = record { what = f; reads = record { entered = e; found-it = k }; flag = unfold byEntry answered FlagDown in d }
 
+-- A call that meets no refusal for size or depth meets not this one.
 spared : (x : Refusal) → T (sizeOrDepth x) → T (not (sizeOrDepth x)) → ⊥
 spared x t u = go (sizeOrDepth x) t u
   where
@@ -222,6 +233,7 @@ fits-reads s a f b n h = go (entry s (even a)) refl (entry-ascii s (even a) b) n
     go none e z (finds m) k = record { entered = e; found-it = m }
     go none e z (cramped x m t) k = absurd (spared x t (unfold byEntry answered Fits in subst (λ (o : Outcome). Fits (answered s a o .answer)) m k))
 
+-- Neither of the two refusals, so the text is written.
 chosen : (p q : Bool) (x y z : Written) (t : List ℕ) → p ≡ false → (FitsText (y .answer) → ⊥) → Writes z t → FitsText ((if p then x else if q then y else z) .answer) → Writes (if p then x else if q then y else z) t
 unfolding if_then_else_
 chosen true q x y z t e n w k = absurd (subst (λ (b : Bool). T b) e tt)

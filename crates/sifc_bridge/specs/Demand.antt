@@ -33,6 +33,7 @@ unfoldable pub Fits : Reading → Type 0
 Fits (Read m) = Unit {0}
 Fits (Refused r) = T (not (sizeOrDepth r))
 
+-- likewise
 unfoldable pub FitsText : Texting → Type 0
 FitsText (Wrote n) = Unit {0}
 FitsText (NoText r) = T (not (sizeOrDepth r))
@@ -44,6 +45,7 @@ unfoldable pub FlagDown : Reading → Type 0
 FlagDown (Read m) = m .flag ≡ false
 FlagDown (Refused r) = ⊥
 
+-- how many nodes a reading answers
 unfoldable pub nodeCount : Reading → ℕ
 nodeCount (Read m) = m .nodes
 nodeCount (Refused r) = 0
@@ -52,6 +54,7 @@ nodeCount (Refused r) = 0
 abbrev pub headAt : Arrays → ℕ → ℕ
 headAt a i = getD (a .heads) i 0
 
+-- the second word
 abbrev pub loadAt : Arrays → ℕ → ℕ
 loadAt a i = getD (a .loads) i 0
 
@@ -80,6 +83,7 @@ pub record Writes (w : Written) (t : List ℕ) : Type 0 where
   pub count : w .answer ≡ Wrote (length t)
   pub bytes : take (length t) (w .text) ≡ t
 
+-- so many bytes of the buffer as are answered
 unfoldable pub answeredBytes : Texting → List ℕ → List ℕ
 answeredBytes (Wrote n) t = take n t
 answeredBytes (NoText r) t = []
@@ -104,15 +108,19 @@ pub record Lent : Type 0 where
 abbrev pub itsReading : Lent → Called Reading
 itsReading x = reading (x .script) (x .arrays₁)
 
+-- its text call
 abbrev pub itsText : Lent → Written
 itsText x = textCall (x .script) (x .arrays₂) (x .buffer₂)
 
+-- its canonical text, which is the script of the next two calls
 abbrev pub canonical : Lent → List ℕ
 canonical x = bytesOf (itsText x)
 
+-- the reading of its canonical text
 abbrev pub nextReading : Lent → Called Reading
 nextReading x = reading (canonical x) (x .arrays₃)
 
+-- the text call of its canonical text
 abbrev pub nextText : Lent → Written
 nextText x = textCall (canonical x) (x .arrays₄) (x .buffer₄)
 

@@ -45,10 +45,12 @@ Sound = (r : Rooms) (s : List ℕ) (depth : ℕ) (e : End) (z : St) → walk (ct
 
 -- ── lists ──
 
+-- A map over a reversed list.
 map-reverseAux : {A B : Type 0} (f : A → B) (xs ys : List A) → map f (reverseAux xs ys) ≡ reverseAux (map f xs) (map f ys)
 map-reverseAux f [] ys = refl
 map-reverseAux f (x ∷ xs) ys = map-reverseAux f xs (x ∷ ys)
 
+-- Labels newest first, and oldest first.
 turned : (s : List ℕ) (ns : List Node) (xs : List Lab) → labels s (lex s) ns ≡ xs → labels s (lex s) (reverse ns) ≡ reverse xs
 turned s ns xs e = map-reverseAux (label s (lex s)) ns [] ∙ ap reverse e
 
@@ -75,13 +77,16 @@ record Shows (s : List ℕ) (f : Found) (ts : Stmts) : Type 0 where
   flag : f .flag ≡ false
   labelled : labels s (lex s) (f .nodes) ≡ reverse (rencProgram ts)
 
+-- The canonical text of what shows a typed program is its print.
 shows-text : (s : List ℕ) (f : Found) (ts : Stmts) → OkProgram ts → SaidSs Fine ts → Shows s f ts → textFound s f ≡ print ts
 unfolding textFound
 shows-text s f ts ok fine h = rw (h .toks, h .labelled) (text-print ts ok fine)
 
+-- Its labels have kinds of nodes.
 shows-small : (s : List ℕ) (f : Found) (ts : Stmts) → Shows s f ts → Small (labels s (lex s) (f .nodes))
 shows-small s f ts h = rw (h .labelled) (small-program ts)
 
+-- The arrays of a reading tell of the nodes that it finds.
 reads-told : (s : List ℕ) (a : Arrays) (f : Found) → Reads s a f → f .toks ≡ lex s → Told s (f .nodes) (reading s a)
 reads-told s a f h e = rw (reads-reading s a f h) (told s (ctxOf (roomsOf a) s) f a e)
 
@@ -90,9 +95,11 @@ data Again (r : Rooms) (p : List ℕ) (ts : Stmts) : Type 0 where
   again : (f : Found) → read r p ≡ found f → Shows p f ts → Again r p ts
   tight : (x : Refusal) → read r p ≡ refused x → T (sizeOrDepth x) → Again r p ts
 
+-- An outcome is not both a refusal and something found.
 other-outcome : {X : Type 0} (x : Refusal) (f : Found) (o : Outcome) → o ≡ refused x → o ≡ found f → X
 other-outcome x f o p q = absurd (let z : _≡_ {A = ℕ} 0 1 = cc in let y : ⊥ = omega arith in y)
 
+-- An outcome is one thing found.
 found-same : (f g : Found) (o : Outcome) → o ≡ found f → o ≡ found g → f ≡ g
 found-same f g o p q = cc
 
@@ -155,9 +162,11 @@ record Side (x : Lent) : Type 0 where
 side-labels : (x : Lent) (h : Side x) → labels (x .script) (lex (x .script)) (h .typed .what .nodes) ≡ reverse (rencProgram (h .typed .program))
 side-labels x h = h .typed .shows .labelled
 
+-- The arrays of a script's reading tell of its nodes.
 side-told : (x : Lent) (h : Side x) → Told (x .script) (h .typed .what .nodes) (itsReading x)
 side-told x h = reads-told (x .script) (x .arrays₁) (h .typed .what) (h .typed .reads) (h .typed .shows .toks)
 
+-- Its labels have kinds of nodes.
 side-small : (x : Lent) (h : Side x) → Small (labels (x .script) (lex (x .script)) (h .typed .what .nodes))
 side-small x h = shows-small (x .script) (h .typed .what) (h .typed .program) (h .typed .shows)
 
@@ -244,6 +253,7 @@ module _ (sound : Sound) where
         shows = record { toks = w .toks; flag = d .flag; labelled = ap (labels s (lex s)) (w .nodes) ∙ turned s (w .state .nodes) (rencProgram (t .program)) (t .labelled) };
       }
 
+  -- What soundness says of a script that is read with the flag down, where no call meets a refusal for size or depth.
   side : (x : Lent) → FlagDown (itsReading x .answer) → AllFit x → Side x
   side x d h =
       let s : List ℕ = x .script in

@@ -22,6 +22,7 @@ either-way : {X : Type 0} (p q : Bool) → (T p → X) → (T q → X) → T (p 
 either-way true q f g t = f tt
 either-way false q f g t = g t
 
+-- kinds of tokens that are not the end
 under : List ℕ → Bool
 under [] = true
 under (n ∷ ns) = leb n 45 && under ns
@@ -34,6 +35,7 @@ member-under k (n ∷ ns) h t =
     either-way (eqb k n) (member k ns) (λ u. let e = eqb→eq k n u in let z = leb→le n 45 (and-left (leb n 45) (under ns) h) in omega arith)
     (λ u. member-under k ns (and-right (leb n 45) (under ns) h) u) t
 
+-- The one kind that a test names.
 is-under : (k n : ℕ) → n ≤ 45 → T (eqb k n) → k ≤ 45
 is-under k n h t = let e = eqb→eq k n t in omega arith
 
@@ -43,6 +45,7 @@ unfolding fine isLiteral under
 fine-under look b x t =
     either-way (isLiteral (x .kind)) _ (λ u. member-under (x .kind) _ tt u) (λ u. is-under (x .kind) Ident (omega arith) (and-left (eqb (x .kind) Ident) _ u)) t
 
+-- A unary operator.
 unary-under : (k : ℕ) → T (isUnary k) → k ≤ 45
 unfolding isUnary
 unary-under k t = either-way (eqb k Bang) (eqb k Minus) (λ u. is-under k Bang (omega arith) u) (λ u. is-under k Minus (omega arith) u) t
@@ -51,6 +54,7 @@ unary-under k t = either-way (eqb k Bang) (eqb k Minus) (λ u. is-under k Bang (
 member-eq : (k : ℕ) (ns : List ℕ) → T (under ns) → member k ns ≡ true → k ≤ 45
 member-eq k ns h e = member-under k ns h (rw e tt)
 
+-- The one kind that a test names.
 is-eq : (k n : ℕ) → n ≤ 45 → eqb k n ≡ true → k ≤ 45
 is-eq k n h e = is-under k n h (rw e tt)
 
@@ -66,6 +70,7 @@ binary-under k =
     if-either (λ (n : ℕ). 0 < n → k ≤ 45) (eqb k AmpAmp) _ _ (λ e h. is-eq k AmpAmp (omega arith) e) (λ e.
     if-either (λ (n : ℕ). 0 < n → k ≤ 45) (eqb k PipePipe) _ _ (λ e h. is-eq k PipePipe (omega arith) e) (λ e h. absurd (let z : ⊥ = omega arith in z))))))))
 
+-- A name.
 name-under : (k : ℕ) → k ≡ Ident → k ≤ 45
 name-under k e = omega arith
 
@@ -77,6 +82,7 @@ IfToken P x = x .kind ≤ 45 → P x
 
 module _ (P : W → Type 0) where
   module _ (look : List ℕ → Option What) where
+    -- expressions
     mutual
       unfolding Ok Oks Said Saids
 
@@ -99,11 +105,13 @@ module _ (P : W → Type 0) where
     token-I noItem k h = tt
     token-I (item x e is) k h = (h .0 (name-under (x .kind) (k .0)), token-E true e (k .1) (h .1), token-I is (k .2) (h .2))
 
+  -- Names that are bound.
   token-N : (ns : List W) → OkNames ns → SaidNames (IfToken P) ns → SaidNames P ns
   unfolding OkNames SaidNames
   token-N [] k h = tt
   token-N (x ∷ ns) k h = (h .0 (name-under (x .kind) (k .0)), token-N ns (k .1) (h .1))
 
+  -- statements and the branches of an `if`
   mutual
     unfolding OkS OkSs OkBs SaidS SaidSs SaidBs
 

@@ -8,20 +8,24 @@ use Rattle.sifc_def.specs.State.{W}
 use Rattle.sifc_def.specs.Label.{Lab}
 use Rattle.sifc_trip.specs.Typed.{Expr, prim, un, bin, call, dot, idx, set, mut, Exprs, nil, more, Items, noItem, item, Stmt, varNone, varExpr, varArray, varTable, func, block, cond, loop, ret, retExpr, exprStmt, Stmts, stop, next, Branches, noBranch, elifOf, elseOf, renc, rencs, rencNames, rencItems, rencArray, rencS, rencSs, rencBs, rencProgram}
 
+-- every kind is below 32
 unfoldable pub Small : List Lab → Type 0
 Small [] = Unit {0}
 Small (x ∷ xs) = T (ltb (x .kind) 32) × Small xs
 
+-- One list after another.
 small-append : (xs ys : List Lab) → Small xs → Small ys → Small (xs ++ ys)
 unfolding Small
 small-append [] ys h k = k
 small-append (x ∷ xs) ys h k = (h .0, small-append xs ys (h .1) k)
 
+-- A list reversed.
 small-reverse : (xs ys : List Lab) → Small xs → Small ys → Small (reverseAux xs ys)
 unfolding Small
 small-reverse [] ys h k = k
 small-reverse (x ∷ xs) ys h k = small-reverse xs (x ∷ ys) (h .1) (h .0, k)
 
+-- the labels of an expression, and of expressions
 mutual
   unfolding Small renc rencs
 
@@ -39,21 +43,25 @@ mutual
   small-Es nil = tt
   small-Es (more e es) = small-append (rencs es) (renc e) (small-Es es) (small-E e)
 
+-- Names.
 small-N : (ns : List W) → Small (rencNames ns)
 unfolding Small rencNames
 small-N [] = tt
 small-N (x ∷ ns) = small-append (rencNames ns) _ (small-N ns) (tt, tt)
 
+-- The items of a table.
 small-I : (is : Items) → Small (rencItems is)
 unfolding Small rencItems
 small-I noItem = tt
 small-I (item x e is) = small-append (rencItems is) _ (small-I is) (tt, small-E e)
 
+-- An array.
 small-A : (x : W) (es : Exprs) → Small (rencArray x es)
 unfolding Small rencArray
 small-A x nil = (tt, tt)
 small-A x (more e es) = (tt, (tt, small-Es (more e es)))
 
+-- the labels of a statement, of statements and of the branches of an `if`
 mutual
   unfolding Small rencS rencSs rencBs
 

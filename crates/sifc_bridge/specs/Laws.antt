@@ -33,6 +33,7 @@ pub text-nothing : text (lab Program false 0 0 [] ∷ []) ≡ []
 unfolding text
 text-nothing = refl
 
+-- the bytes of a typed program
 abbrev pub print : Stmts → List ℕ
 print ts = printed (declWords ts)
 
@@ -40,6 +41,7 @@ print ts = printed (declWords ts)
 tells : (ts : Stmts) → SaidSs Fine ts → SaidSs Tells ts
 tells ts g = carry-Ss Fine Tells (λ x f. good-tells x (f .good)) ts g
 
+-- Nothing is less than itself.
 not-less : (n : ℕ) → ltb n n ≡ false
 not-less n = go (ltb n n) refl
   where
@@ -53,11 +55,13 @@ unfolding AllFine
 fine-append [] ys h k = k
 fine-append (x ∷ xs) ys h k = (h .0, fine-append xs ys (h .1) k)
 
+-- All declarations' words are fine.
 all-fine : (ds : List (List W)) → EachFine ds → AllFine (joined ds)
 unfolding EachFine joined
 all-fine [] h = unfold AllFine in tt
 all-fine (d ∷ ds) h = fine-append d (joined ds) (h .0) (all-fine ds (h .1))
 
+-- A kind of at most 47 is not that of a lexing panic.
 no-panic : (k : ℕ) → k ≤ 47 → eqb k LexPanic ≡ false
 no-panic k h = go (eqb k LexPanic) refl
   where
@@ -65,6 +69,7 @@ no-panic k h = go (eqb k LexPanic) refl
     go true e = absurd (let z : k ≡ 48 = eqb→eq k 48 (rw e tt) in let y : ⊥ = omega arith in y)
     go false e = e
 
+-- The kinds of fine words, and of Eof.
 small-word : (ws : List W) → AllFine ws → (i : ℕ) → getD (ws ++ (eof ∷ [])) i eof .kind ≤ 47
 unfolding AllFine
 small-word [] h zero = omega arith
@@ -72,6 +77,7 @@ small-word [] h (suc i) = omega arith
 small-word (x ∷ ws) h zero = let z = h .0 .token in omega arith
 small-word (x ∷ ws) h (suc i) = small-word ws (h .1) i
 
+-- Tokens whose words are fine, and then Eof, are no lexing panic.
 calm-words : (s : List ℕ) (xs : List Token) (ws : List W) → AllFine ws → map (wordIn s) xs ≡ ws ++ (eof ∷ []) → (i : ℕ) → eqb (tokenAt xs i .kind) LexPanic ≡ false
 calm-words s xs ws f e i =
     no-panic (tokenAt xs i .kind)

@@ -24,15 +24,18 @@ pub record FromScript (s : List ℕ) (x : W) : Type 0 where
   pub index : ℕ
   pub is : wordIn s (tokenAt (lex s) index) ≡ x
 
+-- what stands past the last token
 abbrev noToken : Token
 noToken = token 47 0 0
 
+-- Token i is lexed to itself.
 good-at : (s : List ℕ) (ts : List Token) → AllWords s ts → (i : ℕ) → getD ts i (token 47 0 0) .kind ≤ 45 → Good (spell s (getD ts i (token 47 0 0)))
 unfolding AllWords
 good-at s [] h i k = absurd (let z : ⊥ = omega arith in z)
 good-at s (t ∷ ts) h zero k = h .0 k
 good-at s (t ∷ ts) h (suc i) k = good-at s ts (h .1) i k
 
+-- Token i has a byte, and lies in the script.
 part-at : {n lo : ℕ} {ts : List Token} → Run n lo ts → (i : ℕ) → getD ts i (token 47 0 0) .kind ≤ 45
     → (0 < getD ts i (token 47 0 0) .len) × (getD ts i (token 47 0 0) .off + getD ts i (token 47 0 0) .len ≤ n)
 part-at (last a b c (inl d)) zero k = absurd (let z : ⊥ = omega arith in z)
@@ -41,18 +44,21 @@ part-at (last a b c d) (suc i) k = absurd (let z : ⊥ = omega arith in z)
 part-at (more a b c d r) zero k = (b, c)
 part-at (more a b c d r) (suc i) k = part-at r i k
 
+-- The end of an ASCII list.
 plain-drop : (n : ℕ) (s : List ℕ) → Plain s → Plain (drop n s)
 unfolding Plain
 plain-drop zero s p = p
 plain-drop (suc n) [] p = tt
 plain-drop (suc n) (b ∷ s) p = plain-drop n s (p .1)
 
+-- The front of an ASCII list.
 plain-take : (n : ℕ) (s : List ℕ) → Plain s → Plain (take n s)
 unfolding Plain
 plain-take zero s p = tt
 plain-take (suc n) [] p = tt
 plain-take (suc n) (b ∷ s) p = (p .0, plain-take n s (p .1))
 
+-- Token i is fine.
 fine-at : (s : List ℕ) → Plain s → (i : ℕ) → tokenAt (lex s) i .kind ≤ 45 → Fine (wordIn s (tokenAt (lex s) i))
 fine-at s p i k =
     let t : Token = tokenAt (lex s) i in
@@ -73,6 +79,7 @@ from-script-fine s p x f k = subst (λ (y : W). Fine y) (f .is) (fine-at s p (f 
 -- ── each word of a typed tree ──
 
 module _ (P Q : W → Type 0) (f : (x : W) → P x → Q x) where
+  -- expressions
   mutual
     unfolding Said Saids
 
@@ -90,16 +97,19 @@ module _ (P Q : W → Type 0) (f : (x : W) → P x → Q x) where
     carry-Es nil h = tt
     carry-Es (another e es) h = (carry-E e (h .0), carry-Es es (h .1))
 
+  -- Names that are bound.
   carry-N : (ns : List W) → SaidNames P ns → SaidNames Q ns
   unfolding SaidNames
   carry-N [] h = tt
   carry-N (x ∷ ns) h = (f x (h .0), carry-N ns (h .1))
 
+  -- The items of a table.
   carry-I : (is : Items) → SaidItems P is → SaidItems Q is
   unfolding SaidItems
   carry-I noItem h = tt
   carry-I (item x e is) h = (f x (h .0), carry-E e (h .1), carry-I is (h .2))
 
+  -- statements and the branches of an `if`
   mutual
     unfolding SaidS SaidSs SaidBs
 

@@ -40,33 +40,40 @@ Mute (Skip n) = Unit {0}
 Mute (Word k n) = looseness k ≡ 0
 Mute (Stop n e) = Unit {0}
 
+-- A turn that gives no operator's kind.
 mute-shows : (x : Step) (k n : ℕ) (t : List ℕ) → Mute x → x ≡ Word k n → Shows k t
 mute-shows x k n t m e = shows-other k t (unfold Mute in subst (λ (y : Step). Mute y) e m)
 
+-- Either branch.
 mute-if : (q : Bool) (x y : Step) → Mute x → Mute y → Mute (if q then x else y)
 unfolding if_then_else_
 mute-if true x y f g = f
 mute-if false x y f g = g
 
+-- The end of a comment.
 mute-lineEnd : (n : ℕ) (r : List ℕ) → Mute (lineEnd n r)
 unfolding lineEnd Mute
 mute-lineEnd n [] = tt
 mute-lineEnd n (c ∷ r) = tt
 
+-- A string.
 mute-closed : (n : ℕ) (r : List ℕ) → Mute (closed n r)
 unfolding closed Mute looseness member if_then_else_
 mute-closed n [] = tt
 mute-closed n (c ∷ r) = refl
 
+-- A number with a point.
 mute-pointed : (n : ℕ) (r : List ℕ) → Mute (pointed n r)
 unfolding pointed Mute looseness member if_then_else_
 mute-pointed n [] = tt
 mute-pointed n (c ∷ r) = refl
 
+-- A number.
 number-word : (n : ℕ) → Mute (Word 33 n)
 unfolding Mute looseness member if_then_else_
 number-word n = refl
 
+-- A number, with a point or without.
 mute-fraction : (n : ℕ) (r : List ℕ) → Mute (fraction n r)
 unfolding fraction
 mute-fraction n [] = number-word n
@@ -77,6 +84,7 @@ noneOf : List Reserved.Word → Bool
 noneOf [] = true
 noneOf (w ∷ ws) = eqb (looseness (w .kind)) 0 && noneOf ws
 
+-- A name's kind among some words.
 mute-among : (ws : List Reserved.Word) (name : List ℕ) → T (noneOf ws) → looseness (kindAmong ws name) ≡ 0
 unfolding kindAmong noneOf if_then_else_
 mute-among [] name t = unfold looseness member if_then_else_ in refl
@@ -87,6 +95,7 @@ mute-among (w ∷ ws) name t =
     go true h k = h
     go false h k = k
 
+-- A name.
 mute-name : (b : ℕ) (bs : List ℕ) → Mute (lexIdent b bs)
 unfolding lexIdent Mute nameKind
 mute-name b bs = mute-among reservedWords (b ∷ take (span alnum bs) bs) (unfold noneOf reservedWords looseness member if_then_else_ in tt)
@@ -97,26 +106,32 @@ mute-name b bs = mute-among reservedWords (b ∷ take (span alnum bs) bs) (unfol
 agrees : ℕ → List ℕ → Bool
 agrees k t = eqb (opStrength t) (8 - looseness k)
 
+-- A text that agrees tells the strength.
 shows-agreed : (k : ℕ) (t : List ℕ) → T (agrees k t) → Shows k t
 unfolding agrees Shows
 shows-agreed k t h p = eqb→eq (opStrength t) (8 - looseness k) h
 
+-- of each sign of one byte
 oneAgrees : List Sign → Bool
 oneAgrees [] = true
 oneAgrees (x ∷ xs) = agrees (x .kind) (x .first ∷ []) && oneAgrees xs
 
+-- of each sign of two
 bothAgree : List Sign → Bool
 bothAgree [] = true
 bothAgree (x ∷ xs) = agrees (x .kind) (x .first ∷ x .second ∷ []) && bothAgree xs
 
+-- The signs of one byte, by computation.
 singles-agree : T (oneAgrees singles)
 unfolding oneAgrees agrees singles opStrength wordKind step looseness member if_then_else_
 singles-agree = tt
 
+-- The signs of two bytes, by computation.
 doubles-agree : T (bothAgree doubles)
 unfolding bothAgree agrees doubles opStrength wordKind step looseness member if_then_else_
 doubles-agree = tt
 
+-- A sign of one byte, out of a table.
 shows-single : (ss : List Sign) → T (oneAgrees ss) → (b : ℕ) → Shows (singleKind ss b) (b ∷ [])
 unfolding oneAgrees singleKind if_then_else_
 shows-single [] a b = shows-other 0 (b ∷ []) (unfold looseness member if_then_else_ in refl)
@@ -128,6 +143,7 @@ shows-single (x ∷ xs) a b = go (eqb b (x .first)) refl (shows-single xs (and-r
         (shows-agreed (x .kind) (x .first ∷ []) (and-left (agrees (x .kind) (x .first ∷ [])) (oneAgrees xs) a))
     go false h ih = ih
 
+-- A sign of two bytes, out of a table.
 shows-double : (ss : List Sign) → T (bothAgree ss) → (b c : ℕ) → Shows (doubleKind ss b c) (b ∷ c ∷ [])
 unfolding bothAgree doubleKind if_then_else_
 shows-double [] a b c = shows-other 0 (b ∷ c ∷ []) (unfold looseness member if_then_else_ in refl)
@@ -145,26 +161,32 @@ shows-double (x ∷ xs) a b c =
 
 -- ── a turn ──
 
+-- A branch that comes to z is one of the two.
 if-case : {X : Type 0} (q : Bool) (x y z : Step) → (T q → x ≡ z → X) → (T (not q) → y ≡ z → X) → (if q then x else y) ≡ z → X
 unfolding if_then_else_
 if-case true x y z f g e = f tt e
 if-case false x y z f g e = g tt e
 
+-- A word's kind.
 kind-eq : (j m k n : ℕ) → Word j m ≡ Word k n → j ≡ k
 kind-eq j m k n e = cc
 
+-- A word's length.
 len-eq : (j m k n : ℕ) → Word j m ≡ Word k n → m ≡ n
 len-eq j m k n e = cc
 
+-- A turn that gives a word.
 shows-word : (j m k n : ℕ) (s : List ℕ) → Shows j (take m s) → Word j m ≡ Word k n → Shows k (take n s)
 shows-word j m k n s h e = subst₂ (λ (i : ℕ) (l : ℕ). Shows i (take l s)) (kind-eq j m k n e) (len-eq j m k n e) h
 
+-- A sign of one byte.
 shows-one : (b : ℕ) (bs : List ℕ) (k n : ℕ) → oneSign b ≡ Word k n → Shows k (take n (b ∷ bs))
 unfolding oneSign
 shows-one b bs k n e =
     if-case (eqb (singleKind singles b) 0) (Stop 0 UnknownChar) (Word (singleKind singles b) 1) (Word k n) (λ t z. mute-shows (Stop 0 UnknownChar) k n _ (unfold Mute in tt) z)
     (λ t z. shows-word (singleKind singles b) 1 k n (b ∷ bs) (shows-single singles singles-agree b) z) e
 
+-- A sign.
 shows-sign : (b : ℕ) (bs : List ℕ) (k n : ℕ) → lexSign b bs ≡ Word k n → Shows k (take n (b ∷ bs))
 unfolding lexSign
 shows-sign b [] k n e = shows-one b [] k n e
@@ -172,16 +194,19 @@ shows-sign b (c ∷ bs) k n e =
     if-case (eqb (doubleKind doubles b c) 0) (oneSign b) (Word (doubleKind doubles b c) 2) (Word k n) (λ t z. shows-one b (c ∷ bs) k n z)
     (λ t z. shows-word (doubleKind doubles b c) 2 k n (b ∷ c ∷ bs) (shows-double doubles doubles-agree b c) z) e
 
+-- A slash, by computation.
 slash-agrees : T (agrees 17 (47 ∷ []))
 unfolding agrees opStrength wordKind step looseness member if_then_else_
 slash-agrees = tt
 
+-- A slash, or a comment.
 shows-slash : (bs : List ℕ) (k n : ℕ) → lexSlash bs ≡ Word k n → Shows k (take n (47 ∷ bs))
 unfolding lexSlash slashComment
 shows-slash bs k n e =
     if-case (nextIs 47 bs) (slashComment bs) (Word 17 1) (Word k n) (λ t z. mute-shows (slashComment bs) k n _ (mute-lineEnd (1 + span inLine bs) (drop (span inLine bs) bs)) z)
     (λ t z. shows-word 17 1 k n (47 ∷ bs) (shows-agreed 17 (47 ∷ []) slash-agrees) z) e
 
+-- A turn.
 shows-step : (s : List ℕ) (k n : ℕ) → step s ≡ Word k n → Shows k (take n s)
 unfolding step Mute hashComment lexStr lexNum
 shows-step [] k n e = mute-shows _ k n _ tt e

@@ -19,20 +19,24 @@ use Rattle.sifc_bridge.specs.Words.{declWords}
 
 -- ── the fixed words ──
 
+-- every byte is below 128
 allAscii : List ℕ → Bool
 allAscii [] = true
 allAscii (b ∷ bs) = isAscii b && allAscii bs
 
+-- by that test
 plain-of : (t : List ℕ) → T (allAscii t) → Plain t
 unfolding allAscii Plain
 plain-of [] h = tt
 plain-of (b ∷ bs) h = (and-left (isAscii b) (allAscii bs) h, plain-of bs (and-right (isAscii b) (allAscii bs) h))
 
+-- Before a space and before a newline.
 both-seps : (k : ℕ) (t : List ℕ) → ((rest : List ℕ) → step (t ++ (32 ∷ rest)) ≡ Word k (length t)) → ((rest : List ℕ) → step (t ++ (10 ∷ rest)) ≡ Word k (length t)) → Good (record { kind = k; text = t })
 unfolding Good sep
 both-seps k t f g true rest = f rest
 both-seps k t f g false rest = g rest
 
+-- it has a byte, it is no end, and it is ASCII
 usual : ℕ → List ℕ → Bool
 usual k t = leb 1 (length t) && (leb k 45 && allAscii t)
 
@@ -72,6 +76,7 @@ record FixedWords : Type 0 where
   f-for : Fine forWord
   f-in : Fine inWord
 
+-- Each is fine, by computation.
 fixedWords : FixedWords
 unfolding step usual allAscii isAscii if_then_else_
 fixedWords =
@@ -106,40 +111,49 @@ record Puts (f : List W → List W) : Type 0 where
   before : (r s : List W) → f (r ++ s) ≡ f r ++ s
   fine : (r : List W) → AllFine r → AllFine (f r)
 
+-- Nothing is put.
 puts-none : Puts (λ r. r)
 puts-none = record { before = λ r s. refl; fine = λ r h. h }
 
+-- A word, and then a print.
 puts-word : {x : W} {f : List W → List W} → Fine x → Puts f → Puts (λ r. x ∷ f r)
 unfolding AllFine
 puts-word {x} h k = record { before = λ r s. ap (λ (z : List W). x ∷ z) (k .before r s); fine = λ r g. (h, k .fine r g) }
 
+-- A print, and then another.
 puts-both : {f g : List W → List W} → Puts f → Puts g → Puts (λ r. f (g r))
 puts-both {f} {g} h k =
     record { before = λ r s. ap f (k .before r s) ∙ h .before (g r) s; fine = λ r a. h .fine (g r) (k .fine r a) }
 
+-- A print, and then a word.
 puts-last : {x : W} {f : List W → List W} → Fine x → Puts f → Puts (λ r. f (x ∷ r))
 puts-last h k = puts-both k (puts-word h puts-none)
 
+-- Bare, or in parentheses.
 puts-wrap : (q : Bool) {f : List W → List W} → Puts f → Puts (wrap q f)
 unfolding wrap
 puts-wrap true h = h
 puts-wrap false h = puts-word (fixedWords .f-lp) (puts-last (fixedWords .f-rp) h)
 
+-- A comma, where another argument follows.
 puts-between : (es : Exprs) {f : List W → List W} → Puts f → Puts (λ r. between es (f r))
 unfolding between
 puts-between nil h = h
 puts-between (more e es) h = puts-word (fixedWords .f-comma) h
 
+-- A comma, where another name follows.
 puts-betweenNames : (ns : List W) {f : List W → List W} → Puts f → Puts (λ r. betweenNames ns (f r))
 unfolding betweenNames
 puts-betweenNames [] h = h
 puts-betweenNames (x ∷ ns) h = puts-word (fixedWords .f-comma) h
 
+-- A comma, where another item follows.
 puts-betweenItems : (is : Items) {f : List W → List W} → Puts f → Puts (λ r. betweenItems is (f r))
 unfolding betweenItems
 puts-betweenItems noItem h = h
 puts-betweenItems (item x e is) h = puts-word (fixedWords .f-comma) h
 
+-- the print of an expression, and of expressions
 mutual
   unfolding Said Saids pr prs
 
@@ -158,11 +172,13 @@ mutual
   puts-Es nil g = puts-none
   puts-Es (more e es) g = puts-both (puts-E e (g .0)) (puts-between es (puts-Es es (g .1)))
 
+-- Names.
 puts-N : (ns : List W) → SaidNames Fine ns → Puts (prNames ns)
 unfolding SaidNames prNames
 puts-N [] g = puts-none
 puts-N (x ∷ ns) g = puts-word (g .0) (puts-betweenNames ns (puts-N ns (g .1)))
 
+-- The items of a table.
 puts-I : (is : Items) → SaidItems Fine is → Puts (prItems is)
 unfolding SaidItems prItems
 puts-I noItem g = puts-none
@@ -172,6 +188,7 @@ puts-I (item x e is) g = puts-word (g .0) (puts-word (fixedWords .f-arrow) (puts
 puts-block : {f : List W → List W} → Puts f → Puts (λ r. lbrace ∷ f (rbrace ∷ r))
 puts-block h = puts-word (fixedWords .f-lbrace) (puts-last (fixedWords .f-rbrace) h)
 
+-- the print of a statement, of statements and of the branches of an `if`
 mutual
   unfolding SaidS SaidSs SaidBs prS prSs prBs
 

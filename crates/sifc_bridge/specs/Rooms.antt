@@ -37,6 +37,7 @@ pub data Alike {A : Type 0} : Out A → Out A → Type 0 where
 pub record Likes {A : Type 0} (m m′ : M A) : Type 0 where
   pub at : (s : St) → Alike (m s) (m′ s)
 
+-- What goes on alike from alike outcomes is alike.
 alike-go : {A B : Type 0} {o o′ : Out A} (f f′ : A → M B) → Alike o o′ → ((a : A) → Likes (f a) (f′ a)) → Alike (go-on o f) (go-on o′ f′)
 unfolding go-on
 alike-go f f′ (same-out (done a s)) h = h a .at s
@@ -45,6 +46,7 @@ alike-go f f′ (same-out (refuse r)) h = same-out (refuse r)
 alike-go f f′ (left-out r o t) h = left-out r (go-on o f′) t
 alike-go f f′ (right-out r o t) h = right-out r (go-on o f) t
 
+-- A step is like itself.
 like : {A : Type 0} (m : M A) → Likes m m
 like m = record { at = λ s. same-out (m s) }
 
@@ -52,6 +54,7 @@ like m = record { at = λ s. same-out (m s) }
 onward : {A B : Type 0} {m m′ : M A} {f f′ : A → M B} → Likes m m′ → ((a : A) → Likes (f a) (f′ a)) → Likes (λ s. go-on (m s) f) (λ s. go-on (m′ s) f′)
 onward {m} {m′} {f} {f′} h k = record { at = λ s. alike-go f f′ (h .at s) k }
 
+-- Either branch.
 either : {A : Type 0} (b : Bool) {m m′ k k′ : M A} → Likes m m′ → Likes k k′ → Likes (if b then m else k) (if b then m′ else k′)
 unfolding if_then_else_
 either true h g = h
@@ -87,6 +90,8 @@ module _ (script : List ℕ) (ts : List Token) (w n y e n′ y′ e′ : ℕ) wh
 
   abbrev c′ : Ctx
   c′ = given script ts w n′ y′ e′
+
+  -- Each l-f below says of the step f of the definition that it is alike in the two contexts.
 
   -- ── the small steps ──
 
@@ -474,6 +479,7 @@ module _ (script : List ℕ) (ts : List Token) (w n y e n′ y′ e′ : ℕ) wh
 
   -- ── the walk ──
 
+  -- The counted calls.
   l-walkers : (d : ℕ) → LikeRec (walkers c d) (walkers c′ d)
   unfolding walkers
   l-walkers zero = record { block = λ b is. like _; assign = like _; unary = like _; call = like _ }
@@ -486,6 +492,7 @@ module _ (script : List ℕ) (ts : List Token) (w n y e n′ y′ e′ : ℕ) wh
         call = l-fnCallExpr (walkers c d) (walkers c′ d) h;
       }
 
+  -- The match on a result.
   l-settled : (m : ℕ) {o o′ : Out (Unit {0})} → Alike o o′ → Alike (settled c m o) (settled c′ m o′)
   unfolding settled giveUp setNodes go-on
   l-settled m (same-out (done a s)) = same-out _

@@ -24,6 +24,7 @@ use Rattle.sifc_bridge.specs.Kinds.{Small}
 
 -- ── elements of a padded array ──
 
+-- An array of zeros.
 zeros : (m i : ℕ) → _≡_ {A = ℕ} (getD (replicate m 0) i 0) 0
 zeros zero i = refl
 zeros (suc m) zero = refl
@@ -37,11 +38,13 @@ at-padded g d e (x ∷ xs) m (suc i) = at-padded g d e xs m i
 
 -- ── first words ──
 
+-- The first word tells the kind.
 head-kind : (n : Node) → n .kind < 32 → headWord n % 32 ≡ n .kind
 head-kind n h =
     let e : headWord n ≡ n .kind + 32 * (bit (n .flag) + 2 * n .kids) = omega arith in
     ap (λ (x : ℕ). x % 32) e ∙ add-mul-mod-self-left (n .kind) 32 (bit (n .flag) + 2 * n .kids) ∙ mod-eq-of-lt h
 
+-- The first word tells kind, flag and number of children.
 parts : (k k′ n n′ : ℕ) (f f′ : Bool) → k < 32 → k′ < 32 → k + 32 * bit f + 64 * n ≡ k′ + 32 * bit f′ + 64 * n′ → (k ≡ k′) × (f ≡ f′) × (n ≡ n′)
 parts k k′ n n′ true true h h′ e = (omega arith, refl, omega arith)
 parts k k′ n n′ true false h h′ e = absurd (let z : ⊥ = omega arith in z)
@@ -50,12 +53,15 @@ parts k k′ n n′ false false h h′ e = (omega arith, refl, omega arith)
 
 -- ── tokens ──
 
+-- what stands past the last token
 abbrev noToken : Token
 noToken = token 47 0 0
 
+-- a token of zeros
 abbrev blank : Token
 blank = token 0 0 0
 
+-- A kind of token is below 64.
 run-kind : {n lo : ℕ} {ts : List Token} → Run n lo ts → (i : ℕ) → getD ts i blank .kind < 64
 run-kind (last a b c (inl d)) zero = omega arith
 run-kind (last a b c (inr d)) zero = let z = d .0 in omega arith
@@ -63,6 +69,7 @@ run-kind (last a b c d) (suc i) = omega arith
 run-kind (more a b c d r) zero = let z = d .1 in omega arith
 run-kind (more a b c d r) (suc i) = run-kind r i
 
+-- A token's second word tells its length.
 word-len : (t : Token) → t .kind < 64 → tokenWord t / 64 ≡ t .len
 word-len t h =
     add-mul-div-left (t .kind) (t .len) (let z : 0 < 64 = lit< tt in z) ∙ ap (λ (x : ℕ). x + t .len) (div-eq-of-lt h) ∙ zero-add (t .len)
@@ -78,6 +85,7 @@ text-told s m m′ i =
 
 -- ── what the arrays of a reading tell ──
 
+-- a node of zeros
 abbrev noNode : Node
 noNode = node 0 false 0 0
 
@@ -99,12 +107,14 @@ told s c f a e =
       texts = λ i. rw e (text-told s (length (a .offs) - length (map (λ (t : Token). t .off) (lex s))) (length (a .words) - length (map tokenWord (lex s))) i);
     }
 
+-- Node i has a kind of nodes.
 small-at : (s : List ℕ) (ts : List Token) (ns : List Node) → Small (labels s ts ns) → (i : ℕ) → getD ns i (node 0 false 0 0) .kind < 32
 unfolding Small
 small-at s ts [] h i = lit< tt
 small-at s ts (n ∷ ns) h zero = ltb→lt (n .kind) 32 (h .0)
 small-at s ts (n ∷ ns) h (suc i) = small-at s ts ns (h .1) i
 
+-- Equal scopes.
 scope-same : (k k′ p p′ : ℕ) → k ≡ k′ → (k ≡ Block → p ≡ p′) → (if eqb k Block then p else 0) ≡ (if eqb k′ Block then p′ else 0)
 unfolding if_then_else_
 scope-same k k′ p p′ e f = rw (← e) (go (eqb k Block) refl)
@@ -113,6 +123,7 @@ scope-same k k′ p p′ e f = rw (← e) (go (eqb k Block) refl)
     go true h = f (eqb→eq k Block (rw h tt))
     go false h = refl
 
+-- Equal texts.
 text-same : (k k′ : ℕ) (t t′ : List ℕ) → k ≡ k′ → (T (hasToken k) → t ≡ t′) → (if hasToken k then t else []) ≡ (if hasToken k′ then t′ else [])
 unfolding if_then_else_
 text-same k k′ t t′ e f = rw (← e) (go (hasToken k) refl)
@@ -121,13 +132,16 @@ text-same k k′ t t′ e f = rw (← e) (go (hasToken k) refl)
     go true h = f (rw h tt)
     go false h = refl
 
+-- Equal labels, field by field.
 lab-same : (k k′ : ℕ) (f f′ : Bool) (n n′ l l′ : ℕ) (t t′ : List ℕ) → k ≡ k′ → f ≡ f′ → n ≡ n′ → l ≡ l′ → t ≡ t′ → lab k f n l t ≡ lab k′ f′ n′ l′ t′
 lab-same k k′ f f′ n n′ l l′ t t′ a b c d e = rw (a, b, c, d, e) refl
 
+-- A Block's scope is its payload.
 scope-is : (k p : ℕ) → k ≡ Block → (if eqb k Block then p else 0) ≡ p
 unfolding if_then_else_
 scope-is k p e = rw e refl
 
+-- A text is its token's.
 text-is : (k : ℕ) (t : List ℕ) → T (hasToken k) → (if hasToken k then t else []) ≡ t
 unfolding if_then_else_
 text-is k t h = go (hasToken k) h
@@ -136,9 +150,11 @@ text-is k t h = go (hasToken k) h
     go true u = refl
     go false u = absurd u
 
+-- the label of a node of zeros
 abbrev noLab : Lab
 noLab = lab 0 false 0 0 []
 
+-- The label of node i.
 label-at : (s : List ℕ) (ts : List Token) (ns : List Node) (i : ℕ) → getD (labels s ts ns) i (lab 0 false 0 0 []) ≡ label s ts (getD ns i (node 0 false 0 0))
 unfolding scopeOf textOf hasToken member if_then_else_
 label-at s ts ns i = List·getD-map (label s ts) ns i noNode
@@ -148,6 +164,7 @@ module _ (s s′ : List ℕ) (ns ns′ : List Node) (c c′ : Called Reading) (t
   abbrev one : ℕ → Node
   one i = getD ns i (node 0 false 0 0)
 
+  -- node i of the other
   abbrev other : ℕ → Node
   other i = getD ns′ i (node 0 false 0 0)
 

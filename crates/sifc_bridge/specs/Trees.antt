@@ -19,21 +19,27 @@ use Rattle.sifc_trip.specs.Typed.{Expr, prim, un, bin, call, dot, idx, set, mut
 abbrev pub plainTree : ℕ → Bool → Forest → Tree
 plainTree k f ts = tree k f 0 [] ts
 
+-- a node with the text of a token
 abbrev pub saidTree : ℕ → Bool → W → Forest → Tree
 saidTree k f x ts = tree k f 0 (x .text) ts
 
+-- a single token
 abbrev pub atom : W → Tree
 atom x = saidTree PrimaryExpr false x leaf
 
+-- one child
 abbrev pub one : Tree → Forest
 one t = grow t leaf
 
+-- two children
 abbrev pub two : Tree → Tree → Forest
 two t u = grow t (grow u leaf)
 
+-- three
 abbrev pub three : Tree → Tree → Tree → Forest
 three t u v = grow t (grow u (grow v leaf))
 
+-- an expression, and expressions
 unfoldable mutual
   pub treeE : Expr → Tree
   treeE (prim x) = atom x
@@ -49,14 +55,17 @@ unfoldable mutual
   treesE nil = leaf
   treesE (more e es) = grow (treeE e) (treesE es)
 
+-- names
 unfoldable pub treesN : List W → Forest
 treesN [] = leaf
 treesN (x ∷ xs) = grow (atom x) (treesN xs)
 
+-- the items of a table
 unfoldable pub treesI : Items → Forest
 treesI noItem = leaf
 treesI (item x e is) = grow (saidTree TableItem false x (one (treeE e))) (treesI is)
 
+-- "A non-empty Array has one ArrayItems child."
 unfoldable pub arrayForest : Exprs → Forest
 arrayForest nil = leaf
 arrayForest (more e es) = one (plainTree ArrayItems false (treesE (more e es)))
@@ -65,6 +74,7 @@ arrayForest (more e es) = one (plainTree ArrayItems false (treesE (more e es)))
 abbrev pub blockTree : ℕ → Forest → Tree
 blockTree l ts = tree Block false l [] ts
 
+-- a statement at level l, statements, and the branches of an `if`
 unfoldable mutual
   pub treeS : ℕ → Stmt → Tree
   treeS l (varNone x) = saidTree VarDecl (globalAt l) x leaf
@@ -88,34 +98,41 @@ unfoldable mutual
   treesB l (elifOf e ss bs) = grow (plainTree ElifStmt false (two (treeE e) (blockTree (suc l) (treesS (suc l) ss)))) (treesB l bs)
   treesB l (elseOf ss bs) = grow (blockTree (suc l) (treesS (suc l) ss)) (treesB l bs)
 
+-- a program
 unfoldable pub treeProgram : Stmts → Tree
 treeProgram ts = plainTree Program false (treesS 0 ts)
 
 -- ── reading a node's label back over its children ──
 
+-- one forest, and then another
 beside : Forest → Forest → Forest
 beside leaf us = us
 beside (grow t ts) us = grow t (beside ts us)
 
+-- and then none
 beside-leaf : (ts : Forest) → beside ts leaf ≡ ts
 unfolding beside
 beside-leaf leaf = refl
 beside-leaf (grow t ts) = ap (grow t) (beside-leaf ts)
 
+-- The trees of a forest are taken from a stack again.
 gather-onto : (ts : Forest) (m : ℕ) (st : List Tree) (us : Forest) → gather (width ts + m) (onto ts st) us ≡ gather m st (beside ts us)
 unfolding gather width onto beside
 gather-onto leaf m st us = rw zero-add refl
 gather-onto (grow t ts) m st us = rw (suc-add, ← add-suc) (gather-onto ts (suc m) (t ∷ st) us)
 
+-- The rest of the stack.
 drop-onto : (ts : Forest) (m : ℕ) (st : List Tree) → drop (width ts + m) (onto ts st) ≡ drop m st
 unfolding width onto
 drop-onto leaf m st = rw zero-add refl
 drop-onto (grow t ts) m st = rw (suc-add, ← add-suc) (drop-onto ts (suc m) (t ∷ st))
 
+-- All of them.
 taken : (ts : Forest) (st : List Tree) → gather (width ts) (onto ts st) leaf ≡ ts
 unfolding gather
 taken ts st = rw add-zero at (gather-onto ts 0 st leaf ∙ beside-leaf ts)
 
+-- What is left.
 left : (ts : Forest) (st : List Tree) → drop (width ts) (onto ts st) ≡ st
 left ts st = rw add-zero at (drop-onto ts 0 st)
 
@@ -127,26 +144,31 @@ node k f l x n ts r st e = rw (e, taken ts st, left ts st) refl
 
 -- ── how many children ──
 
+-- Arguments.
 width-E : (es : Exprs) → many es ≡ width (treesE es)
 unfolding many width treesE
 width-E nil = refl
 width-E (more e es) = ap suc (width-E es)
 
+-- Names.
 width-N : (xs : List W) → length xs ≡ width (treesN xs)
 unfolding width treesN
 width-N [] = refl
 width-N (x ∷ xs) = ap suc (width-N xs)
 
+-- Items.
 width-I : (is : Items) → manyItems is ≡ width (treesI is)
 unfolding manyItems width treesI
 width-I noItem = refl
 width-I (item x e is) = ap suc (width-I is)
 
+-- Declarations.
 width-S : (l : ℕ) (ts : Stmts) → counted ts ≡ width (treesS l ts)
 unfolding counted width treesS
 width-S l stop = refl
 width-S l (next t ts) = ap suc (width-S l ts)
 
+-- Branches.
 width-B : (l : ℕ) (bs : Branches) → manyBranches bs ≡ width (treesB l bs)
 unfolding manyBranches width treesB
 width-B l noBranch = refl
@@ -155,9 +177,11 @@ width-B l (elseOf ss bs) = ap suc (width-B l bs)
 
 -- ── the labels, oldest first, before the rest r ──
 
+-- Two and n.
 two-more : (n : ℕ) → 2 + n ≡ suc (suc n)
 two-more n = rw (suc-add, suc-add, zero-add) refl
 
+-- the labels of an expression put its tree on the stack
 mutual
   unfolding renc rencs treeE treesE dec gather onto width
 
@@ -183,11 +207,13 @@ mutual
   dec-Es nil r st = refl
   dec-Es (more e es) r st = rw (reverseAux-append (rencs es) (renc e) r) (dec-E e (reverseAux (rencs es) r) st ∙ dec-Es es r (treeE e ∷ st))
 
+-- Names.
 dec-N : (xs : List W) (r : List Lab) (st : List Tree) → dec (reverseAux (rencNames xs) r) st ≡ dec r (onto (treesN xs) st)
 unfolding rencNames treesN dec gather onto
 dec-N [] r st = refl
 dec-N (x ∷ xs) r st = rw (reverseAux-append (rencNames xs) (primLab x ∷ []) r) (dec-N xs r (atom x ∷ st))
 
+-- The items of a table.
 dec-I : (is : Items) (r : List Lab) (st : List Tree) → dec (reverseAux (rencItems is) r) st ≡ dec r (onto (treesI is) st)
 unfolding rencItems treesI dec gather onto
 dec-I noItem r st = refl
@@ -196,6 +222,7 @@ dec-I (item x e is) r st =
     rw (reverseAux-append (rencItems is) (said TableItem false 1 x ∷ renc e) r)
     (dec-E e (said TableItem false 1 x ∷ q) st ∙ dec-I is r (saidTree TableItem false x (one (treeE e)) ∷ st))
 
+-- An array.
 dec-A : (x : W) (es : Exprs) (r : List Lab) (st : List Tree) → dec (reverseAux (rencArray x es) r) st ≡ dec r (saidTree Array false x (arrayForest es) ∷ st)
 unfolding rencArray arrayForest dec gather
 dec-A x nil r st = refl
@@ -203,6 +230,7 @@ dec-A x (more e es) r st =
     dec-Es (more e es) (bare ArrayItems false (suc (many es)) ∷ said Array false 1 x ∷ r) st
     ∙ node ArrayItems false 0 [] (suc (many es)) (treesE (more e es)) (said Array false 1 x ∷ r) st (unfold many in width-E (more e es))
 
+-- the labels of a statement put its tree on the stack
 mutual
   unfolding rencS rencSs rencBs treeS treesS treesB dec gather onto width
 

@@ -29,19 +29,24 @@ use Rattle.sifc_bridge.specs.Trees.{atom, one, blockTree, treeE, treesE,
 pub record Says (ws : Words) (f : List W → List W) : Type 0 where
   pub is : (rest : List W) → ws ++ texts rest ≡ texts (f rest)
 
+-- No word.
 says-none : Says [] (λ r. r)
 says-none = record { is = λ rest. refl }
 
+-- A word, and then a print.
 says-word : (x : W) {ws : Words} {f : List W → List W} → Says ws f → Says (x .text ∷ ws) (λ r. x ∷ f r)
 unfolding texts
 says-word x h = record { is = λ rest. ap (λ (z : Words). x .text ∷ z) (h .is rest) }
 
+-- A print, and then another.
 says-both : {ws vs : Words} {f g : List W → List W} → Says ws f → Says vs g → Says (ws ++ vs) (λ r. f (g r))
 says-both {ws} {vs} {f} {g} h k = record { is = λ rest. append-assoc ws vs (texts rest) ∙ ap (λ (z : Words). ws ++ z) (k .is rest) ∙ h .is (g rest) }
 
+-- A print, and then a word.
 says-last : (x : W) {ws : Words} {f : List W → List W} → Says ws f → Says (ws ++ (x .text ∷ [])) (λ r. f (x ∷ r))
 says-last x h = says-both h (says-word x says-none)
 
+-- A print, and then none.
 says-row : {ws : Words} {f : List W → List W} → Says ws f → Says (ws ++ []) f
 says-row h = says-both h says-none
 
@@ -51,6 +56,7 @@ says-row h = says-both h says-none
 unfoldable pub Tells : W → Type 0
 Tells x = 0 < looseness (x .kind) → opStrength (x .text) ≡ 8 - looseness (x .kind)
 
+-- No operator binds more loosely than `||`.
 pub looseness-le : (k : ℕ) → looseness k ≤ 7
 unfolding looseness
 looseness-le k =
@@ -66,6 +72,7 @@ looseness-le k =
 unfoldable Matches : ℕ → ℕ → Type 0
 Matches h s = ((h ≡ 0) × (8 ≤ s)) ⊎ ((0 < h) × (h ≤ 8) × (s ≡ 8 - h))
 
+-- Two tests that exclude each other, and of which one holds.
 decided : (p q : Bool) → (T p → T (not q)) → (T (not p) → T q) → p ≡ not q
 decided true true f g = absurd (f tt)
 decided true false f g = refl
@@ -81,6 +88,7 @@ left-test h s n p q (inr m) =
     decided (ltb s (8 - n)) (leb h n) (λ t. let z = ltb→lt s (8 - n) t in not-T (leb h n) (λ u. let y = leb→le h n u in let x : ⊥ = omega arith in x))
     (λ t. let z = nltb→le s (8 - n) t in le→leb h n (omega arith))
 
+-- the right operand
 right-test : (h s n : ℕ) → 0 < n → n ≤ 7 → Matches h s → leb s (8 - n) ≡ not (ltb h n)
 unfolding Matches
 right-test h s n p q (inl m) =
@@ -89,6 +97,7 @@ right-test h s n p q (inr m) =
     decided (leb s (8 - n)) (ltb h n) (λ t. let z = leb→le s (8 - n) t in not-T (ltb h n) (λ u. let y = ltb→lt h n u in let x : ⊥ = omega arith in x))
     (λ t. let z = nleb→lt s (8 - n) t in lt→ltb h n (omega arith))
 
+-- a unary operator's operand
 unary-test : (h s : ℕ) → Matches h s → ltb s 8 ≡ not (leb h 0)
 unfolding Matches
 unary-test h s (inl m) = decided (ltb s 8) (leb h 0) (λ t. let z = ltb→lt s 8 t in not-T (leb h 0) (λ u. let y : ⊥ = omega arith in y)) (λ t. le→leb h 0 (omega arith))
@@ -110,6 +119,7 @@ strong look b (mut x i e) k g = inr (omega arith, omega arith, refl)
 
 -- ── parentheses and commas ──
 
+-- Bare, or in parentheses.
 says-paren : (q : Bool) {ws : Words} {f : List W → List W} → Says ws f → Says (paren (not q) ws) (wrap q f)
 unfolding paren wrap
 says-paren true h = record { is = h .is }
@@ -119,15 +129,18 @@ says-paren false h = says-word lp (says-last rp h)
 says-wrapped : (p q : Bool) {ws : Words} {f : List W → List W} → p ≡ not q → Says ws f → Says (paren p ws) (wrap q f)
 says-wrapped p q e h = rw e (says-paren q h)
 
+-- A comma between.
 commas-more : (x y : Piece) (ys : List Piece) {f g : List W → List W} → Says (x .words) f → Says (commas (y ∷ ys)) g → Says (commas (x ∷ y ∷ ys)) (λ r. f (comma ∷ g r))
 unfolding commas
 commas-more x y ys h k = says-both h (says-word comma k)
 
+-- An argument, and then others.
 says-args : (x : Piece) (es : Exprs) {f : List W → List W} → Says (x .words) f → Says (commas (pieces (treesE es))) (prs es) → Says (commas (x ∷ pieces (treesE es))) (λ r. f (between es (prs es r)))
 unfolding treesE pieces between prs
 says-args x nil h k = unfold commas in h
 says-args x (more e es) h k = commas-more x (piece (treeE e)) (pieces (treesE es)) h k
 
+-- A name, and then others.
 says-names : (x : Piece) (ns : List W) {f : List W → List W} → Says (x .words) f → Says (commas (pieces (treesN ns))) (prNames ns) → Says (commas (x ∷ pieces (treesN ns))) (λ r. f (betweenNames ns (prNames ns r)))
 unfolding treesN pieces betweenNames prNames
 says-names x [] h k = unfold commas in h
@@ -148,6 +161,7 @@ module _ (look : List ℕ → Option What) where
       let R = right-test (height r) (piece (treeE r) .strength) n (k .0) z (strong look (ends b l) r (k .2) (g .2)) in
       rw e (says-both (says-wrapped (ltb (piece (treeE l) .strength) (8 - n)) (leb (height l) n) L hl) (says-word o (says-wrapped (leb (piece (treeE r) .strength) (8 - n)) (ltb (height r) n) R hr)))
 
+  -- the words of an expression, and of arguments with commas between
   mutual
     unfolding Ok Oks Said Saids pr prs treeE treesE piece pieces wordsOf unary after closed row valued commas member if_then_else_
 
@@ -166,11 +180,13 @@ module _ (look : List ℕ → Option What) where
     says-Es b nil k g = says-none
     says-Es b (more e es) k g = says-args (piece (treeE e)) es (says-E b e (k .0) (g .0)) (says-Es _ es (k .1) (g .1))
 
+  -- An item, and then others.
   says-items : (x : Piece) (is : Items) {f : List W → List W} → Says (x .words) f → Says (commas (pieces (treesI is))) (prItems is) → Says (commas (x ∷ pieces (treesI is))) (λ r. f (betweenItems is (prItems is r)))
   unfolding treesI pieces betweenItems prItems
   says-items x noItem h k = unfold commas in h
   says-items x (item y e is) h k = commas-more x _ (pieces (treesI is)) h k
 
+  -- The items of a table.
   says-I : (is : Items) → OkItems look is → SaidItems Tells is → Says (commas (pieces (treesI is))) (prItems is)
   unfolding OkItems SaidItems prItems treesI piece pieces wordsOf row member if_then_else_
   says-I noItem k g = unfold commas in says-none
@@ -178,11 +194,13 @@ module _ (look : List ℕ → Option What) where
 
 -- ── statements ──
 
+-- Names.
 says-N : (ns : List W) → Says (commas (pieces (treesN ns))) (prNames ns)
 unfolding prNames treesN piece pieces wordsOf member if_then_else_
 says-N [] = unfold commas in says-none
 says-N (x ∷ ns) = says-names (piece (atom x)) ns (says-word x says-none) (says-N ns)
 
+-- An array's items.
 says-array : (look : List ℕ → Option What) (es : Exprs) → Oks look true es → Saids Tells es → Says (row (pieces (arrayForest es))) (prs es)
 unfolding arrayForest piece pieces wordsOf row member if_then_else_
 says-array look nil k g = unfold prs in says-none
@@ -233,6 +251,7 @@ unfoldable pub declWords : Stmts → List (List W)
 declWords stop = []
 declWords (next t ts) = prS t [] ∷ declWords ts
 
+-- The lines of a program's declarations are its print.
 lines-printed : (E : List Sym) (ts : Stmts) → OkSs 0 E ts → SaidSs Tells ts → lines (pieces (treesS 0 ts)) ≡ printed (declWords ts)
 unfolding OkSs SaidSs treesS pieces lines declWords
 lines-printed E stop k g = unfold printed Bytes.itemsOfAll LexTrip.bytes in refl
