@@ -30,6 +30,8 @@ pub mod Steps
 pub mod Levels
 pub mod Statements
 pub mod Program
+pub mod Sound
+pub mod Again
 
 -- ── truth values ──
 

@@ -32,7 +32,7 @@ pub mod Every
 
 -- ── lists ──
 
-abbrev primNode : ℕ → Node
+abbrev pub primNode : ℕ → Node
 primNode i = node PrimaryExpr false 0 i
 
 pay-prims : (is : List ℕ) → map (λ (x : Node). x .pay) (map primNode is) ≡ is
@@ -179,17 +179,17 @@ unfolding returns counted
 returns-some stop h = absurd h
 returns-some (next t ts) h = omega arith
 
-made-empty : {c : Ctx} {ns ns′ : List Node} → Made c [] ns ns′ → ns′ ≡ ns
+pub made-empty : {c : Ctx} {ns ns′ : List Node} → Made c [] ns ns′ → ns′ ≡ ns
 made-empty {c} {ns} {ns′} m = go (m .new) (m .nodes) (m .labs)
   where
     go : (new : List Node) → ns′ ≡ new ++ ns → map (labelled c) new ≡ [] → ns′ ≡ ns
     go [] e f = e
     go (x ∷ new) e f = absurd (let z : _≡_ {A = ℕ} 0 1 = cc in let y : ⊥ = omega arith in y)
 
-in-level : {c : Ctx} {l : ℕ} {E : List Sym} {b : Bool} {lvl : ℕ} {syms : List Sym} {chk : Bool} (l′ lvl′ : ℕ) → lvl′ ≡ l′ → In c l E b lvl syms chk → In c l′ E b lvl′ syms chk
+pub in-level : {c : Ctx} {l : ℕ} {E : List Sym} {b : Bool} {lvl : ℕ} {syms : List Sym} {chk : Bool} (l′ lvl′ : ℕ) → lvl′ ≡ l′ → In c l E b lvl syms chk → In c l′ E b lvl′ syms chk
 in-level l′ lvl′ e h = record { level = e; names = h .names; fair = h .fair; check = h .check }
 
-abbrev levelled : ℕ → St → St
+abbrev pub levelled : ℕ → St → St
 levelled n s = record { at = s .at; nodes = s .nodes; syms = s .syms; level = n; check = s .check; errs = s .errs }
 
 module _ (c : Ctx) where
@@ -241,7 +241,7 @@ module _ (c : Ctx) where
   -- ── blocks ──
 
   -- the labels of a block inside level l
-  abbrev blockLabs : ℕ → Stmts → List Lab
+  abbrev pub blockLabs : ℕ → Stmts → List Lab
   blockLabs l ss = blockLab (counted ss) l ∷ rencSs l ss
 
   block-ok : (ss : Stmts) → AllSay ss → (body : Bool) (is : List ℕ) (xs : List W) (d l : ℕ) (E : List Sym) (rest : List W) (s : St) → T (not body || returns ss) → map (λ (i : ℕ). wordAt c i) is ≡ xs
