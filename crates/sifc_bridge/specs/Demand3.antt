@@ -4,7 +4,7 @@ use mathlib.Core.Path.{_≡_, refl, sym, ap, _∙_, subst}
 use mathlib.Core.Logic.{_↔_}
 use mathlib.Core.List.{List, [], _∷_, _++_, map, reverse, reverseAux}
 use mathlib.Core.Option.{Option, none, some}
-use mathlib.Core.Bool.{Bool, true, false, _&&_}
+use mathlib.Core.Bool.{Bool, true, false, not}
 use native.Mathlib.Omega.{arith}
 use lib.Dec.{T}
 use lib.ListN.{length}
@@ -21,6 +21,8 @@ use Rattle.sifc_def.specs.Read.{depthLimit, Arrays, Rooms, roomsOf, Found, Outc
 use Rattle.sifc_trip.specs.Typed.{Stmts, prProgram, rencProgram, OkProgram, SaidSs}
 use Rattle.sifc_trip.specs.Round.{ofSize, Res}
 use Rattle.sifc_trip.specs.Round.Program.{ReadAs, program-read}
+use Rattle.sifc_trip.specs.Round.Sound.{Win}
+use Rattle.sifc_trip.specs.Round.Sound.Parts.Every.Program.{IsProgram, program-is-typed}
 use Rattle.sifc_bridge.specs.Bytes.{Fine}
 use Rattle.sifc_bridge.specs.Lexed.{FromScript, from-script-fine, carry-Ss}
 use Rattle.sifc_bridge.specs.Kinded.{IfToken, token-Ss}
@@ -29,19 +31,6 @@ use Rattle.sifc_bridge.specs.Kinds.{Small, small-program}
 use Rattle.sifc_bridge.specs.Demand.{sizeOrDepth, Fits, FitsText, FlagDown, SameTree, Writes, bytesOf, Lent, itsReading, itsText, canonical, nextReading, nextText, AllFit, RoundTrip, Demand3}
 use Rattle.sifc_bridge.specs.Same.{Told, told, labels-same, same-labels}
 use Rattle.sifc_bridge.specs.Calls.{plain-script, Finds, finds, cramped, other-rooms, Walked, walked, done-found, refused-too, Reads, reads-reading, Down, flag-down, fits-reads, fits-text, writes-bytes, down-ascii}
-
--- ── the two halves of the round trip ──
-
--- the typed program of a walk's nodes: a reading accepts it, each of its words is one of the script's, and the nodes are labelled as it is
-pub record IsTyped (s : List ℕ) (z : St) : Type 0 where
-  pub program : Stmts
-  pub ok : OkProgram program
-  pub said : SaidSs (FromScript s) program
-  pub labelled : labels s (lex s) (z .nodes) ≡ rencProgram program
-
--- SOUND: a walk that is done with the flag down has read a typed program.
-abbrev pub Sound : Type 0
-Sound = (r : Rooms) (s : List ℕ) (depth : ℕ) (e : End) (z : St) → walk (ctxOf r s) depth ≡ done e z → e .flag ≡ false → IsTyped s z
 
 -- ── lists ──
 
@@ -239,45 +228,53 @@ exactly-when x y h k = (there, back)
         ∙ side-labels y k in
         h .text ∙ sym (text-print ts (h .typed .ok) (h .typed .fine)) ∙ ap text e ∙ text-print us (k .typed .ok) (k .typed .fine) ∙ sym (k .text)
 
-module _ (sound : Sound) where
-  typed : (s : List ℕ) (a : Arrays) → Down s a → Typed s a
-  typed s a d =
-      let w = walked (roomsOf a) s (d .what) (d .reads .found-it) (d .flag) in
-      let t = sound (roomsOf a) s depthLimit (w .end) (w .state) (w .walks) (w .flag) in
-      record {
-        what = d .what;
-        reads = d .reads;
-        program = t .program;
-        ok = t .ok;
-        fine = token-Ss Fine 0 [] (t .program) (t .ok) (carry-Ss (FromScript s) (IfToken Fine) (from-script-fine s (plain-script s (down-ascii s a d))) (t .program) (t .said));
-        shows = record { toks = w .toks; flag = d .flag; labelled = ap (labels s (lex s)) (w .nodes) ∙ turned s (w .state .nodes) (rencProgram (t .program)) (t .labelled) };
-      }
+-- SOUND, of a walk of a script that is done with the flag down: a typed program, each of its words one of the script's.
+typed-walk : (r : Rooms) (s : List ℕ) (e : End) (z : St) → walk (ctxOf r s) depthLimit ≡ done e z → e .flag ≡ false → IsProgram (ctxOf r s) (FromScript s) (λ i. record { index = i; is = refl }) e z
+unfolding Win
+typed-walk r s e z w f =
+    let Q : End → St → Type 0 = λ e′ z′. T (not (e′ .flag)) → IsProgram (ctxOf r s) (FromScript s) (λ i. record { index = i; is = refl }) e′ z′ in
+    let h : Win (done e z) Q = subst (λ (o : Out End). Win o Q) w (program-is-typed (ctxOf r s) (FromScript s) (λ i. record { index = i; is = refl }) depthLimit) in
+    h (rw f tt)
 
-  -- What soundness says of a script that is read with the flag down, where no call meets a refusal for size or depth.
-  side : (x : Lent) → FlagDown (itsReading x .answer) → AllFit x → Side x
-  side x d h =
-      let s : List ℕ = x .script in
-      let n : Down s (x .arrays₁) = flag-down s (x .arrays₁) d in
-      let t : Typed s (x .arrays₁) = typed s (x .arrays₁) n in
-      let w : Writes (itsText x) (textFound s (t .what)) =
-      fits-text s (x .arrays₂) (x .buffer₂) (t .what) (down-ascii s (x .arrays₁) n) (t .shows .flag)
-      (other-rooms (roomsOf (x .arrays₁)) (roomsOf (x .arrays₂)) s (t .what) (t .reads .found-it)) (h .text) in
-      let e : canonical x ≡ textFound s (t .what) = writes-bytes (itsText x) (textFound s (t .what)) w in
-      let p : canonical x ≡ print (t .program) = e ∙ shows-text s (t .what) (t .program) (t .ok) (t .fine) (t .shows) in
-      record {
-        typed = t;
-        written = subst (λ (z : List ℕ). Writes (itsText x) z) (sym e) w;
-        text = p;
-        half =
-            half (t .program) (x .arrays₃) (x .arrays₄) (x .buffer₄) (t .ok) (t .fine) (subst (λ (z : List ℕ). Fits (reading z (x .arrays₃) .answer)) p (h .next))
-            (subst (λ (z : List ℕ). FitsText (textCall z (x .arrays₄) (x .buffer₄) .answer)) p (h .nextText));
-      }
+-- The typed program of a script that is read with the flag down.
+typed : (s : List ℕ) (a : Arrays) → Down s a → Typed s a
+typed s a d =
+    let w = walked (roomsOf a) s (d .what) (d .reads .found-it) (d .flag) in
+    let t = typed-walk (roomsOf a) s (w .end) (w .state) (w .walks) (w .flag) in
+    record {
+      what = d .what;
+      reads = d .reads;
+      program = t .trees;
+      ok = t .fit;
+      fine = token-Ss Fine 0 [] (t .trees) (t .fit) (carry-Ss (FromScript s) (IfToken Fine) (from-script-fine s (plain-script s (down-ascii s a d))) (t .trees) (t .words));
+      shows = record { toks = w .toks; flag = d .flag; labelled = ap (labels s (lex s)) (w .nodes) ∙ turned s (w .state .nodes) (rencProgram (t .trees)) (t .labs) };
+    }
 
-  -- Demand 3: take any two scripts that are read with the flag down, whatever each of the eight calls is lent; none of the calls meets a refusal for size or
-  -- depth. Then their canonical texts are the same bytes exactly when their trees are the same, and for each of the two, reading its canonical text gives the
-  -- same tree with the flag down, and the canonical text of that text is itself.
-  pub demand3-definition : (x y : Lent) → FlagDown (itsReading x .answer) → FlagDown (itsReading y .answer) → AllFit x → AllFit y → Demand3 x y
-  demand3-definition x y d d′ h h′ =
-      let k : Side x = side x d h in
-      let k′ : Side y = side y d′ h′ in
-      record { exactlyWhen = exactly-when x y k k′; firstTrip = side-trip x k; secondTrip = side-trip y k′ }
+-- All that is known of a script that is read with the flag down, where no call meets a refusal for size or depth.
+side : (x : Lent) → FlagDown (itsReading x .answer) → AllFit x → Side x
+side x d h =
+    let s : List ℕ = x .script in
+    let n : Down s (x .arrays₁) = flag-down s (x .arrays₁) d in
+    let t : Typed s (x .arrays₁) = typed s (x .arrays₁) n in
+    let w : Writes (itsText x) (textFound s (t .what)) =
+    fits-text s (x .arrays₂) (x .buffer₂) (t .what) (down-ascii s (x .arrays₁) n) (t .shows .flag)
+    (other-rooms (roomsOf (x .arrays₁)) (roomsOf (x .arrays₂)) s (t .what) (t .reads .found-it)) (h .text) in
+    let e : canonical x ≡ textFound s (t .what) = writes-bytes (itsText x) (textFound s (t .what)) w in
+    let p : canonical x ≡ print (t .program) = e ∙ shows-text s (t .what) (t .program) (t .ok) (t .fine) (t .shows) in
+    record {
+      typed = t;
+      written = subst (λ (z : List ℕ). Writes (itsText x) z) (sym e) w;
+      text = p;
+      half =
+          half (t .program) (x .arrays₃) (x .arrays₄) (x .buffer₄) (t .ok) (t .fine) (subst (λ (z : List ℕ). Fits (reading z (x .arrays₃) .answer)) p (h .next))
+          (subst (λ (z : List ℕ). FitsText (textCall z (x .arrays₄) (x .buffer₄) .answer)) p (h .nextText));
+    }
+
+-- Demand 3: take any two scripts that are read with the flag down, whatever each of the eight calls is lent; none of the calls meets a refusal for size or
+-- depth. Then their canonical texts are the same bytes exactly when their trees are the same, and for each of the two, reading its canonical text gives the
+-- same tree with the flag down, and the canonical text of that text is itself.
+pub demand3-definition : (x y : Lent) → FlagDown (itsReading x .answer) → FlagDown (itsReading y .answer) → AllFit x → AllFit y → Demand3 x y
+demand3-definition x y d d′ h h′ =
+    let k : Side x = side x d h in
+    let k′ : Side y = side y d′ h′ in
+    record { exactlyWhen = exactly-when x y k k′; firstTrip = side-trip x k; secondTrip = side-trip y k′ }
