@@ -140,6 +140,14 @@ other-rooms r r′ s f e =
     go false true {o} {o′} a h k = cramped TokensFull (unfold byRoom in k) (unfold sizeOrDepth member in tt)
     go false false {o} {o′} a h k = within o o′ a (unfold byRoom in h) (unfold byRoom in k)
 
+-- An answer without a refusal does not change with the rooms.
+pub rooms-agree : (r r′ : Rooms) (s : List ℕ) (f g : Found) → read r s ≡ found f → read r′ s ≡ found g → f ≡ g
+rooms-agree r r′ s f g e h = go (other-rooms r r′ s f e)
+  where
+    go : Finds r′ s f → f ≡ g
+    go (finds k) = cc
+    go (cramped x k t) = clash x g (sym k ∙ h)
+
 -- what the definition's walk comes to, where a reading finds f with the flag down
 pub record Walked (r : Rooms) (s : List ℕ) (f : Found) : Type 0 where
   pub end : End

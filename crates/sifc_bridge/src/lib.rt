@@ -1,4 +1,4 @@
-// The bridge from typed trees to bytes: theorems only (specs/).
-pub fn one() -> u64 {
-    1
+// Demand 3 of the reading's definition, from typed trees to bytes, is in specs/. This crate has no code of its own.
+pub struct Bridge {
+    pub done: bool,
 }
