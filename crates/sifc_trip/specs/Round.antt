@@ -2,30 +2,23 @@
 use Prim.Native.Nat.{ℕ, zero, suc, _+_, _-_, _≤_, _<_}
 use mathlib.Core.Path.{_≡_, refl, sym, ap, ap₂, _∙_, subst}
 use mathlib.Core.Logic.{_≢_}
-use mathlib.Core.List.{List, [], _∷_, _++_, map, append-assoc, append-nil}
+use mathlib.Core.List.{List, [], _∷_, _++_, map, append-assoc}
 use mathlib.Core.Option.{Option, none, some}
 use mathlib.Core.Bool.{Bool, true, false, _&&_, _||_, not}
 use native.Mathlib.Omega.{arith}
-use native.Mathlib.Nat.{not-suc-le-zero}
-use lib.Dec.{T, eqb, leb, ltb, eqb→eq, leb→le}
-use lib.ListN.{take, drop, length, getD, length-drop, length-map, length-append}
+use lib.Dec.{T, eqb, leb, eqb→eq, leb→le}
+use lib.ListN.{length, getD, length-append}
 use lib.Seq.{take-append-seam, drop-append-add}
-use Rattle.sifc_err.specs.declared.Token.{Token}
 use Rattle.sifc_err.specs.declared.Refusal.{Refusal}
-use Rattle.sifc_err.specs.declared.Refusal.the-variants.{NodesFull, SymbolsFull, ErrorsFull}
 use Rattle.sifc_err.specs.Refusal.{numberOf}
-use Rattle.sifc_lex.specs.Base.{if_then_else_, member, same, part}
-use Rattle.sifc_lex.specs.Kind.{Percent, Star, Slash, Plus, Minus, Lt, LtEq, Gt, GtEq, BangEq, EqEq, AmpAmp, PipePipe, Ident, Str, Val, True, False, Eof, LexPanic}
-use Rattle.sifc_lex.specs.Lex.{token}
-use Rattle.sifc_def.specs.declared.Err.{Err}
-use Rattle.sifc_def.specs.declared.Why.{Why}
+use Rattle.sifc_lex.specs.Base.{if_then_else_, member, same}
+use Rattle.sifc_lex.specs.Kind.{Ident}
 use Rattle.sifc_def.specs.declared.What.{What}
 use Rattle.sifc_def.specs.declared.What.the-variants.{Placeholder, Function, Variable, Other}
-use Rattle.sifc_def.specs.State.{Node, node, Sym, Ctx, St, Out, done, fail, refuse, M, Void, go-on, W, nameOf, wordIn, tokAt, wordAt, nameAt, here, kindNow, arrive, consume, list, addErrorWPos, addError, expect, matchIdent, orThrow, ident, push, without}
-use Rattle.sifc_def.specs.Symbols.{isSym, findAt, find, putAt, store}
-use Rattle.sifc_def.specs.Expr.{looseness, isUnary, isLiteral, fuel}
-use Rattle.sifc_def.specs.Label.{Lab, lab, hasToken, scopeOf, textOf, label}
-use Rattle.sifc_trip.specs.Typed.{Expr, prim, un, bin, call, dot, idx, set, mut, Exprs, nil, more, word, lp, rp, rb, eq, height, wrap, between, pr, prs, isSome, wants}
+use Rattle.sifc_def.specs.State.{Node, node, Sym, Ctx, St, Out, done, fail, refuse, M, go-on, W, nameOf, wordAt, without}
+use Rattle.sifc_def.specs.Symbols.{isSym, findAt, find, putAt}
+use Rattle.sifc_def.specs.Label.{Lab, label}
+use Rattle.sifc_trip.specs.Typed.{isSome, wants}
 pub mod Steps
 pub mod Levels
 pub mod Statements
@@ -35,14 +28,17 @@ pub mod Again
 
 -- ── truth values ──
 
+-- a truth value that holds is true
 pub true-of : (b : Bool) → T b → b ≡ true
 true-of true t = refl
 true-of false t = absurd t
 
+-- a truth value that does not hold is false
 pub false-of : (b : Bool) → T (not b) → b ≡ false
 false-of true t = absurd t
 false-of false t = refl
 
+-- different numbers do not pass the test of equality
 pub not-eqb : (a b : ℕ) → a ≢ b → eqb a b ≡ false
 not-eqb a b h = go (eqb a b) refl
   where
@@ -50,6 +46,7 @@ not-eqb a b h = go (eqb a b) refl
     go true e = absurd (h (eqb→eq a b (rw e tt)))
     go false e = refl
 
+-- a smaller number does not pass the test of being at least as large
 pub not-leb : (a b : ℕ) → b < a → leb a b ≡ false
 not-leb a b h = go (leb a b) refl
   where
@@ -61,30 +58,37 @@ not-leb a b h = go (leb a b) refl
 pub at-kind : (P : ℕ → Type 0) (k n : ℕ) → k ≡ n → P n → P k
 at-kind P k n e p = subst P (sym e) p
 
+-- the first of two that both hold
 pub and-l : (a b : Bool) → T (a && b) → T a
 and-l true b t = tt
 and-l false b t = absurd t
 
+-- the second of two that both hold
 pub and-r : (a b : Bool) → T (a && b) → T b
 and-r true b t = t
 and-r false b t = absurd t
 
+-- two that hold, hold together
 pub and-in : (a b : Bool) → T a → T b → T (a && b)
 and-in true b t u = u
 and-in false b t u = absurd t
 
+-- one of two holds: the first
 pub or-l : (a b : Bool) → T a → T (a || b)
 or-l true b t = tt
 or-l false b t = absurd t
 
+-- one of two holds: the second
 pub or-r : (a b : Bool) → T b → T (a || b)
 or-r true b t = tt
 or-r false b t = t
 
+-- one of two holds: what follows from either follows
 pub or-case : {X : Type 0} (a b : Bool) → (T a → X) → (T b → X) → T (a || b) → X
 or-case true b f g t = f tt
 or-case false b f g t = g t
 
+-- a fact of each number of a list
 pub All : (ℕ → Type 0) → List ℕ → Type 0
 All P [] = Unit {0}
 All P (n ∷ ns) = P n × All P ns
@@ -107,22 +111,26 @@ Res (done a s) Q = Q a s
 Res (fail e s) Q = ⊥
 Res (refuse r) Q = T (ofSize r)
 
+-- a step that comes to P, and from P on to Q, comes to Q
 pub and-then : {A B : Type 0} (o : Out A) (f : A → M B) (P : A → St → Type 0) (Q : B → St → Type 0) → Res o P → ((a : A) (s : St) → P a s → Res (f a s) Q) → Res (go-on o f) Q
 unfolding Res go-on
 and-then (done a s) f P Q p h = h a s p
 and-then (fail e s) f P Q p h = absurd p
 and-then (refuse r) f P Q p h = p
 
+-- a branch whose test is true
 pub yes-then : {A : Type 0} (b : Bool) (m k : M A) (s : St) (Q : A → St → Type 0) → b ≡ true → Res (m s) Q → Res (if_then_else_ {A = M A} b m k s) Q
 unfolding if_then_else_
 yes-then true m k s Q e h = h
 yes-then false m k s Q e h = absurd (subst (λ (x : Bool). T (not x)) e tt)
 
+-- a branch whose test is false
 pub no-else : {A : Type 0} (b : Bool) (m k : M A) (s : St) (Q : A → St → Type 0) → b ≡ false → Res (k s) Q → Res (if_then_else_ {A = M A} b m k s) Q
 unfolding if_then_else_
 no-else true m k s Q e h = absurd (subst (λ (x : Bool). T x) e tt)
 no-else false m k s Q e h = h
 
+-- what follows from an outcome's fact is a fact of the outcome
 pub res-map : {A : Type 0} (o : Out A) (P Q : A → St → Type 0) → Res o P → ((a : A) (s : St) → P a s → Q a s) → Res o Q
 unfolding Res
 res-map (done a s) P Q p h = h a s p
@@ -131,6 +139,7 @@ res-map (refuse r) P Q p h = p
 
 -- ── names without their declaring tokens ──
 
+-- what a name was declared as, without the declaring token
 abbrev pub erase : Option What → Option What
 erase none = none
 erase (some Placeholder) = some Placeholder
@@ -138,6 +147,7 @@ erase (some (Function n)) = some (Function n)
 erase (some (Variable i g)) = some (Variable 0 g)
 erase (some Other) = some Other
 
+-- how many arguments a name takes does not depend on its declaring token
 pub wants-erase : (w : Option What) (n : ℕ) → wants (erase w) n ≡ wants w n
 unfolding wants
 wants-erase none n = refl
@@ -146,6 +156,7 @@ wants-erase (some (Function m)) n = refl
 wants-erase (some (Variable i g)) n = refl
 wants-erase (some Other) n = refl
 
+-- nor does whether it was declared
 pub isSome-erase : (w : Option What) → isSome (erase w) ≡ isSome w
 unfolding isSome
 isSome-erase none = refl
@@ -154,15 +165,18 @@ isSome-erase (some (Function n)) = refl
 isSome-erase (some (Variable i g)) = refl
 isSome-erase (some Other) = refl
 
+-- the same, of what is stored
 unfoldable pub erased : What → What
 erased Placeholder = Placeholder
 erased (Function n) = Function n
 erased (Variable i g) = Variable 0 g
 erased Other = Other
 
+-- the same, of an entry of the symbol table
 unfoldable pub eraseSym : Sym → Sym
 eraseSym x = record { level = x .level; name = x .name; what = erased (x .what) }
 
+-- a look-up on one level finds the same without declaring tokens
 pub findAt-erase : (l : ℕ) (n : List ℕ) (xs : List Sym) → findAt l n (map eraseSym xs) ≡ erase (findAt l n xs)
 unfolding findAt isSym eraseSym erased
 findAt-erase l n [] = refl
@@ -178,6 +192,7 @@ findAt-erase l n (x ∷ xs) = go (isSym l n x) refl (findAt-erase l n xs)
     go true e ih = rw (e, findAt) (some-erase (x .what))
     go false e ih = rw (e, findAt) ih
 
+-- a look-up finds the same without declaring tokens
 pub find-erase : (l : ℕ) (n : List ℕ) (xs : List Sym) → find l n (map eraseSym xs) ≡ erase (find l n xs)
 unfolding find
 find-erase zero n xs = findAt-erase zero n xs
@@ -190,6 +205,7 @@ find-erase (suc l) n xs = go (findAt (suc l) n xs) refl (find-erase l n xs)
     go (some (Variable i g)) e ih = rw (findAt-erase (suc l) n xs, e, find) refl
     go (some Other) e ih = rw (findAt-erase (suc l) n xs, e, find) refl
 
+-- storing a name and leaving out declaring tokens can change places
 pub putAt-erase : (l : ℕ) (n : List ℕ) (w : What) (xs : List Sym) → map eraseSym (putAt l n w xs) ≡ putAt l n (erased w) (map eraseSym xs)
 unfolding putAt isSym eraseSym
 putAt-erase l n w [] = refl
@@ -203,10 +219,12 @@ putAt-erase l n w (x ∷ xs) = go (isSym l n x) refl (putAt-erase l n w xs)
 unfoldable pub Fair : Ctx → Sym → Type 0
 Fair c x = (i : ℕ) (g : Bool) → x .what ≡ Variable i g → wordAt c i .text ≡ x .name
 
+-- the same of every entry
 unfoldable pub Fairs : Ctx → List Sym → Type 0
 Fairs c [] = Unit {0}
 Fairs c (x ∷ xs) = Fair c x × Fairs c xs
 
+-- names that are the same byte for byte are equal
 pub same-eq : (a b : List ℕ) → T (same a b) → a ≡ b
 unfolding same
 same-eq [] [] t = refl
@@ -214,6 +232,7 @@ same-eq [] (y ∷ ys) t = absurd t
 same-eq (x ∷ a) [] t = absurd t
 same-eq (x ∷ a) (y ∷ b) t = let p : x ≡ y = eqb→eq x y (and-l (eqb x y) (same a b) t) in let q : a ≡ b = same-eq a b (and-r (eqb x y) (same a b) t) in cc
 
+-- a variable that is found on one level was declared by a token with its name
 pub findAt-fair : (c : Ctx) (l : ℕ) (n : List ℕ) (xs : List Sym) → Fairs c xs → (i : ℕ) (g : Bool) → findAt l n xs ≡ some (Variable i g) → wordAt c i .text ≡ n
 unfolding findAt isSym Fairs Fair
 findAt-fair c l n [] f i g e = absurd (let z : _≡_ {A = ℕ} 0 1 = cc in let y : ⊥ = omega arith in y)
@@ -227,6 +246,7 @@ findAt-fair c l n (x ∷ xs) f i g e = go (isSym l n x) refl (findAt-fair c l n 
         f .0 i g ew ∙ en
     go false h ih = ih (rw (h, findAt) at e)
 
+-- a variable that is found was declared by a token with its name
 pub find-fair : (c : Ctx) (l : ℕ) (n : List ℕ) (xs : List Sym) → Fairs c xs → (i : ℕ) (g : Bool) → find l n xs ≡ some (Variable i g) → wordAt c i .text ≡ n
 unfolding find
 find-fair c zero n xs f i g e = findAt-fair c zero n xs f i g e
@@ -236,6 +256,7 @@ find-fair c (suc l) n xs f i g e = go (findAt (suc l) n xs) refl (find-fair c l 
     go none h ih = ih (rw (h, find) at e)
     go (some v) h ih = findAt-fair c (suc l) n xs f i g (h ∙ (rw (h, find) at e))
 
+-- storing a name whose declaring token has it keeps that so
 pub putAt-fair : (c : Ctx) (l : ℕ) (n : List ℕ) (w : What) (xs : List Sym) → Fairs c xs → ((i : ℕ) (g : Bool) → w ≡ Variable i g → wordAt c i .text ≡ n) → Fairs c (putAt l n w xs)
 unfolding putAt Fairs Fair
 putAt-fair c l n w [] f h = (h, tt)
@@ -252,9 +273,11 @@ ident-name x e = rw e refl
 
 -- ── labelled nodes ──
 
+-- a node's label in the context's script and tokens
 abbrev pub labelled : Ctx → Node → Lab
 labelled c n = label (c .script) (c .toks) n
 
+-- a function over a joined list
 pub map-append : {A B : Type 0} (f : A → B) (xs ys : List A) → map f (xs ++ ys) ≡ map f xs ++ map f ys
 map-append f [] ys = refl
 map-append {B} f (x ∷ xs) ys = ap (λ (r : List B). f x ∷ r) (map-append f xs ys)
@@ -265,9 +288,11 @@ pub record Made (c : Ctx) (ls : List Lab) (ns ns′ : List Node) : Type 0 where
   pub nodes : ns′ ≡ new ++ ns
   pub labs : map (labelled c) new ≡ ls
 
+-- no node was added
 pub made-none : {c : Ctx} {ns : List Node} → Made c [] ns ns
 made-none = record { new = []; nodes = refl; labs = refl }
 
+-- nodes were added, and then others
 pub made-then : {c : Ctx} {a b : List Lab} {n₀ n₁ n₂ : List Node} → Made c a n₀ n₁ → Made c b n₁ n₂ → Made c (b ++ a) n₀ n₂
 made-then {c} {a} {b} {n₀} p q =
     record {
@@ -276,6 +301,7 @@ made-then {c} {a} {b} {n₀} p q =
       labs = map-append (labelled c) (q .new) (p .new) ∙ cc (p .labs, q .labs);
     }
 
+-- nodes were added, and then one more
 pub made-push : {c : Ctx} {x : Node} {L : Lab} {a : List Lab} {n₀ n₁ : List Node} → labelled c x ≡ L → Made c a n₀ n₁ → Made c (L ∷ a) n₀ (x ∷ n₁)
 made-push {x} e p = record { new = x ∷ p .new; nodes = ap (λ (r : List Node). x ∷ r) (p .nodes); labs = cc (p .labs) }
 
@@ -288,6 +314,7 @@ without-eq E t R n e =
     let b : length (E ++ (t ∷ R)) - n ≡ length E + 1 = omega arith in
     rw (a, b, take-append-seam E (t ∷ R), drop-append-add E (t ∷ R) 1) refl
 
+-- the node of an assigned ArrayAccess is taken out from under those of the value
 pub taken-out : (E older : List Node) (t : Node) (ns n₁ n₃ : List Node) → n₃ ≡ E ++ n₁ → n₁ ≡ t ∷ (older ++ ns) → without (length n₁ - 1) n₃ ≡ (E ++ older) ++ ns
 taken-out E older t ns n₁ n₃ e₃ e₁ =
     let len : length n₁ ≡ suc (length (older ++ ns)) = ap (λ (z : List Node). length z) e₁ in
@@ -301,6 +328,7 @@ pub record Newest (c : Ctx) (L : Lab) (ls : List Lab) (ns ns′ : List Node) : T
   pub lab′ : labelled c node′ ≡ L
   pub labs : map (labelled c) older ≡ ls
 
+-- nodes were added, and the last of them is the newest
 pub newest : {c : Ctx} {L : Lab} {ls : List Lab} {ns ns′ : List Node} → Made c (L ∷ ls) ns ns′ → Newest c L ls ns ns′
 newest {c} {L} {ls} {ns} {ns′} m = go (m .new) (m .nodes) (m .labs)
   where
@@ -308,6 +336,7 @@ newest {c} {L} {ls} {ns} {ns′} m = go (m .new) (m .nodes) (m .labs)
     go [] e f = absurd (let z : _≡_ {A = ℕ} 0 1 = cc in let y : ⊥ = omega arith in y)
     go (x ∷ new) e f = record { node′ = x; older = new; nodes = e; lab′ = cc; labs = cc }
 
+-- the newest node
 abbrev pub topOf : List Node → Node
 topOf ns = getD ns 0 (node 0 false 0 0)
 
@@ -320,6 +349,7 @@ pub record In (c : Ctx) (l : ℕ) (E : List Sym) (b : Bool) (lvl : ℕ) (syms : 
   pub fair : Fairs c syms
   pub check : chk ≡ b
 
+-- the same, of a state
 abbrev pub Stands : Ctx → ℕ → List Sym → Bool → St → Type 0
 Stands c l E b s = In c l E b (s .level) (s .syms) (s .check)
 

@@ -1,6 +1,6 @@
 -- Typed trees of the whole grammar: what a reading makes of a script. Each has its words (its print, kind and text of each token), its labels (newest first,
 -- as the walk keeps its nodes), what a reading checks of it, and the names that it leaves.
-use Prim.Native.Nat.{ℕ, zero, suc, _+_, _≤_, _<_}
+use Prim.Native.Nat.{ℕ, suc, _+_, _≤_, _<_}
 use mathlib.Core.Path.{_≡_}
 use mathlib.Core.List.{List, [], _∷_, _++_}
 use mathlib.Core.Option.{Option, none, some}

@@ -1,18 +1,18 @@
 -- The two halves meet in the typed program: a script read with the flag down, and any script whose tokens have the words of its print.
-use Prim.Native.Nat.{ℕ, zero, suc}
-use mathlib.Core.Path.{_≡_, refl, sym, ap, _∙_, subst}
-use mathlib.Core.List.{List, [], _∷_, map}
-use mathlib.Core.Bool.{Bool, true, false, not}
+use Prim.Native.Nat.{ℕ}
+use mathlib.Core.Path.{_≡_, refl, sym, _∙_, subst}
+use mathlib.Core.List.{List, map}
+use mathlib.Core.Bool.{false, not}
 use lib.Dec.{T, eqb}
 use Rattle.sifc_lex.specs.Kind.{LexPanic}
-use Rattle.sifc_def.specs.State.{Node, Ctx, St, Out, done, fail, refuse, W, wordIn, tokAt, wordAt}
-use Rattle.sifc_def.specs.Label.{Lab, labels}
-use Rattle.sifc_def.specs.Walk.{End, end, walk}
-use Rattle.sifc_trip.specs.Typed.{Stmts, prProgram, rencProgram, OkProgram, SaidSs}
-use Rattle.sifc_trip.specs.Round.{ofSize, Res, labelled}
+use Rattle.sifc_def.specs.State.{Ctx, St, Out, done, W, wordIn, tokAt, wordAt}
+use Rattle.sifc_def.specs.Label.{Lab}
+use Rattle.sifc_def.specs.Walk.{End, walk}
+use Rattle.sifc_trip.specs.Typed.{Stmts, prProgram, rencProgram, OkProgram}
+use Rattle.sifc_trip.specs.Round.{Res, labelled}
 use Rattle.sifc_trip.specs.Round.Program.{ReadAs, program-read}
 use Rattle.sifc_trip.specs.Round.Sound.{Win}
-use Rattle.sifc_trip.specs.Round.Sound.Parts.Every.Program.{IsProgram, program-is-typed}
+use Rattle.sifc_trip.specs.Round.Sound.Program.{IsProgram, program-is-typed}
 
 -- no lexing panic ends the tokens
 abbrev pub Calm : Ctx → Type 0
@@ -27,6 +27,7 @@ pub record Token′ (c : Ctx) (x : W) : Type 0 where
   pub place : ℕ
   pub is : wordAt c place ≡ x
 
+-- a typed program whose words are the script's tokens
 abbrev pub Typed′ : Ctx → End → St → Type 0
 Typed′ c e s = IsProgram c (Token′ c) (λ i. record { place = i; is = refl }) e s
 

@@ -1,34 +1,34 @@
 -- Completeness of expressions: an expression's words are read as that expression, or a refusal of depth or room says otherwise.
-use Prim.Native.Nat.{ℕ, zero, suc, _+_, _-_, _≤_, _<_}
-use mathlib.Core.Path.{_≡_, refl, sym, ap, ap₂, _∙_, subst, subst₂}
+use Prim.Native.Nat.{ℕ, zero, suc, _≤_, _<_}
+use mathlib.Core.Path.{_≡_, refl, sym, ap, _∙_}
 use mathlib.Core.Logic.{_≢_}
-use mathlib.Core.List.{List, [], _∷_, _++_, map, append-assoc, append-nil}
+use mathlib.Core.List.{List, [], _∷_}
 use mathlib.Core.Option.{Option, none, some}
 use mathlib.Core.Bool.{Bool, true, false, _&&_, _||_, not}
 use native.Mathlib.Omega.{arith}
-use native.Mathlib.Nat.{zero-add, le-trans, not-suc-le-zero}
-use lib.Dec.{T, eqb, leb, ltb, eqb→eq, leb→le, nleb→lt, eqb-refl, le→leb}
-use lib.ListN.{take, drop, length, getD}
-use Rattle.sifc_lex.specs.Base.{if_then_else_, member, part}
-use Rattle.sifc_lex.specs.Kind.{LeftParen, RightParen, LeftBracket, RightBracket, Eq, Period, Comma, Bang, Minus, At, Ident, Str, Val, True, False, Eof, LexPanic}
+use native.Mathlib.Nat.{le-trans, not-suc-le-zero}
+use lib.Dec.{T, eqb, leb, ltb, leb→le, nleb→lt, eqb-refl}
+use lib.ListN.{length}
+use Rattle.sifc_lex.specs.Base.{if_then_else_, member}
+use Rattle.sifc_lex.specs.Kind.{LeftParen, RightParen, LeftBracket, Eq, Period, Bang, Minus, Ident, Str, Val, True, False, Eof}
 use Rattle.sifc_lex.specs.Reserved.{isStdLibFn}
 use Rattle.sifc_def.specs.declared.What.{What}
-use Rattle.sifc_def.specs.declared.What.the-variants.{Placeholder, Function, Variable, Other}
-use Rattle.sifc_def.specs.Ast.{TableAccess, ArrayAccess, ArrayMutExpr, FnCallExpr, VarAssignExpr, BinaryExpr, UnaryExpr, PrimaryExpr}
-use Rattle.sifc_def.specs.State.{Node, node, Sym, Ctx, St, Out, done, fail, refuse, M, Void, go-on, _>>=_, _>>_, return, ok, when, W, nameOf, wordIn, tokAt, wordAt, nameAt, here, kindNow, consume, expect, push, setNodes, without}
-use Rattle.sifc_def.specs.Symbols.{find, retrieve, setCheck}
-use Rattle.sifc_def.specs.Label.{Lab, lab, hasToken, scopeOf, textOf, label}
+use Rattle.sifc_def.specs.Ast.{BinaryExpr, UnaryExpr, PrimaryExpr}
+use Rattle.sifc_def.specs.State.{Node, node, Sym, Ctx, St, done, Void, go-on, _>>=_, ok, W, nameOf, nameAt, push}
+use Rattle.sifc_def.specs.Symbols.{find, retrieve}
+use Rattle.sifc_def.specs.Label.{hasToken, scopeOf, textOf}
 use Rattle.sifc_def.specs.Walk.{walkers}
-use Rattle.sifc_def.specs.Expr.{Rec, fnParamMaxLen, looseness, isUnary, isLiteral, fuel, operators, levels, literal, known, checkName, identExpr, assignExpr, unaryExpr, groupExpr, primaryExpr, postfix, fnCallExpr}
-use Rattle.sifc_trip.specs.Typed.{Expr, prim, un, bin, call, dot, idx, set, mut, Exprs, nil, more, many, word, lp, rp, lb, rb, eq, period, comma, height, wrap, between, pr, prs, bare, said, primLab, renc, rencs, ends, endss, isSome, wants, seen, fine, callable, Ok, Oks}
-use Rattle.sifc_trip.specs.Round.{true-of, not-eqb, at-kind, and-l, and-r, or-l, or-r, or-case, All, in-cases, ofSize, Res, and-then, yes-then, no-else, res-map, erase, isSome-erase, looks, labelled, Made, made-none, made-then, made-push}
-use Rattle.sifc_trip.specs.Round.Steps.{first, Pre, Ahead, Got, now, kind-now, test, later, sees-length, stepped, pushed, consume-eq, expect-eq, push-ok, loose-le, loose-end, loose-not, unary-end, wrap-length, between-length, pr-length, prs-length}
+use Rattle.sifc_def.specs.Expr.{Rec, looseness, isUnary, isLiteral, fuel, operators, levels, literal, known, checkName, identExpr, assignExpr, unaryExpr, groupExpr, primaryExpr, postfix, fnCallExpr}
+use Rattle.sifc_trip.specs.Typed.{Expr, prim, un, bin, lp, rp, rb, height, wrap, pr, said, primLab, renc, ends, isSome, seen, fine, Ok}
+use Rattle.sifc_trip.specs.Round.{true-of, not-eqb, and-l, and-r, or-l, or-r, or-case, All, in-cases, ofSize, Res, and-then, yes-then, no-else, isSome-erase, looks, Made, made-none, made-then, made-push}
+use Rattle.sifc_trip.specs.Round.Steps.{first, Ahead, Got, now, kind-now, test, later, sees-length, stepped, pushed, consume-eq, expect-eq, push-ok, loose-end, loose-not, unary-end, wrap-length, pr-length}
 pub mod Suffixes
 
 -- the kinds of a single token, and of what an expression begins with
 abbrev pub singles : List ℕ
 singles = Ident ∷ Str ∷ Val ∷ True ∷ False ∷ []
 
+-- what an expression begins with
 abbrev pub starters : List ℕ
 starters = LeftParen ∷ Bang ∷ Minus ∷ singles
 
@@ -36,6 +36,7 @@ starters = LeftParen ∷ Bang ∷ Minus ∷ singles
 pub Calm : ℕ → List W → Type 0
 Calm n rest = ((j : ℕ) → j < n → looseness (first rest .kind) ≢ suc j) × (first rest .kind ≢ LeftParen) × (first rest .kind ≢ LeftBracket) × (first rest .kind ≢ Period)
 
+-- what is calm for a level is calm for the one below
 pub calm-less : (n : ℕ) (rest : List W) → Calm (suc n) rest → Calm n rest
 unfolding Calm
 calm-less n rest cm = (λ j lt. cm .0 j (omega arith), cm .1, cm .2, cm .3)
@@ -44,10 +45,12 @@ calm-less n rest cm = (λ j lt. cm .0 j (omega arith), cm .1, cm .2, cm .3)
 unfoldable pub Stop : List W → Type 0
 Stop rest = (looseness (first rest .kind) ≡ 0) × (first rest .kind ≢ LeftParen) × (first rest .kind ≢ LeftBracket) × (first rest .kind ≢ Period) × (first rest .kind ≢ Eq)
 
+-- `)` ends an expression
 pub stop-rp : (rest : List W) → Stop (rp ∷ rest)
 unfolding Stop looseness member if_then_else_
 stop-rp rest = (refl, omega arith, omega arith, omega arith, omega arith)
 
+-- `]` ends an expression
 pub stop-rb : (rest : List W) → Stop (rb ∷ rest)
 unfolding Stop looseness member if_then_else_
 stop-rb rest = (refl, omega arith, omega arith, omega arith, omega arith)
@@ -56,6 +59,7 @@ stop-rb rest = (refl, omega arith, omega arith, omega arith, omega arith)
 abbrev pub single-read : St → St
 single-read s = stepped (pushed PrimaryExpr false 0 (s .at) s)
 
+-- the node of a single token
 pub made-single : {c : Ctx} {l : ℕ} {E : List Sym} {b : Bool} {x : W} {ws : List W} (s : St) → Ahead c l E b (x ∷ ws) s → Made c (primLab x ∷ []) (s .nodes) (node PrimaryExpr false 0 (s .at) ∷ s .nodes)
 unfolding scopeOf textOf hasToken member if_then_else_
 made-single s p = made-push (ap (λ (y : W). primLab y) (now p)) made-none
@@ -68,11 +72,13 @@ module _ (c : Ctx) (l : ℕ) (E : List Sym) where
   abbrev pub After : Bool → Expr → List W → List Node → St → Type 0
   After b e rest ns s = Got c l E (ends b e) (renc e) rest ns s
 
+  -- these words stand ahead
   abbrev pub Has : Bool → List W → St → Type 0
   Has b ws s = Ahead c l E b ws s
 
   -- ── single tokens ──
 
+  -- a single token that may stand as an expression has one of five kinds
   pub fine-kind : (b : Bool) (x : W) → T (fine look b x) → T (member (x .kind) singles)
   unfolding fine isLiteral member
   fine-kind b x t =
@@ -80,19 +86,23 @@ module _ (c : Ctx) (l : ℕ) (E : List Sym) where
       (λ h. or-r (eqb (x .kind) Ident) (isLiteral (x .kind)) h)
       (λ h. or-l (eqb (x .kind) Ident) (isLiteral (x .kind)) (and-l (eqb (x .kind) Ident) _ h)) t
 
+  -- it is not the end
   pub fine-end : (b : Bool) (x : W) → T (fine look b x) → eqb (x .kind) Eof ≡ false
   unfolding All
   fine-end b x t = in-cases (λ k. eqb k Eof ≡ false) (x .kind) singles (refl, (refl, (refl, (refl, (refl, tt))))) (fine-kind b x t)
 
+  -- it is no unary operator
   pub fine-unary : (b : Bool) (x : W) → T (fine look b x) → isUnary (x .kind) ≡ false
   unfolding All isUnary
   fine-unary b x t = in-cases (λ k. isUnary k ≡ false) (x .kind) singles (refl, (refl, (refl, (refl, (refl, tt))))) (fine-kind b x t)
 
+  -- a name that was found, or is a standard function, passes
   pub known-eq : (i : ℕ) (w : Option What) (s : St) → T (isSome w || isStdLibFn (nameAt c i)) → known c i w s ≡ done tt s
   unfolding known isSome if_then_else_
   known-eq i (some v) s h = refl
   known-eq i none s h = rw (true-of (isStdLibFn (nameAt c i)) h) refl
 
+  -- the check of a name, on or off
   pub check-go : (b : Bool) (i : ℕ) (s : St) → T (not b || (isSome (find (s .level) (nameAt c i) (s .syms)) || isStdLibFn (nameAt c i)))
       → if_then_else_ {A = Void} b (retrieve c (nameAt c i) >>= λ w. known c i w) ok s ≡ done tt s
   unfolding retrieve if_then_else_ go-on
@@ -107,6 +117,7 @@ module _ (c : Ctx) (l : ℕ) (E : List Sym) where
       (rw (p .stands .check, now p)
       (rw (looks (p .stands) (nameOf x), isSome-erase (find (s .level) (nameOf x) (s .syms))) at t))
 
+  -- a single token is taken with its node
   pub literal-ok : (b : Bool) (x : W) (ws : List W) (s : St) → T (fine look b x) → Has b (x ∷ ws) s → Res (literal c (s .at) s) (λ u s₁. s₁ ≡ single-read s)
   unfolding literal Res
   literal-ok b x ws s t p =
@@ -114,6 +125,7 @@ module _ (c : Ctx) (l : ℕ) (E : List Sym) where
       (push-ok c PrimaryExpr false 0 (s .at) s (λ u s₁. s₁ ≡ pushed PrimaryExpr false 0 (s .at) s) refl)
       (λ a s₁ e. rw (e, consume-eq (pushed PrimaryExpr false 0 (s .at) s) p (fine-end b x t)) refl)
 
+  -- a single token that may stand as an expression is read as one
   pub prim-ok : (r : Rec) (b : Bool) (x : W) (ws : List W) (s : St) → T (fine look b x) → Has b (x ∷ ws) s → Res (primaryExpr c r s) (λ u s₁. s₁ ≡ single-read s)
   unfolding primaryExpr identExpr fine Res if_then_else_ go-on
   prim-ok r b x ws s t p = go (isLiteral (x .kind)) refl
@@ -143,6 +155,7 @@ module _ (c : Ctx) (l : ℕ) (E : List Sym) where
 
   -- ── the levels ──
 
+  -- a level's loop ends where none of its operators stands
   pub loop-stops : (f n : ℕ) (next : Void) (b : Bool) (rest : List W) (s : St) (Q : Unit {0} → St → Type 0) → Has b rest s → looseness (first rest .kind) ≢ n → Q tt s → Res (operators c f n next s) Q
   unfolding Res operators go-on if_then_else_
   loop-stops zero n next b rest s Q h ne q = q
@@ -157,26 +170,32 @@ module _ (c : Ctx) (l : ℕ) (E : List Sym) where
       (descend n u b rest s Q (calm-less n rest cm) see h)
       (λ a s′ q. loop-stops (fuel c) (suc n) (levels c n u) b rest s′ Q (see s′ q) (cm .0 n (omega arith)) q)
 
+  -- level n reads the expression
   pub Level : Expr → ℕ → Type 0
   Level e n = (d : ℕ) (b : Bool) (rest : List W) (s : St) → Ok look b e → Calm n rest → Has b (pr e rest) s → Res (levels c n (walkers c d .unary) s) (λ u. After b e rest (s .nodes))
 
+  -- unary_expr reads the expression
   pub Unary : Expr → Type 0
   Unary e = (d : ℕ) (b : Bool) (rest : List W) (s : St) (n : ℕ) → Ok look b e → Calm n rest → Has b (pr e rest) s → Res (walkers c d .unary s) (λ u. After b e rest (s .nodes))
 
+  -- assign_expr reads the expression
   pub Assign : Expr → Type 0
   Assign e = (d : ℕ) (b : Bool) (rest : List W) (s : St) → Ok look b e → Stop rest → Has b (pr e rest) s → Res (walkers c d .assign s) (λ u. After b e rest (s .nodes))
 
+  -- level n reads the expression as a left operand: whatever its loop then does
   pub Cps : Expr → ℕ → Type 1
   Cps e n =
       (d : ℕ) (b : Bool) (rest : List W) (s : St) (f : ℕ) (Q : Unit {0} → St → Type 0) → Ok look b e → Calm n rest → Has b (pr e rest) s → length (pr e rest) ≤ f
       → ((s′ : St) (f′ : ℕ) → After b e rest (s .nodes) s′ → length rest ≤ f′ → Res (operators c f′ (suc n) (levels c n (walkers c d .unary)) s′) Q)
       → Res (go-on (levels c n (walkers c d .unary) s) (λ a. operators c f (suc n) (levels c n (walkers c d .unary)))) Q
 
+  -- what is proved of each expression, by induction
   pub record Both (e : Expr) : Type 1 where
     pub level : (n : ℕ) → n ≤ 7 → height e ≤ n → Level e n
     pub cps : (n : ℕ) → n < 7 → height e ≤ suc n → Cps e n
     pub assign : Assign e
 
+  -- nothing goes on with a target
   pub postfix-none : (r : Rec) (target : Node) (b : Bool) (rest : List W) (s : St) (Q : Unit {0} → St → Type 0) (n : ℕ) → Calm n rest → Has b rest s → Q tt s → Res (postfix c r target s) Q
   unfolding postfix Calm Res go-on if_then_else_
   postfix-none r target b rest s Q n cm p q =
@@ -193,6 +212,7 @@ module _ (c : Ctx) (l : ℕ) (E : List Sym) where
       (postfix-none (walkers c d′) _ b rest (single-read s) (λ u. After b (prim x) rest (s .nodes)) n cm (later p)
       (record { pre = later p; made = made-single s p })))
 
+  -- an expression in parentheses is read by fn_call_expr
   pub paren-call : (e : Expr) → Assign e → (d : ℕ) (b : Bool) (rest : List W) (s : St) (n : ℕ) → Ok look b e → Calm n rest → Has b (lp ∷ pr e (rp ∷ rest)) s → Res (fnCallExpr c (walkers c d) s) (λ u. After b e rest (s .nodes))
   unfolding fnCallExpr primaryExpr groupExpr Assign isLiteral member Res if_then_else_ go-on
   paren-call e asg d b rest s n k cm p =
@@ -206,6 +226,7 @@ module _ (c : Ctx) (l : ℕ) (E : List Sym) where
       (λ a s₁ h. rw (expect-eq RightParen s₁ (h .pre) refl refl) (record { pre = later (h .pre); made = h .made })))))))
       (λ a s₁ h. postfix-none (walkers c d) _ (ends b e) rest s₁ (λ u. After b e rest (s .nodes)) n cm (h .pre) h)
 
+  -- an expression in parentheses is read by unary_expr
   pub paren-unary : (e : Expr) → Assign e → (d : ℕ) (b : Bool) (rest : List W) (s : St) (n : ℕ) → Ok look b e → Calm n rest → Has b (lp ∷ pr e (rp ∷ rest)) s → Res (walkers c d .unary s) (λ u. After b e rest (s .nodes))
   unfolding walkers unaryExpr Res ofSize isUnary if_then_else_ go-on
   paren-unary e asg zero b rest s n k cm p = tt
@@ -218,6 +239,7 @@ module _ (c : Ctx) (l : ℕ) (E : List Sym) where
   wrapped e g true n small low d b rest s k cm p = g .level n small (low tt) d b rest s k cm p
   wrapped e g false n small low d b rest s k cm p = descend n (walkers c d .unary) (ends b e) rest s (λ u. After b e rest (s .nodes)) cm (λ s′ a. a .pre) (paren-unary e (g .assign) d b rest s n k cm p)
 
+  -- an expression that binds tighter than a level is a left operand there
   pub cps-low : (e : Expr) (n : ℕ) → Level e n → Cps e n
   unfolding Level Cps
   cps-low e n lv d b rest s f Q k cm p len h =
@@ -235,6 +257,7 @@ module _ (c : Ctx) (l : ℕ) (E : List Sym) where
 
   -- ── unary and binary operators ──
 
+  -- a unary operator and its operand
   pub un-unary : (o : W) (e : Expr) → Both e → Unary (un o e)
   unfolding Unary walkers unaryExpr Res ofSize pr renc ends Ok levels Calm scopeOf textOf hasToken member if_then_else_ go-on
   un-unary o e g zero b rest s n k cm p = tt
@@ -247,6 +270,7 @@ module _ (c : Ctx) (l : ℕ) (E : List Sym) where
       push-ok c UnaryExpr false 1 (s .at) s₁ (λ u. After b (un o e) rest (s .nodes))
       (record { pre = h .pre; made = made-push (ap (λ (y : W). said UnaryExpr false 1 y) (now p)) (h .made) }))))
 
+  -- a left operand, bare or in parentheses
   pub cps-wrapped : (e : Expr) → Both e → (q : Bool) (n : ℕ) → n < 7 → (T q → height e ≤ suc n) → (d : ℕ) (b : Bool) (rest : List W) (s : St) (f : ℕ) (Q : Unit {0} → St → Type 0)
       → Ok look b e → Calm n rest → Has b (wrap q (pr e) rest) s → length (wrap q (pr e) rest) ≤ f
       → ((s′ : St) (f′ : ℕ) → After b e rest (s .nodes) s′ → length rest ≤ f′ → Res (operators c f′ (suc n) (levels c n (walkers c d .unary)) s′) Q)
@@ -284,6 +308,7 @@ module _ (c : Ctx) (l : ℕ) (E : List Sym) where
         }))
         (λ v s₃ a₃. h s₃ f a₃ (let z = wrap-length (ltb (height er) (looseness (o .kind))) (pr er) (pr-length er) rest in omega arith)))))
 
+    -- a binary expression of the very level as a left operand there
     bin-top : (n : ℕ) → n < 7 → looseness (o .kind) ≡ suc n → Cps (bin o el er) n
     unfolding Cps pr Calm Ok looseness member if_then_else_
     bin-top n small lo d b rest s f Q k cm p len h =
@@ -292,6 +317,7 @@ module _ (c : Ctx) (l : ℕ) (E : List Sym) where
         p len
         (λ s₁ f₁ a len₁. bin-step n small lo d b rest s s₁ f₁ Q (k .2) cm a len₁ h)
 
+    -- a binary expression as a left operand of any level that takes it bare
     bin-cps : (n : ℕ) → n < 7 → (height (bin o el er) ≤ n → Level (bin o el er) n) → height (bin o el er) ≤ suc n → Cps (bin o el er) n
     unfolding height
     bin-cps n small lv le = go (leb (looseness (o .kind)) n) refl
@@ -300,6 +326,7 @@ module _ (c : Ctx) (l : ℕ) (E : List Sym) where
         go true e = cps-low (bin o el er) n (lv (leb→le (looseness (o .kind)) n (rw e tt)))
         go false e = bin-top n small (let z : n < looseness (o .kind) = nleb→lt (looseness (o .kind)) n (rw e tt) in omega arith)
 
+    -- a binary expression is read by any level that takes it bare
     bin-level : (n : ℕ) → n ≤ 7 → height (bin o el er) ≤ n → Level (bin o el er) n
     unfolding height Level Cps levels Calm Ok
     bin-level zero small le d b rest s k cm p = absurd (not-suc-le-zero (le-trans (k .0) le))
@@ -312,6 +339,7 @@ module _ (c : Ctx) (l : ℕ) (E : List Sym) where
   unfolding Level Unary
   by-call e hu n d b rest s k cm p = descend n (walkers c d .unary) (ends b e) rest s (λ u. After b e rest (s .nodes)) cm (λ s′ a. a .pre) (hu d b rest s n k cm p)
 
+  -- an expression that every level reads
   pub both-low : (e : Expr) → ((n : ℕ) → Level e n) → Both e
   both-low e lv = record { level = λ n small le. lv n; cps = λ n small le. cps-low e n (lv n); assign = assign-low e (lv 7) }
 

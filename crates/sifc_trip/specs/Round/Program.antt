@@ -1,29 +1,28 @@
 -- Completeness of programs: a script whose words are those of a program is read as that program, flag down, or a refusal 6 to 9 says otherwise.
-use Prim.Native.Nat.{ℕ, zero, suc, _+_, _≤_, _<_}
-use mathlib.Core.Path.{_≡_, refl, sym, ap, ap₂, _∙_, subst, subst₂}
+use Prim.Native.Nat.{ℕ, zero, suc, _+_, _≤_}
+use mathlib.Core.Path.{_≡_, refl, sym, ap, ap₂, _∙_, subst₂}
 use mathlib.Core.List.{List, [], _∷_, _++_, map, append-assoc, append-nil}
-use mathlib.Core.Option.{Option, none, some}
-use mathlib.Core.Bool.{Bool, true, false, _&&_, _||_, not}
+use mathlib.Core.Option.{none}
+use mathlib.Core.Bool.{true, false}
 use native.Mathlib.Omega.{arith}
 use native.Mathlib.Nat.{zero-add, add-zero, not-suc-le-zero}
-use lib.Dec.{T, eqb}
+use lib.Dec.{eqb}
 use lib.ListN.{length}
 use Rattle.sifc_lex.specs.Base.{if_then_else_, member}
-use Rattle.sifc_lex.specs.Kind.{Elif, Else, Eof, LexPanic}
-use Rattle.sifc_def.specs.declared.Err.{Err}
+use Rattle.sifc_lex.specs.Kind.{Eof, LexPanic}
 use Rattle.sifc_def.specs.Ast.{Program}
-use Rattle.sifc_def.specs.Error.{continuable}
-use Rattle.sifc_def.specs.State.{Node, node, Sym, Ctx, St, Out, done, fail, refuse, M, Void, go-on, W, wordIn, tokAt, arrive, push}
-use Rattle.sifc_def.specs.Label.{Lab, lab, hasToken, scopeOf, textOf, label}
+use Rattle.sifc_def.specs.State.{Node, Sym, Ctx, St, Out, done, fail, refuse, Void, go-on, W, wordIn, tokAt, arrive, push}
+use Rattle.sifc_def.specs.Label.{Lab, hasToken, scopeOf, textOf}
 use Rattle.sifc_def.specs.Expr.{fuel}
 use Rattle.sifc_def.specs.Stmt.{decl}
 use Rattle.sifc_def.specs.Walk.{End, end, start, walkers, settled, topDecl, endRead, program, walk}
-use Rattle.sifc_trip.specs.Typed.{Stmt, Stmts, stop, next, counted, eofWord, prS, prSs, prProgram, bare, rencS, rencSs, rencProgram, envS, envSs, OkS, OkSs, OkProgram}
-use Rattle.sifc_trip.specs.Round.{ofSize, Res, and-then, yes-then, no-else, res-map, Fairs, In, labelled, Made, made-none, made-then, made-push}
-use Rattle.sifc_trip.specs.Round.Steps.{first, Pre, Ahead, Got, test, sees-length, push-ok}
+use Rattle.sifc_trip.specs.Typed.{Stmt, Stmts, stop, next, counted, eofWord, prS, prSs, prProgram, bare, rencS, rencSs, rencProgram, envS, OkS, OkSs, OkProgram}
+use Rattle.sifc_trip.specs.Round.{Res, and-then, yes-then, no-else, res-map, Fairs, labelled, Made, made-none, made-then, made-push}
+use Rattle.sifc_trip.specs.Round.Steps.{first, Ahead, Got, test, sees-length, push-ok}
 use Rattle.sifc_trip.specs.Round.Statements.Blocks.{declStarters, start-decl, member-test, Follow, follow-decls, prSs-length}
 use Rattle.sifc_trip.specs.Round.Statements.Blocks.Every.{declaration-read}
 
+-- no `if` goes on with the script's end
 follow-end : Follow (eofWord ∷ [])
 unfolding Follow
 follow-end = (refl, refl)
@@ -36,6 +35,7 @@ module _ (c : Ctx) where
   settled-ok n (fail e s) P h = absurd h
   settled-ok n (refuse r) P h = h
 
+  -- a declaration that is read is no failure at the top
   top-ok : (d : Void) (s : St) (P : St → Type 0) → Res (d s) (λ u. P) → Res (topDecl c d s) (λ v s. (v ≡ none) × P s)
   unfolding topDecl go-on
   top-ok d s P h = settled-ok (length (s .nodes)) (d s) P h
@@ -45,6 +45,7 @@ module _ (c : Ctx) where
     pub down : e ≡ end false none
     pub made : Made c L ns (s .nodes)
 
+  -- the Program node
   end-ok : (n : ℕ) (s : St) (L : List Lab) (ns : List Node) → Made c L ns (s .nodes) → Res (endRead c n false none s) (Ended (bare Program false n ∷ L) ns)
   unfolding endRead Res scopeOf textOf hasToken member if_then_else_ go-on
   end-ok n s L ns m =
@@ -52,6 +53,7 @@ module _ (c : Ctx) where
       (push-ok c Program false n 0 s (λ u s₁. Made c (bare Program false n ∷ L) ns (s₁ .nodes)) (made-push refl m))
       (λ u s₁ h. record { down = refl; made = h })
 
+  -- no declaration begins with the script's end
   not-eof : (t : Stmt) (E : List Sym) (rest : List W) (s : St) → OkS 0 E t → Ahead c 0 E true (prS t rest) s → eqb (tokAt c (s .at) .kind) Eof ≡ false
   unfolding member
   not-eof t E rest s k p = test (λ n. eqb n Eof) false p (member-test (first (prS t rest) .kind) Eof declStarters (start-decl t c 0 E rest k) tt)

@@ -1,31 +1,28 @@
 -- Completeness of declarations and statements, the parts: variables, arrays, tables, names that are bound.
-use Prim.Native.Nat.{ℕ, zero, suc, _+_, _-_, _≤_, _<_}
+use Prim.Native.Nat.{ℕ, zero, suc, _+_, _≤_}
 use mathlib.Core.Path.{_≡_, refl, sym, ap, ap₂, _∙_, subst, subst₂}
-use mathlib.Core.List.{List, [], _∷_, _++_, map, append-assoc, append-nil, reverse, reverseAux, reverseAux-eq, reverse-reverse}
-use mathlib.Core.Option.{Option, none, some}
-use mathlib.Core.Bool.{Bool, true, false, _&&_, _||_, not}
+use mathlib.Core.List.{List, [], _∷_, _++_, map}
+use mathlib.Core.Bool.{Bool, true, false}
 use native.Mathlib.Omega.{arith}
-use native.Mathlib.Nat.{zero-add, le-trans, not-suc-le-zero}
-use lib.Dec.{T, eqb, leb, ltb, eqb→eq, leb→le, nleb→lt, eqb-refl, le→leb}
-use lib.ListN.{take, drop, length, getD, length-reverse, length-map}
-use lib.Seq.{take-append-seam}
-use Rattle.sifc_lex.specs.Base.{if_then_else_, member, part}
-use Rattle.sifc_lex.specs.Kind.{LeftParen, RightParen, LeftBrace, RightBrace, LeftBracket, RightBracket, Semicolon, Eq, Comma, EqArrow, DoubleLeftBracket, DoubleRightBracket, Ident, Var, Fn, Return, If, Elif, Else, For, In as InKind, Eof}
-use Rattle.sifc_def.specs.declared.Why.{Why}
-use Rattle.sifc_def.specs.declared.Why.the-variants.{InvalidTknMsg, InvalidIfStmt, ExpectedIdent}
+use native.Mathlib.Nat.{zero-add, not-suc-le-zero}
+use lib.Dec.{T, eqb, eqb-refl}
+use lib.ListN.{length}
+use Rattle.sifc_lex.specs.Base.{if_then_else_, member}
+use Rattle.sifc_lex.specs.Kind.{LeftParen, LeftBracket, RightBracket, Semicolon, Eq, Comma, EqArrow, DoubleLeftBracket, DoubleRightBracket, Ident, Eof}
+use Rattle.sifc_def.specs.declared.Why.the-variants.{InvalidTknMsg, ExpectedIdent}
 use Rattle.sifc_def.specs.declared.What.{What}
-use Rattle.sifc_def.specs.declared.What.the-variants.{Placeholder, Function, Variable, Other}
-use Rattle.sifc_def.specs.Ast.{Block, IfStmt, ElifStmt, ForStmt, ReturnStmt, ExprStmt, VarDecl, FnDecl, FnParams, IdentPair, ItemList, TableItem, Table, Array, ArrayItems, PrimaryExpr}
-use Rattle.sifc_def.specs.State.{Node, node, Sym, Ctx, St, Out, done, fail, refuse, M, Void, go-on, _>>=_, _>>_, return, ok, when, W, nameOf, wordIn, tokAt, wordAt, nameAt, here, kindNow, consume, addErrorWPos, addError, list, expect, optional, ident, push, loads}
-use Rattle.sifc_def.specs.Symbols.{find, putAt, store, setLevel, initScope, closeScope}
-use Rattle.sifc_def.specs.Label.{Lab, lab, hasToken, scopeOf, textOf, label}
+use Rattle.sifc_def.specs.declared.What.the-variants.{Variable, Other}
+use Rattle.sifc_def.specs.Ast.{VarDecl, ItemList, TableItem, Table, Array, ArrayItems, PrimaryExpr}
+use Rattle.sifc_def.specs.State.{Node, Sym, Ctx, St, M, go-on, return, W, nameOf, wordAt, nameAt, optional, push}
+use Rattle.sifc_def.specs.Symbols.{putAt, store}
+use Rattle.sifc_def.specs.Label.{Lab, hasToken, scopeOf, textOf}
 use Rattle.sifc_def.specs.Walk.{walkers}
-use Rattle.sifc_def.specs.Expr.{Rec, fnParamMaxLen, looseness, fuel, separator, paramList}
-use Rattle.sifc_def.specs.Stmt.{bind, withReturn, identNode, param, identPair, declareVar, arrayNodes, endIf, arrayItems, arrayDecl, tableItem, items, itemList, tableDecl, initial, varDecl}
-use Rattle.sifc_trip.specs.Typed.{Expr, prim, un, bin, call, dot, idx, set, mut, Exprs, nil, more, many, Items, noItem, item, manyItems, word, lp, rp, lb, rb, eq, comma, semi, arrow, dlb, drb, lbrace, varWord, between, betweenNames, betweenItems, pr, prs, prNames, prItems, bare, said, primLab, renc, rencs, rencNames, rencItems, rencArray, globalAt, ends, endss, seen, Ok, Oks, OkItems, OkNames, bound, declared, stored}
-use Rattle.sifc_trip.specs.Round.{true-of, not-eqb, not-leb, at-kind, and-l, and-r, or-r, ofSize, Res, and-then, yes-then, no-else, res-map, erased, In, in-stored, ident-name, labelled, Made, made-none, made-then, made-push}
-use Rattle.sifc_trip.specs.Round.Steps.{first, Pre, Ahead, Got, now, kind-now, test, later, stand, sees-length, stepped, pushed, storedAs, consume-eq, expect-eq, ident-eq, optional-yes, optional-no, push-ok, store-ok, pr-length, prs-length, between-length}
-use Rattle.sifc_trip.specs.Round.Levels.{Stop, starters}
+use Rattle.sifc_def.specs.Expr.{Rec, looseness, fuel}
+use Rattle.sifc_def.specs.Stmt.{bind, identNode, declareVar, arrayNodes, arrayItems, arrayDecl, tableItem, items, itemList, tableDecl}
+use Rattle.sifc_trip.specs.Typed.{Expr, prim, un, bin, call, dot, idx, set, mut, Exprs, nil, more, many, Items, noItem, item, manyItems, lb, rb, comma, semi, arrow, dlb, drb, lbrace, between, betweenItems, pr, prs, prItems, bare, said, renc, rencs, rencItems, rencArray, globalAt, ends, endss, seen, Ok, Oks, OkItems, bound, declared, stored}
+use Rattle.sifc_trip.specs.Round.{true-of, not-eqb, at-kind, Res, and-then, yes-then, no-else, res-map, erased, In, in-stored, ident-name, made-none, made-then, made-push}
+use Rattle.sifc_trip.specs.Round.Steps.{Ahead, Got, now, test, later, stand, sees-length, stepped, pushed, expect-eq, ident-eq, optional-yes, optional-no, push-ok, store-ok, pr-length, between-length}
+use Rattle.sifc_trip.specs.Round.Levels.{Stop}
 use Rattle.sifc_trip.specs.Round.Levels.Suffixes.{start-test, expression-read}
 pub mod Blocks
 
@@ -45,14 +42,12 @@ mutual
   ends-true (set x g e) = ends-true e
   ends-true (mut x i e) = ap (λ (b : Bool). ends b e) (ends-true i) ∙ ends-true e
 
+  -- the same of arguments
   pub endss-true : (es : Exprs) → endss true es ≡ true
   endss-true nil = refl
   endss-true (more e es) = ap (λ (b : Bool). endss b es) (ends-true e) ∙ endss-true es
 
--- what ends an expression in a statement
-abbrev pub enders : List ℕ
-enders = RightParen ∷ LeftBrace ∷ RightBracket ∷ Semicolon ∷ Comma ∷ DoubleRightBracket ∷ []
-
+-- a token ends an expression if it is no operator and begins no suffix
 pub stop-of : (x : W) (rest : List W) → looseness (x .kind) ≡ 0 → eqb (x .kind) LeftParen ≡ false → eqb (x .kind) LeftBracket ≡ false → eqb (x .kind) 11 ≡ false → eqb (x .kind) Eq ≡ false → Stop (x ∷ rest)
 unfolding Stop
 stop-of x rest z a b d e = (z, differ (x .kind) LeftParen a, differ (x .kind) LeftBracket b, differ (x .kind) 11 d, differ (x .kind) Eq e)
@@ -63,19 +58,23 @@ stop-of x rest z a b d e = (z, differ (x .kind) LeftParen a, differ (x .kind) Le
         eqb-eq : (k : ℕ) → eqb k k ≡ true
         eqb-eq k = true-of (eqb k k) (eqb-refl k)
 
+-- `;` ends an expression
 pub stop-semi : (rest : List W) → Stop (semi ∷ rest)
 unfolding looseness member if_then_else_
 stop-semi rest = stop-of semi rest refl refl refl refl refl
 
+-- `{` ends an expression
 pub stop-lbrace : (rest : List W) → Stop (lbrace ∷ rest)
 unfolding looseness member if_then_else_
 stop-lbrace rest = stop-of lbrace rest refl refl refl refl refl
 
+-- what follows an element ends it
 pub stop-items : (es : Exprs) (rest : List W) → Stop (between es (prs es (rb ∷ rest)))
 unfolding between prs looseness member if_then_else_
 stop-items nil rest = stop-of rb rest refl refl refl refl refl
 stop-items (more e es) rest = stop-of comma (prs (more e es) (rb ∷ rest)) refl refl refl refl refl
 
+-- what follows an item's value ends it
 pub stop-pairs : (is : Items) (rest : List W) → Stop (betweenItems is (prItems is (drb ∷ rest)))
 unfolding betweenItems prItems looseness member if_then_else_
 stop-pairs noItem rest = stop-of drb rest refl refl refl refl refl
@@ -108,12 +107,14 @@ module _ (c : Ctx) where
         made = h .made;
       })
 
+  -- a name is stored as no variable
   pub store-other : (i : ℕ) (x : W) (s : St) {l : ℕ} {E : List Sym} {b : Bool} {L : List Lab} {rest : List W} {ns : List Node} → wordAt c i ≡ x → Got c l E b L rest ns s → Res (store c i Other s) (λ u. Got c l (putAt l (nameOf x) Other E) b L rest ns)
   unfolding erased
   store-other i x s ew h = store-got i x Other Other s ew refl (λ j g e. absurd (other-not j g e)) h
 
   -- ── the end of var_decl ──
 
+  -- a variable's node and name
   pub declare-ok : (i n : ℕ) (x : W) (s : St) {l : ℕ} {E : List Sym} {L : List Lab} {rest : List W} {ns : List Node}
       → wordAt c i ≡ x → x .kind ≡ Ident → Got c l E true L rest ns s
       → Res (declareVar c i n s) (λ u. Got c l (declared l x E) true (said VarDecl (globalAt l) n x ∷ L) rest ns)
@@ -142,6 +143,7 @@ module _ (c : Ctx) where
       (ih (stepped s) (later (h .pre)))
       (λ m s₂ q. record { num = q .num ∙ omega arith; got = record { pre = q .got .pre; made = made-then (h .made) (q .got .made) } }))
 
+  -- the elements of an array are read as they are
   pub elements-ok : (es : Exprs) (d f n l : ℕ) (E : List Sym) (rest : List W) (s : St) → Oks (seen l E) true es → many es ≤ f → Ahead c l E true (prs es (rb ∷ rest)) s
       → Res (arrayItems c (walkers c d) f n s) (Count (n + many es) (Got c l E true (rencs es) (rb ∷ rest) (s .nodes)))
   unfolding arrayItems prs many Oks rencs Res member go-on if_then_else_
@@ -169,11 +171,13 @@ module _ (c : Ctx) where
       (push-ok c ArrayItems false m 0 s (λ u. Got c l E true (bare ArrayItems false (suc (many es)) ∷ rencs (more e es)) rest ns) (record { pre = h .pre; made = made-push (ap (λ (z : ℕ). bare ArrayItems false z) em) (h .made) }))
       (λ u s₁ h₁. push-ok c Array false 1 i s₁ (λ u. Got c l E true (rencArray x (more e es)) rest ns) (record { pre = h₁ .pre; made = made-push (ap (λ (y : W). said Array false 1 y) ew) (h₁ .made) })))
 
+  -- no more elements than words
   many-le : (es : Exprs) (rest : List W) → many es ≤ length (prs es rest)
   unfolding many prs
   many-le nil rest = omega arith
   many-le (more e es) rest = let z = pr-length e (between es (prs es rest)) in let y = between-length es (prs es rest) in let q = many-le es rest in omega arith
 
+  -- an array is read as it is, and its name stored
   pub array-ok : (i : ℕ) (x : W) (es : Exprs) (d l : ℕ) (E : List Sym) (rest : List W) (s : St) → wordAt c i ≡ x → Oks (seen l E) true es → Ahead c l E true (lb ∷ prs es (rb ∷ semi ∷ rest)) s
       → Res (arrayDecl c (walkers c d) i s) (λ u. Got c l (stored l x E) true (rencArray x es) rest (s .nodes))
   unfolding arrayDecl stored go-on
@@ -204,6 +208,7 @@ module _ (c : Ctx) where
       (ih (stepped s) (later (h .pre)))
       (λ m s₂ q. record { num = q .num ∙ omega arith; got = record { pre = q .got .pre; made = made-then (h .made) (q .got .made) } }))
 
+  -- an item of a table is read as it is
   item-ok : (x : W) (e : Expr) (d l : ℕ) (E : List Sym) (rest : List W) (s : St) → x .kind ≡ Ident → Ok (seen l E) true e → Stop rest → Ahead c l E true (x ∷ arrow ∷ pr e rest) s
       → Res (tableItem c (walkers c d) s) (λ u. Got c l E true (said TableItem false 1 x ∷ renc e) rest (s .nodes))
   unfolding tableItem scopeOf textOf hasToken member if_then_else_ go-on
@@ -215,6 +220,7 @@ module _ (c : Ctx) where
       (read-expr e d l E rest (stepped (stepped s)) k st (later (later p)))
       (λ u s₁ h. push-ok c TableItem false 1 (s .at) s₁ Q (record { pre = h .pre; made = made-push (ap (λ (y : W). said TableItem false 1 y) (now p)) (h .made) }))))
 
+  -- the items of a table are read as they are
   pub items-ok : (is : Items) (d f n l : ℕ) (E : List Sym) (rest : List W) (s : St) → OkItems (seen l E) is → manyItems is ≤ f → Ahead c l E true (prItems is (drb ∷ rest)) s
       → Res (items c (walkers c d) f n s) (Count (n + manyItems is) (Got c l E true (rencItems is) (drb ∷ rest) (s .nodes)))
   unfolding items prItems manyItems OkItems rencItems Res member go-on if_then_else_
@@ -230,12 +236,14 @@ module _ (c : Ctx) where
       (item-ok x e d l E ws s (k .0) (k .1) (stop-pairs is rest) p)
       (λ u s₁ h. items-tail is f n (walkers c d) rest s₁ (λ s₂ p₂. items-ok is d f (suc n) l E rest s₂ (k .2) (omega arith) p₂) h)))
 
+  -- no more items than words
   items-le : (is : Items) (rest : List W) → manyItems is ≤ length (prItems is rest)
   unfolding manyItems prItems betweenItems
   items-le noItem rest = omega arith
   items-le (item x e noItem) rest = omega arith
   items-le (item x e (item y e′ is)) rest = let z = pr-length e (comma ∷ prItems (item y e′ is) rest) in let q = items-le (item y e′ is) rest in omega arith
 
+  -- a table is read as it is, and its name stored
   pub table-ok : (i : ℕ) (x : W) (is : Items) (d l : ℕ) (E : List Sym) (rest : List W) (s : St) → wordAt c i ≡ x → OkItems (seen l E) is → Ahead c l E true (dlb ∷ prItems is (drb ∷ semi ∷ rest)) s
       → Res (tableDecl c (walkers c d) i s) (λ u. Got c l (stored l x E) true (said Table false 1 x ∷ bare ItemList false (manyItems is) ∷ rencItems is) rest (s .nodes))
   unfolding tableDecl itemList stored scopeOf textOf hasToken member if_then_else_ go-on Res
@@ -258,6 +266,7 @@ module _ (c : Ctx) where
 
   -- ── names that are bound ──
 
+  -- names are bound in order
   pub bind-ok : (is : List ℕ) (l : ℕ) (E : List Sym) (b : Bool) (L : List Lab) (rest : List W) (ns : List Node) (s : St) → Got c l E b L rest ns s → Res (bind c is s) (λ u. Got c l (bound l (map (λ (i : ℕ). wordAt c i) is) E) b L rest ns)
   unfolding bind bound Res
   bind-ok [] l E b L rest ns s h = h

@@ -1,29 +1,28 @@
 -- Completeness of expressions, the rest: what goes on with a single token, assignments, and the whole expression.
-use Prim.Native.Nat.{ℕ, zero, suc, _+_, _-_, _≤_, _<_}
-use mathlib.Core.Path.{_≡_, refl, sym, ap, ap₂, _∙_, subst, subst₂}
-use mathlib.Core.Logic.{_≢_}
-use mathlib.Core.List.{List, [], _∷_, _++_, map, append-assoc, append-nil}
+use Prim.Native.Nat.{ℕ, zero, suc, _+_, _≤_}
+use mathlib.Core.Path.{_≡_, refl, sym, ap, _∙_, subst}
+use mathlib.Core.List.{List, [], _∷_, _++_}
 use mathlib.Core.Option.{Option, none, some}
-use mathlib.Core.Bool.{Bool, true, false, _&&_, _||_, not}
+use mathlib.Core.Bool.{Bool, true, false, _||_, not}
 use native.Mathlib.Omega.{arith}
-use native.Mathlib.Nat.{zero-add, le-trans, not-suc-le-zero}
-use lib.Dec.{T, eqb, leb, ltb, eqb→eq, leb→le, nleb→lt, eqb-refl, le→leb}
-use lib.ListN.{take, drop, length, getD}
-use Rattle.sifc_lex.specs.Base.{if_then_else_, member, part}
-use Rattle.sifc_lex.specs.Kind.{LeftParen, RightParen, LeftBracket, RightBracket, Eq, Period, Comma, Bang, Minus, At, Ident, Str, Val, True, False, Eof, LexPanic}
+use native.Mathlib.Nat.{zero-add, not-suc-le-zero}
+use lib.Dec.{T, eqb, leb, ltb, eqb→eq, leb→le}
+use lib.ListN.{length}
+use Rattle.sifc_lex.specs.Base.{if_then_else_, member}
+use Rattle.sifc_lex.specs.Kind.{LeftParen, RightParen, LeftBracket, RightBracket, Eq, Period, Comma, Bang, Minus, Ident, Str, Eof}
 use Rattle.sifc_lex.specs.Reserved.{isStdLibFn}
 use Rattle.sifc_def.specs.declared.What.{What}
 use Rattle.sifc_def.specs.declared.What.the-variants.{Placeholder, Function, Variable, Other}
-use Rattle.sifc_def.specs.Ast.{TableAccess, ArrayAccess, ArrayMutExpr, FnCallExpr, VarAssignExpr, BinaryExpr, UnaryExpr, PrimaryExpr}
-use Rattle.sifc_def.specs.State.{Node, node, Sym, Ctx, St, Out, done, fail, refuse, M, Void, go-on, _>>=_, _>>_, return, ok, when, W, nameOf, wordIn, tokAt, wordAt, nameAt, here, kindNow, consume, expect, push, setNodes, without}
+use Rattle.sifc_def.specs.Ast.{TableAccess, ArrayAccess, ArrayMutExpr, FnCallExpr, VarAssignExpr, PrimaryExpr}
+use Rattle.sifc_def.specs.State.{Node, node, Sym, Ctx, St, Void, go-on, W, nameOf, tokAt, wordAt, push, setNodes}
 use Rattle.sifc_def.specs.Symbols.{find, retrieve, setCheck}
-use Rattle.sifc_def.specs.Label.{Lab, lab, hasToken, scopeOf, textOf, label}
+use Rattle.sifc_def.specs.Label.{Lab, lab, hasToken, scopeOf, textOf}
 use Rattle.sifc_def.specs.Walk.{walkers}
-use Rattle.sifc_def.specs.Expr.{Rec, fnParamMaxLen, looseness, isUnary, isLiteral, fuel, levels, assignVar, assignToken, assignArray, assignTo, separator, paramList, single, callCounted, callDeclared, callName, isNamed, callNamed, assignExpr, callPart, dot as dotPart, index as indexPart, postfix, fnCallExpr}
-use Rattle.sifc_trip.specs.Typed.{Expr, prim, un, bin, call, dot, idx, set, mut, Exprs, nil, more, many, word, lp, rp, lb, rb, eq, period, comma, height, wrap, between, pr, prs, bare, said, primLab, renc, rencs, ends, endss, isSome, wants, seen, fine, callable, Ok, Oks}
-use Rattle.sifc_trip.specs.Round.{true-of, not-eqb, not-leb, at-kind, and-l, and-r, or-l, or-r, or-case, All, in-cases, ofSize, Res, and-then, yes-then, no-else, res-map, erase, wants-erase, isSome-erase, In, looks, find-fair, ident-name, map-append, labelled, Made, made-none, made-then, made-push, taken-out, Newest, newest, topOf}
-use Rattle.sifc_trip.specs.Round.Steps.{first, Pre, Ahead, Got, now, kind-now, test, later, stand, sees-length, stepped, pushed, consume-eq, expect-eq, push-ok, loose-le, loose-end, loose-not, unary-end, wrap-length, between-length, pr-length, prs-length}
-use Rattle.sifc_trip.specs.Round.Levels.{singles, starters, Calm, Stop, stop-rp, stop-rb, single-read, made-single, look, After, Has, fine-kind, after-single, to-call, descend, Level, Unary, Assign, Both, postfix-none, prim-unary, assign-low, un-unary, bin-level, bin-cps, by-call, both-low, both-high}
+use Rattle.sifc_def.specs.Expr.{looseness, isUnary, fuel, levels, assignVar, assignToken, assignArray, assignTo, separator, paramList, single, callCounted, callDeclared, callName, isNamed, callNamed, assignExpr, callPart, dot as dotPart, index as indexPart, postfix}
+use Rattle.sifc_trip.specs.Typed.{Expr, prim, un, bin, call, dot, idx, set, mut, Exprs, nil, more, many, lp, rp, lb, rb, eq, period, height, wrap, between, pr, prs, bare, primLab, renc, rencs, ends, endss, wants, seen, fine, callable, Ok, Oks}
+use Rattle.sifc_trip.specs.Round.{true-of, not-eqb, not-leb, at-kind, and-l, and-r, or-case, All, in-cases, ofSize, Res, and-then, yes-then, no-else, res-map, erase, wants-erase, In, looks, find-fair, ident-name, map-append, labelled, made-none, made-then, made-push, taken-out, Newest, newest, topOf}
+use Rattle.sifc_trip.specs.Round.Steps.{first, Ahead, Got, now, test, later, stand, sees-length, stepped, pushed, consume-eq, expect-eq, push-ok, loose-le, between-length, pr-length}
+use Rattle.sifc_trip.specs.Round.Levels.{singles, starters, Calm, Stop, stop-rb, single-read, made-single, look, After, Has, fine-kind, after-single, to-call, descend, Level, Unary, Assign, Both, postfix-none, prim-unary, assign-low, un-unary, bin-level, bin-cps, by-call, both-low, both-high}
 
 -- what stands between two arguments ends an argument
 stop-sep : (es : Exprs) (rest : List W) → Stop (between es (prs es (rp ∷ rest)))
@@ -31,28 +30,34 @@ unfolding Stop looseness member between prs if_then_else_
 stop-sep nil rest = (refl, omega arith, omega arith, omega arith, omega arith)
 stop-sep (more e es) rest = (refl, omega arith, omega arith, omega arith, omega arith)
 
+-- `=` goes on with no level
 calm-eq : (ws : List W) → Calm 7 (eq ∷ ws)
 unfolding Calm looseness member if_then_else_
 calm-eq ws = (λ j lt. omega arith, omega arith, omega arith, omega arith)
 
+-- in parentheses or not, it begins as an expression does
 wrap-start : (q : Bool) (f : List W → List W) → ((r : List W) → T (member (first (f r) .kind) starters)) → (r : List W) → T (member (first (wrap q f r) .kind) starters)
 unfolding wrap member
 wrap-start true f h r = h r
 wrap-start false f h r = tt
 
+-- the state with name checking set
 abbrev checked : Bool → St → St
 checked q s = record { at = s .at; nodes = s .nodes; syms = s .syms; level = s .level; check = q; errs = s .errs }
 
+-- name checking is set, names and level stay
 in-checked : {c : Ctx} {l : ℕ} {E : List Sym} {b : Bool} {lvl : ℕ} {syms : List Sym} {chk : Bool} (q : Bool) → In c l E b lvl syms chk → In c l E q lvl syms q
 in-checked q h = record { level = h .level; names = h .names; fair = h .fair; check = refl }
 
 module _ (c : Ctx) (l : ℕ) (E : List Sym) where
   -- ── what an expression begins with ──
 
+  -- a single token begins an expression
   single-start : (b : Bool) (x : W) → T (fine (look c l E) b x) → T (member (x .kind) starters)
   unfolding All member
   single-start b x t = in-cases (λ k. T (member k starters)) (x .kind) singles (tt, (tt, (tt, (tt, (tt, tt))))) (fine-kind c l E b x t)
 
+  -- what an expression begins with
   pub start : (e : Expr) (b : Bool) → Ok (look c l E) b e → (rest : List W) → T (member (first (pr e rest) .kind) starters)
   unfolding Ok pr isUnary member
   start (prim x) b k rest = single-start b x k
@@ -78,6 +83,7 @@ module _ (c : Ctx) (l : ℕ) (E : List Sym) where
 
   -- ── an index ──
 
+  -- an index is read as it is
   idx-unary : (x : W) (e : Expr) → Assign c l E e → Unary c l E (idx x e)
   unfolding Unary Assign Ok pr renc ends postfix indexPart Res single scopeOf textOf hasToken member go-on if_then_else_
   idx-unary x e asg d b rest s n k cm p =
@@ -97,6 +103,7 @@ module _ (c : Ctx) (l : ℕ) (E : List Sym) where
 
   -- ── a table access: name checking is off in what follows, and on after it ──
 
+  -- a table access is read as it is by unary_expr
   dot-unary : (x : W) (e : Expr) → Assign c l E e → (d : ℕ) (b : Bool) (rest : List W) (s : St) → Ok (look c l E) b (dot x e) → Stop rest → Has c l E b (pr (dot x e) rest) s → Res (walkers c d .unary s) (λ u. After c l E b (dot x e) rest (s .nodes))
   unfolding Assign Ok pr renc ends postfix dotPart Res single setCheck scopeOf textOf hasToken member if_then_else_ go-on
   dot-unary x e asg d b rest s k st p =
@@ -112,6 +119,7 @@ module _ (c : Ctx) (l : ℕ) (E : List Sym) where
       push-ok c TableAccess false 2 0 (checked true s₃) Q
       (record { pre = stand (h .pre) (in-checked true (h .pre .stands)); made = made-push refl (made-then (made-single s p) (h .made)) })))))))
 
+  -- a table access is read as it is by assign_expr
   dot-assign : (x : W) (e : Expr) → Assign c l E e → Assign c l E (dot x e)
   unfolding Assign walkers assignExpr Res ofSize Stop Calm if_then_else_ go-on
   dot-assign x e asg zero b rest s k st p = tt
@@ -123,6 +131,7 @@ module _ (c : Ctx) (l : ℕ) (E : List Sym) where
 
   -- ── calls ──
 
+  -- assign_expr reads each of them
   Assigns : Exprs → Type 0
   Assigns nil = Unit {0}
   Assigns (more e es) = Assign c l E e × Assigns es
@@ -140,6 +149,7 @@ module _ (c : Ctx) (l : ℕ) (E : List Sym) where
       yes-then _ _ _ s _ (test (λ k. not (eqb k RightParen)) true (h .pre) refl)
       (rw (expect-eq Comma s (h .pre) refl refl) (record { pre = later (h .pre); made = h .made }))
 
+  -- arguments are read as they are
   args-ok : (es : Exprs) → Assigns es → (d f n : ℕ) (b : Bool) (rest : List W) (s : St) → Oks (look c l E) b es → n + many es ≤ 64 → length (prs es (rp ∷ rest)) ≤ f → Has c l E b (prs es (rp ∷ rest)) s
       → Res (paramList c (walkers c d .assign) f n s) (Args b es n (rp ∷ rest) (s .nodes))
   unfolding Assigns paramList prs many Oks Assign Res endss rencs member if_then_else_ go-on
@@ -162,6 +172,7 @@ module _ (c : Ctx) (l : ℕ) (E : List Sym) where
       (args-ok es (all .1) d f (suc n) (ends b e) rest s₂ (k .1) (omega arith) (let z = pr-length e ws in let y = between-length es (prs es (rp ∷ rest)) in omega arith) (h₂ .pre))
       (λ m s₃ q. record { num = q .num ∙ omega arith; got = record { pre = q .got .pre; made = made-then (h₂ .made) (q .got .made) } }))))))
 
+  -- a call with as many arguments as its name takes
   declared-ok : (i n : ℕ) (v : Option What) (s : St) (Q : Unit {0} → St → Type 0) → T (wants v n) → Q tt (pushed FnCallExpr false (suc n) 0 s) → Res (callDeclared c i n v s) Q
   unfolding callDeclared wants callCounted
   declared-ok i n none s Q h q = absurd h
@@ -190,6 +201,7 @@ module _ (c : Ctx) (l : ℕ) (E : List Sym) where
           (rw ew (rw (looks h (nameOf x), wants-erase (find (s .level) (nameOf x) (s .syms)) n) at tw₂))
           (rw e at q))
 
+  -- a call is read as it is
   call-unary : (x : W) (es : Exprs) → Assigns es → Unary c l E (call x es)
   unfolding Unary Ok pr renc ends postfix callPart Res callable scopeOf textOf hasToken member go-on if_then_else_
   call-unary x es all d b rest s n k cm p =
@@ -212,6 +224,7 @@ module _ (c : Ctx) (l : ℕ) (E : List Sym) where
 
   -- ── assignments ──
 
+  -- an assignment to what was declared a variable
   assignVar-ok : (i : ℕ) (v : Option What) (g : Bool) (s : St) (Q : Unit {0} → St → Type 0) → erase v ≡ some (Variable 0 g) → ((j : ℕ) → v ≡ some (Variable j g) → Q tt (pushed VarAssignExpr g 2 j s)) → Res (assignVar c i v s) Q
   unfolding assignVar
   assignVar-ok i none g s Q e h = absurd (let z : _≡_ {A = ℕ} 0 1 = cc in let y : ⊥ = omega arith in y)
@@ -226,6 +239,7 @@ module _ (c : Ctx) (l : ℕ) (E : List Sym) where
       descend c l E 7 (walkers c d .unary) b ws s (λ u s₁. s₁ ≡ single-read s) cm (λ s₁ e. subst (λ (z : St). Has c l E b ws z) (sym e) (later p))
       (to-call c l E d b x ws s _ t p (λ d′. after-single c l E (walkers c d′) b x ws s _ t p (postfix-none c l E (walkers c d′) (node PrimaryExpr false 0 (s .at)) b ws (single-read s) (λ u s₁. s₁ ≡ single-read s) 7 cm (later p) refl)))
 
+  -- an assignment to a variable is read as it is
   set-assign : (x : W) (g : Bool) (e : Expr) → Assign c l E e → Assign c l E (set x g e)
   unfolding Assign walkers assignExpr Res ofSize Ok pr renc ends assignTo assignToken retrieve scopeOf textOf hasToken member go-on if_then_else_
   set-assign x g e asg zero b rest s k st p = tt
@@ -249,6 +263,7 @@ module _ (c : Ctx) (l : ℕ) (E : List Sym) where
         made = made-push (ap (lab VarAssignExpr g 2 0) (find-fair c (s₃ .level) (nameOf x) (s₃ .syms) (h .pre .stands .fair) i g ef ∙ ident-name x (k .1))) (made-then (made-single s p) (h .made));
       })))))))
 
+  -- an assignment to an element is read as it is
   mut-assign : (x : W) (i e : Expr) → Assign c l E i → Assign c l E e → Assign c l E (mut x i e)
   unfolding Assign walkers assignExpr Res ofSize Ok pr renc ends assignTo assignArray setNodes scopeOf textOf hasToken member Level go-on if_then_else_
   mut-assign x i e asi asg zero b rest s k st p = tt
@@ -278,12 +293,14 @@ module _ (c : Ctx) (l : ℕ) (E : List Sym) where
             };
       })))))))
 
+  -- what is proved of each list of expressions
   record Boths (es : Exprs) : Type 1 where
     all : Assigns es
 
   mutual
     unfolding height Assigns
 
+    -- every expression is read as it is
     trip : (e : Expr) → Both c l E e
     trip (prim x) = both-low c l E (prim x) (by-call c l E (prim x) (prim-unary c l E x))
     trip (un o e) = both-low c l E (un o e) (by-call c l E (un o e) (un-unary c l E o e (trip e)))
@@ -299,6 +316,7 @@ module _ (c : Ctx) (l : ℕ) (E : List Sym) where
     trip (set x g e) = both-high c l E (set x g e) (omega arith) (set-assign x g e (trip e .assign))
     trip (mut x i e) = both-high c l E (mut x i e) (omega arith) (mut-assign x i e (trip i .assign) (trip e .assign))
 
+    -- every list of expressions is read as it is
     trips : (es : Exprs) → Boths es
     trips nil = record { all = tt }
     trips (more e es) = record { all = (trip e .assign, trips es .all) }

@@ -1,36 +1,33 @@
 -- Soundness of declarations and statements, the parts: names, variables, arrays, tables, parameters.
-use Prim.Native.Nat.{ℕ, zero, suc, _+_, _-_, _≤_, _<_}
-use mathlib.Core.Path.{_≡_, refl, sym, ap, ap₂, _∙_, subst, subst₂}
-use mathlib.Core.List.{List, [], _∷_, _++_, map, append-assoc, append-nil, reverse, reverseAux, reverseAux-eq, reverse-reverse}
+use Prim.Native.Nat.{ℕ, zero, suc, _+_, _≤_}
+use mathlib.Core.Path.{_≡_, refl, sym, ap, _∙_, subst}
+use mathlib.Core.List.{List, [], _∷_, map, reverseAux}
 use mathlib.Core.Option.{Option, none, some}
-use mathlib.Core.Bool.{Bool, true, false, _&&_, _||_, not}
+use mathlib.Core.Bool.{Bool, true, false, not}
 use native.Mathlib.Omega.{arith}
-use native.Mathlib.Nat.{zero-add, le-trans, not-suc-le-zero}
-use lib.Dec.{T, eqb, leb, ltb, eqb→eq, leb→le, nleb→lt, eqb-refl, le→leb}
-use lib.ListN.{take, drop, length, getD, length-reverse, length-map}
-use lib.Seq.{take-append-seam}
-use Rattle.sifc_lex.specs.Base.{if_then_else_, member, part}
-use Rattle.sifc_lex.specs.Kind.{LeftParen, RightParen, LeftBrace, RightBrace, LeftBracket, RightBracket, Semicolon, Eq, Comma, EqArrow, DoubleLeftBracket, DoubleRightBracket, Ident, Var, Fn, Return, If, Elif, Else, For, In as InKind, Eof}
+use native.Mathlib.Nat.{zero-add}
+use lib.Dec.{T, eqb, leb, eqb→eq, nleb→lt}
+use lib.ListN.{length}
+use Rattle.sifc_lex.specs.Base.{if_then_else_, member}
+use Rattle.sifc_lex.specs.Kind.{RightParen, LeftBracket, RightBracket, Semicolon, Comma, EqArrow, DoubleLeftBracket, DoubleRightBracket, Ident, Eof}
 use Rattle.sifc_def.specs.declared.Why.{Why}
-use Rattle.sifc_def.specs.declared.Why.the-variants.{InvalidTknMsg, InvalidIfStmt, ExpectedIdent}
+use Rattle.sifc_def.specs.declared.Why.the-variants.{ExpectedIdent}
 use Rattle.sifc_def.specs.declared.What.{What}
-use Rattle.sifc_def.specs.declared.What.the-variants.{Placeholder, Function, Variable, Other}
-use Rattle.sifc_def.specs.Ast.{Block, IfStmt, ElifStmt, ForStmt, ReturnStmt, ExprStmt, VarDecl, FnDecl, FnParams, IdentPair, ItemList, TableItem, Table, Array, ArrayItems, PrimaryExpr}
-use Rattle.sifc_def.specs.State.{Node, node, Sym, Ctx, St, Out, done, fail, refuse, M, Void, go-on, _>>=_, _>>_, return, ok, when, W, nameOf, wordIn, tokAt, wordAt, nameAt, here, kindNow, consume, addErrorWPos, addError, list, expect, optional, ident, push, loads}
-use Rattle.sifc_def.specs.Symbols.{find, putAt, store, setLevel, initScope, closeScope}
-use Rattle.sifc_def.specs.Label.{Lab, lab, hasToken, scopeOf, textOf, label}
+use Rattle.sifc_def.specs.declared.What.the-variants.{Variable, Other}
+use Rattle.sifc_def.specs.Ast.{VarDecl, ItemList, TableItem, Table, Array, ArrayItems, PrimaryExpr}
+use Rattle.sifc_def.specs.State.{Node, node, Sym, Ctx, St, Void, go-on, W, tokAt, wordAt, nameAt, consume, addError, expect, optional, ident, push}
+use Rattle.sifc_def.specs.Symbols.{putAt, store}
+use Rattle.sifc_def.specs.Label.{Lab, hasToken, scopeOf, textOf}
 use Rattle.sifc_def.specs.Walk.{walkers}
-use Rattle.sifc_def.specs.Expr.{Rec, fnParamMaxLen, looseness, fuel, separator, paramList}
-use Rattle.sifc_def.specs.declared.Err.{Err}
-use Rattle.sifc_def.specs.State.{throw, matchIdent, orThrow}
-use Rattle.sifc_def.specs.Stmt.{bind, identNode, param, identPair, declareVar, arrayNodes, arrayItems, arrayDecl, tableItem, items, itemList, tableDecl, initial}
-use Rattle.sifc_trip.specs.Typed.{Expr, Exprs, nil, more, many, Items, noItem, item, manyItems, Stmt, varNone, varExpr, varArray, varTable, bare, said, primLab, renc, rencs, rencNames, rencItems, rencArray, globalAt, rencS, ends, seen, Ok, Oks, OkItems, OkNames, bound, declared, stored, envS, OkS, Said, Saids, SaidNames, SaidItems, SaidS}
-use Rattle.sifc_trip.specs.Round.{and-in, erased, In, Stands, in-stored, ident-name, labelled, Made, made-none, made-then, made-push}
+use Rattle.sifc_def.specs.Expr.{Rec, fuel, separator, paramList}
+use Rattle.sifc_def.specs.State.{matchIdent, orThrow}
+use Rattle.sifc_def.specs.Stmt.{bind, identNode, param, declareVar, arrayNodes, arrayItems, arrayDecl, tableItem, items, itemList, tableDecl, initial}
+use Rattle.sifc_trip.specs.Typed.{Expr, Exprs, nil, more, many, Items, noItem, item, manyItems, Stmt, varExpr, varArray, varTable, bare, said, renc, rencs, rencNames, rencItems, rencArray, globalAt, rencS, seen, Ok, Oks, OkItems, OkNames, bound, declared, stored, envS, OkS, Said, Saids, SaidNames, SaidItems, SaidS}
+use Rattle.sifc_trip.specs.Round.{erased, In, Stands, in-stored, ident-name, Made, made-none, made-then, made-push}
 use Rattle.sifc_trip.specs.Round.Statements.{ends-true, other-not}
 use Rattle.sifc_trip.specs.Round.Statements.Blocks.{primNode}
 use Rattle.sifc_trip.specs.Round.Sound.{Win, win-then, win-map, win-any, win-if, win-when, made-at, made-from, pushed, Kept, throw-sound, consume-sound, expect-sound, push-sound, Reads}
 use Rattle.sifc_trip.specs.Round.Sound.Suffixes.{separator-sound, walkers-sound}
-pub mod Every
 
 module _ (c : Ctx) where
   -- a token of the kind of a name was taken
@@ -38,10 +35,12 @@ module _ (c : Ctx) where
     pub kind : wordAt c i .kind ≡ Ident
     pub kept : Kept c l E b ns s
 
+  -- what match_ident found
   Matched : ℕ → List Sym → Bool → List Node → Option ℕ → St → Type 0
   Matched l E b ns none s = Unit {0}
   Matched l E b ns (some i) s = Named l E b ns i s
 
+  -- match_ident finds a name
   match-sound : {l : ℕ} {E : List Sym} {b : Bool} (s : St) → Stands c l E b s → Win (matchIdent c s) (Matched l E b (s .nodes))
   unfolding matchIdent Matched Win if_then_else_ go-on
   match-sound {l} {E} {b} s h =
@@ -50,11 +49,13 @@ module _ (c : Ctx) where
       (λ t. win-then (consume c s) _ (λ u. Kept c l E b (s .nodes)) Q (consume-sound c s h) (λ u s₁ k. record { kind = eqb→eq (tokAt c (s .at) .kind) Ident t; kept = k }))
       (λ t. win-then (addError c _ s) _ (λ e s₁. Unit {0}) Q (win-any (addError c _ s)) (λ e s₁ k. tt))
 
+  -- without a name the declaration fails
   orThrow-sound : (why : Why) (v : Option ℕ) (l : ℕ) (E : List Sym) (b : Bool) (ns : List Node) (s : St) → Matched l E b ns v s → Win (orThrow c why v s) (Named l E b ns)
   unfolding orThrow Matched Win
   orThrow-sound why none l E b ns s h = throw-sound c why s (Named l E b ns)
   orThrow-sound why (some i) l E b ns s h = h
 
+  -- a name is taken, or the declaration fails
   pub ident-sound : (why : ℕ → Why) {l : ℕ} {E : List Sym} {b : Bool} (s : St) → Stands c l E b s → Win (ident c why s) (Named l E b (s .nodes))
   unfolding ident go-on
   ident-sound why {l} {E} {b} s h = win-then (matchIdent c s) _ (Matched l E b (s .nodes)) (Named l E b (s .nodes)) (match-sound s h) (λ v s₁ m. orThrow-sound (why (s .at)) v l E b (s .nodes) s₁ m)
@@ -67,10 +68,12 @@ module _ (c : Ctx) where
       (λ t. record { inn = subst (λ (v : What). In c l (putAt l (nameAt c i) v E) b (s .level) (putAt (s .level) (nameAt c i) w (s .syms)) (s .check)) e₀ (in-stored (nameAt c i) w f h); same-nodes = refl })
       (λ t. tt)
 
+  -- a name is stored as no variable
   pub other-sound : (i : ℕ) {l : ℕ} {E : List Sym} {b : Bool} (s : St) → Stands c l E b s → Win (store c i Other s) (λ u. Kept c l (putAt l (nameAt c i) Other E) b (s .nodes))
   unfolding erased
   other-sound i s h = store-sound i Other Other s refl (λ j g e. absurd (other-not j g e)) h
 
+  -- names are bound in order
   pub bind-sound : (is : List ℕ) (l : ℕ) (E : List Sym) (b : Bool) (s : St) → Stands c l E b s → Win (bind c is s) (λ u. Kept c l (bound l (map (λ (i : ℕ). wordAt c i) is) E) b (s .nodes))
   unfolding bind bound Win
   bind-sound [] l E b s h = record { inn = h; same-nodes = refl }
@@ -79,6 +82,7 @@ module _ (c : Ctx) where
       win-then (store c i Other s) _ (λ u. Kept c l (putAt l (nameAt c i) Other E) b (s .nodes)) Q (other-sound i s h)
       (λ u s₁ k. win-map (bind c is s₁) (λ u. Kept c l (bound l (map (λ (j : ℕ). wordAt c j) is) (putAt l (nameAt c i) Other E)) b (s₁ .nodes)) Q (bind-sound is l (putAt l (nameAt c i) Other E) b s₁ (k .inn)) (λ u s₂ q. record { inn = q .inn; same-nodes = q .same-nodes ∙ k .same-nodes }))
 
+  -- a token is taken or not: nothing but the place changes
   pub optional-sound : (k : ℕ) {l : ℕ} {E : List Sym} {b : Bool} (s : St) → Stands c l E b s → Win (optional c k s) (λ v. Kept c l E b (s .nodes))
   unfolding optional Win if_then_else_ go-on
   optional-sound k {l} {E} {b} s h =
@@ -91,6 +95,7 @@ module _ (c : Ctx) where
     pub made : Made c L ns (s .nodes)
     pub inn : Stands c l E true s
 
+  -- a variable's node and name
   pub declare-sound : (i n : ℕ) (l : ℕ) (E : List Sym) (L : List Lab) (ns : List Node) (s : St) → wordAt c i .kind ≡ Ident → Made c L ns (s .nodes) → Stands c l E true s → Win (declareVar c i n s) (λ u. Declared l (declared l (wordAt c i) E) (said VarDecl (globalAt l) n (wordAt c i) ∷ L) ns)
   unfolding declareVar declared globalAt erased scopeOf textOf hasToken member if_then_else_ go-on
   declare-sound i n l E L ns s xk m h =
@@ -113,9 +118,11 @@ module _ (c : Ctx) (Good : W → Type 0) (good : (i : ℕ) → Good (wordAt c i)
     pub made : Made c (renc expr) ns (s .nodes)
     pub inn : Stands c l E true s
 
+  -- the step reads expressions in statements
   abbrev pub ReadsExpr : Void → Type 0
   ReadsExpr m = (l : ℕ) (E : List Sym) (s : St) → Stands c l E true s → Win (m s) (λ u. Expressed l E (s .nodes))
 
+  -- assign_expr reads expressions in statements
   pub expr-sound : (d : ℕ) → ReadsExpr (walkers c d .assign)
   expr-sound d l E s h =
       win-map (walkers c d .assign s) (λ u. Reads c Good good l E true (s .nodes)) (λ u. Expressed l E (s .nodes)) (walkers-sound c Good good l E d .assign true s h)
@@ -123,6 +130,7 @@ module _ (c : Ctx) (Good : W → Type 0) (good : (i : ℕ) → Good (wordAt c i)
 
   -- ── arrays ──
 
+  -- the elements of an array, after n
   pub record Elements (l : ℕ) (E : List Sym) (n : ℕ) (ns : List Node) (m : ℕ) (s : St) : Type 0 where
     pub exprs : Exprs
     pub num : m ≡ n + many exprs
@@ -131,10 +139,12 @@ module _ (c : Ctx) (Good : W → Type 0) (good : (i : ℕ) → Good (wordAt c i)
     pub made : Made c (rencs exprs) ns (s .nodes)
     pub inn : Stands c l E true s
 
+  -- no more elements
   no-elements : (l : ℕ) (E : List Sym) (n : ℕ) (s : St) → Stands c l E true s → Elements l E n (s .nodes) n s
   unfolding many Oks Said rencs
   no-elements l E n s h = record { exprs = nil; num = omega arith; fit = tt; words = tt; made = made-none; inn = h }
 
+  -- an element before others
   one-more : (l : ℕ) (E : List Sym) (n : ℕ) (ns : List Node) (s s₁ : St) (m : ℕ) → Expressed l E ns s → s₁ .nodes ≡ s .nodes → (s₂ : St) → Elements l E (suc n) (s₁ .nodes) m s₂ → Elements l E n ns m s₂
   unfolding many Oks Said rencs
   one-more l E n ns s s₁ m r e s₂ q =
@@ -147,6 +157,7 @@ module _ (c : Ctx) (Good : W → Type 0) (good : (i : ℕ) → Good (wordAt c i)
         inn = q .inn;
       }
 
+  -- the loop of array_decl reads elements; a trailing comma leaves no trace
   pub elements-sound : (r : Rec) → ReadsExpr (r .assign) → (f n l : ℕ) (E : List Sym) (s : St) → Stands c l E true s → Win (arrayItems c r f n s) (Elements l E n (s .nodes))
   unfolding arrayItems Win if_then_else_ go-on
   elements-sound r re zero n l E s h = no-elements l E n s h
@@ -191,6 +202,7 @@ module _ (c : Ctx) (Good : W → Type 0) (good : (i : ℕ) → Good (wordAt c i)
     pub made : Made c labs ns (s .nodes)
     pub inn : Stands c l names true s
 
+  -- array_decl reads an array
   array-sound : (r : Rec) → ReadsExpr (r .assign) → (i l : ℕ) (E : List Sym) (s : St) → wordAt c i .kind ≡ Ident → Stands c l E true s → Win (arrayDecl c r i s) (λ u. Valued (wordAt c i) l E (s .nodes))
   unfolding arrayDecl rencS envS OkS SaidS stored
   array-sound r re i l E s xk h =
@@ -223,6 +235,7 @@ module _ (c : Ctx) (Good : W → Type 0) (good : (i : ℕ) → Good (wordAt c i)
 
   -- ── tables ──
 
+  -- the items of a table, after n
   pub record Pairs (l : ℕ) (E : List Sym) (n : ℕ) (ns : List Node) (m : ℕ) (s : St) : Type 0 where
     pub pairs : Items
     pub num : m ≡ n + manyItems pairs
@@ -231,10 +244,12 @@ module _ (c : Ctx) (Good : W → Type 0) (good : (i : ℕ) → Good (wordAt c i)
     pub made : Made c (rencItems pairs) ns (s .nodes)
     pub inn : Stands c l E true s
 
+  -- no more items
   no-pairs : (l : ℕ) (E : List Sym) (n : ℕ) (s : St) → Stands c l E true s → Pairs l E n (s .nodes) n s
   unfolding manyItems OkItems SaidItems rencItems
   no-pairs l E n s h = record { pairs = noItem; num = omega arith; fit = tt; words = tt; made = made-none; inn = h }
 
+  -- an item: its key and its value
   record OnePair (l : ℕ) (E : List Sym) (ns : List Node) (s : St) : Type 0 where
     key : ℕ
     expr : Expr
@@ -244,6 +259,7 @@ module _ (c : Ctx) (Good : W → Type 0) (good : (i : ℕ) → Good (wordAt c i)
     made : Made c (said TableItem false 1 (wordAt c key) ∷ renc expr) ns (s .nodes)
     inn : Stands c l E true s
 
+  -- a table's item is a name and an expression
   item-sound : (r : Rec) → ReadsExpr (r .assign) → (l : ℕ) (E : List Sym) (s : St) → Stands c l E true s → Win (tableItem c r s) (λ u. OnePair l E (s .nodes))
   unfolding tableItem scopeOf textOf hasToken member if_then_else_
   item-sound r re l E s h =
@@ -257,6 +273,7 @@ module _ (c : Ctx) (Good : W → Type 0) (good : (i : ℕ) → Good (wordAt c i)
       push-sound c TableItem false 1 i s₃ Q
       (record { key = i; expr = q .expr; name = k₁ .kind; fit = q .fit; words = q .words; made = made-push refl (made-from (k₂ .same-nodes ∙ k₁ .kept .same-nodes) (q .made)); inn = q .inn }))))
 
+  -- an item before others
   one-pair : (l : ℕ) (E : List Sym) (n : ℕ) (ns : List Node) (s s₁ : St) (m : ℕ) → OnePair l E ns s → s₁ .nodes ≡ s .nodes → (s₂ : St) → Pairs l E (suc n) (s₁ .nodes) m s₂ → Pairs l E n ns m s₂
   unfolding manyItems OkItems SaidItems rencItems
   one-pair l E n ns s s₁ m r e s₂ q =
@@ -269,6 +286,7 @@ module _ (c : Ctx) (Good : W → Type 0) (good : (i : ℕ) → Good (wordAt c i)
         inn = q .inn;
       }
 
+  -- the loop of item_list reads items; a trailing comma leaves no trace
   pub items-sound : (r : Rec) → ReadsExpr (r .assign) → (f n l : ℕ) (E : List Sym) (s : St) → Stands c l E true s → Win (items c r f n s) (Pairs l E n (s .nodes))
   unfolding items Win if_then_else_ go-on
   items-sound r re zero n l E s h = no-pairs l E n s h
@@ -293,6 +311,7 @@ module _ (c : Ctx) (Good : W → Type 0) (good : (i : ℕ) → Good (wordAt c i)
     made : Made c (bare ItemList false (manyItems pairs) ∷ rencItems pairs) ns (s .nodes)
     inn : Stands c l E true s
 
+  -- item_list reads items
   itemList-sound : (r : Rec) → ReadsExpr (r .assign) → (l : ℕ) (E : List Sym) (s : St) → Stands c l E true s → Win (itemList c r s) (λ u. Itemed l E (s .nodes))
   unfolding itemList scopeOf textOf hasToken member if_then_else_
   itemList-sound r re l E s h =
@@ -301,6 +320,7 @@ module _ (c : Ctx) (Good : W → Type 0) (good : (i : ℕ) → Good (wordAt c i)
       push-sound c ItemList false m 0 s₁ (λ u. Itemed l E (s .nodes))
       (record { pairs = q .pairs; fit = q .fit; words = q .words; made = made-push (ap (λ (z : ℕ). bare ItemList false z) (q .num ∙ zero-add (manyItems (q .pairs)))) (q .made); inn = q .inn }))
 
+  -- table_decl reads a table
   table-sound : (r : Rec) → ReadsExpr (r .assign) → (i l : ℕ) (E : List Sym) (s : St) → wordAt c i .kind ≡ Ident → Stands c l E true s → Win (tableDecl c r i s) (λ u. Valued (wordAt c i) l E (s .nodes))
   unfolding tableDecl rencS envS OkS SaidS stored scopeOf textOf hasToken member if_then_else_
   table-sound r re i l E s xk h =
@@ -333,6 +353,7 @@ module _ (c : Ctx) (Good : W → Type 0) (good : (i : ℕ) → Good (wordAt c i)
 
   -- ── the value of a variable ──
 
+  -- the value of a variable is an array, a table or an expression
   pub initial-sound : (r : Rec) → ReadsExpr (r .assign) → (i l : ℕ) (E : List Sym) (s : St) → wordAt c i .kind ≡ Ident → Stands c l E true s → Win (initial c r i s) (λ u. Valued (wordAt c i) l E (s .nodes))
   unfolding initial rencS envS OkS SaidS if_then_else_ go-on
   initial-sound r re i l E s xk h =
@@ -359,11 +380,13 @@ module _ (c : Ctx) (Good : W → Type 0) (good : (i : ℕ) → Good (wordAt c i)
 
   -- ── names and their nodes ──
 
+  -- a name was taken with its node
   pub record NameNode (l : ℕ) (E : List Sym) (ns : List Node) (i : ℕ) (s : St) : Type 0 where
     pub kind : wordAt c i .kind ≡ Ident
     pub nodes : s .nodes ≡ primNode i ∷ ns
     pub inn : Stands c l E true s
 
+  -- a name is taken with its node
   pub identNode-sound : (l : ℕ) (E : List Sym) (s : St) → Stands c l E true s → Win (identNode c s) (NameNode l E (s .nodes))
   unfolding identNode Win
   identNode-sound l E s h =
@@ -384,14 +407,17 @@ module _ (c : Ctx) (Good : W → Type 0) (good : (i : ℕ) → Good (wordAt c i)
     pub made : Made c (rencNames (map (λ (i : ℕ). wordAt c i) toks)) ns (s .nodes)
     pub inn : Stands c l E true s
 
+  -- no more parameters
   no-params : (l : ℕ) (E : List Sym) (n : ℕ) (s : St) → n ≤ 64 → Stands c l E true s → Params l E n (s .nodes) n s
   unfolding OkNames SaidNames rencNames
   no-params l E n s few h = record { toks = []; num = omega arith; few = few; fit = tt; words = tt; nodes = refl; made = made-none; inn = h }
 
+  -- a parameter was taken with its node
   record ParamNode (l : ℕ) (E : List Sym) (ns : List Node) (s : St) : Type 0 where
     tok : ℕ
     node′ : NameNode l E ns tok s
 
+  -- param_list reads parameters; a trailing comma leaves no trace
   pub params-sound : (f n l : ℕ) (E : List Sym) (s : St) → n ≤ 64 → Stands c l E true s → Win (paramList c (param c) f n s) (Params l E n (s .nodes))
   unfolding paramList param OkNames SaidNames rencNames Win scopeOf textOf hasToken member if_then_else_ go-on
   params-sound zero n l E s few h = no-params l E n s few h

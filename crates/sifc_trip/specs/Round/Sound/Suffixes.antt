@@ -1,35 +1,35 @@
 -- Soundness of expressions, the rest: what follows a primary expression, assignments, and all the counted calls.
-use Prim.Native.Nat.{ℕ, zero, suc, _+_, _-_, _≤_, _<_}
+use Prim.Native.Nat.{ℕ, zero, suc, _+_, _-_, _≤_}
 use mathlib.Core.Path.{_≡_, refl, sym, ap, ap₂, _∙_, subst, subst₂}
-use mathlib.Core.Logic.{_≢_}
-use mathlib.Core.List.{List, [], _∷_, _++_, map, append-assoc, append-nil}
+use mathlib.Core.List.{List, [], _∷_, _++_}
 use mathlib.Core.Option.{Option, none, some}
 use mathlib.Core.Bool.{Bool, true, false, _&&_, _||_, not}
 use native.Mathlib.Omega.{arith}
-use native.Mathlib.Nat.{zero-add, le-trans, not-suc-le-zero}
-use lib.Dec.{T, eqb, leb, ltb, eqb→eq, leb→le, nleb→lt, eqb-refl, le→leb}
-use lib.ListN.{take, drop, length, getD}
-use Rattle.sifc_lex.specs.Base.{if_then_else_, member, part}
-use Rattle.sifc_lex.specs.Kind.{LeftParen, RightParen, LeftBracket, RightBracket, Eq, Period, Comma, Bang, Minus, At, Ident, Str, Val, True, False, Eof, LexPanic}
+use native.Mathlib.Nat.{zero-add}
+use lib.Dec.{T, eqb, leb, eqb→eq, nleb→lt, le→leb}
+use lib.ListN.{length}
+use Rattle.sifc_lex.specs.Base.{if_then_else_, member}
+use Rattle.sifc_lex.specs.Kind.{LeftParen, RightParen, LeftBracket, RightBracket, Eq, Period, Comma, Ident, Str, Eof}
 use Rattle.sifc_lex.specs.Reserved.{isStdLibFn}
 use Rattle.sifc_def.specs.declared.What.{What}
 use Rattle.sifc_def.specs.declared.What.the-variants.{Placeholder, Function, Variable, Other}
-use Rattle.sifc_def.specs.Ast.{TableAccess, ArrayAccess, ArrayMutExpr, FnCallExpr, VarAssignExpr, BinaryExpr, UnaryExpr, PrimaryExpr}
-use Rattle.sifc_def.specs.State.{Node, node, Sym, Ctx, St, Out, done, fail, refuse, M, Void, go-on, _>>=_, _>>_, return, ok, when, W, nameOf, wordIn, tokAt, wordAt, nameAt, here, kindNow, consume, expect, push, setNodes, without}
+use Rattle.sifc_def.specs.Ast.{TableAccess, ArrayAccess, ArrayMutExpr, FnCallExpr, VarAssignExpr, PrimaryExpr}
+use Rattle.sifc_def.specs.State.{Node, node, Sym, Ctx, St, Void, go-on, W, nameOf, tokAt, wordAt, nameAt, consume, expect, setNodes}
 use Rattle.sifc_def.specs.Symbols.{find, retrieve, setCheck}
-use Rattle.sifc_def.specs.Label.{Lab, lab, hasToken, scopeOf, textOf, label}
+use Rattle.sifc_def.specs.Label.{Lab, lab, hasToken, scopeOf, textOf}
 use Rattle.sifc_def.specs.Walk.{walkers}
-use Rattle.sifc_def.specs.State.{addErrorWPos, raise}
-use Rattle.sifc_def.specs.Expr.{Rec, fnParamMaxLen, fuel, levels, assignVar, assignToken, assignArray, assignNothing, assignTo, separator, paramList, single, callCounted, callDeclared, callName, isNamed, callNamed, assignExpr, unaryExpr, primaryExpr, callPart, dot as dotPart, index as indexPart, postfix, fnCallExpr}
-use Rattle.sifc_trip.specs.Typed.{Expr, prim, un, bin, call, dot, idx, set, mut, Exprs, nil, more, many, bare, said, primLab, renc, rencs, ends, endss, isSome, wants, seen, fine, callable, Ok, Oks, Said, Saids}
-use Rattle.sifc_trip.specs.Round.{true-of, false-of, and-l, and-r, and-in, or-l, or-r, wants-erase, In, Stands, looks, find-fair, ident-name, map-append, labelled, Made, made-none, made-then, made-push, taken-out, Newest, newest, topOf, erase}
-use Rattle.sifc_trip.specs.Round.Sound.{Win, win-then, win-map, win-any, win-if, made-at, made-from, pushed, checked, Kept, raise-sound, throw-sound, throwPast-sound, panic-sound, consume-sound, expect-sound, push-sound, Spelt, IsSingle, is-single, IsIndexed, is-indexed, look, Keeps, Reads, Sound, levels-sound, SoundRec, unary-sound, primary-sound}
+use Rattle.sifc_def.specs.State.{addErrorWPos}
+use Rattle.sifc_def.specs.Expr.{Rec, fuel, levels, assignVar, assignToken, assignArray, assignNothing, assignTo, separator, paramList, single, callCounted, callDeclared, callName, isNamed, callNamed, assignExpr, primaryExpr, callPart, dot as dotPart, index as indexPart, postfix, fnCallExpr}
+use Rattle.sifc_trip.specs.Typed.{Expr, call, dot, idx, set, mut, Exprs, nil, more, many, bare, primLab, renc, rencs, ends, endss, wants, seen, fine, callable, Ok, Oks, Said, Saids}
+use Rattle.sifc_trip.specs.Round.{true-of, false-of, and-l, and-r, and-in, or-l, or-r, wants-erase, Stands, looks, find-fair, ident-name, map-append, labelled, Made, made-none, made-then, made-push, taken-out, Newest, newest, topOf, erase}
+use Rattle.sifc_trip.specs.Round.Sound.{Win, win-then, win-map, win-any, win-if, made-at, pushed, checked, Kept, raise-sound, throw-sound, throwPast-sound, panic-sound, consume-sound, expect-sound, push-sound, Spelt, IsSingle, is-single, IsIndexed, is-indexed, Reads, Sound, levels-sound, SoundRec, unary-sound, primary-sound}
 
 module _ (c : Ctx) (Good : W → Type 0) (good : (i : ℕ) → Good (wordAt c i)) (l : ℕ) (E : List Sym) where
   -- an expression was read, as the sections above say it
   abbrev Rd : Bool → List Node → St → Type 0
   Rd b ns s = Reads c Good good l E b ns s
 
+  -- nothing but the place changed, at this level and with these names
   abbrev Kp : Bool → List Node → St → Type 0
   Kp b ns s = Kept c l E b ns s
 
@@ -45,6 +45,7 @@ module _ (c : Ctx) (Good : W → Type 0) (good : (i : ℕ) → Good (wordAt c i)
     pub made : Made c (rencs exprs) ns (s .nodes)
     pub inn : Stands c l E (endss b exprs) s
 
+  -- no more arguments
   no-args : (b : Bool) (n : ℕ) (s : St) → n ≤ 64 → Stands c l E b s → Args b n (s .nodes) n s
   unfolding many Oks Said rencs endss
   no-args b n s few h = record { exprs = nil; num = omega arith; few = few; fit = tt; words = tt; made = made-none; inn = h }
@@ -54,6 +55,7 @@ module _ (c : Ctx) (Good : W → Type 0) (good : (i : ℕ) → Good (wordAt c i)
   unfolding separator Win if_then_else_ go-on
   separator-sound {b} s h = win-if (not (eqb (tokAt c (s .at) .kind) RightParen)) _ _ s (λ u. Kp b (s .nodes)) (λ t₃. expect-sound c Comma s h) (λ t₃. record { inn = h; same-nodes = refl })
 
+  -- param_list reads arguments; a trailing comma leaves no trace
   arguments-sound : (m : Void) → Sound c Good good l E m → (f n : ℕ) (b : Bool) (s : St) → n ≤ 64 → Stands c l E b s → Win (paramList c m f n s) (Args b n (s .nodes))
   unfolding paramList Win many Oks Said rencs endss if_then_else_ go-on
   arguments-sound m is zero n b s few h = no-args b n s few h
@@ -84,6 +86,7 @@ module _ (c : Ctx) (Good : W → Type 0) (good : (i : ℕ) → Good (wordAt c i)
 
   -- ── calls ──
 
+  -- a call that passes has as many arguments as its name takes
   declared-sound : (i n : ℕ) (v : Option What) (s : St) (Q : Unit {0} → St → Type 0) → (T (wants v n) → Q tt (pushed FnCallExpr false (suc n) 0 s)) → Win (callDeclared c i n v s) Q
   unfolding callDeclared wants callCounted
   declared-sound i n none s Q h = throwPast-sound c _ s Q
@@ -92,11 +95,13 @@ module _ (c : Ctx) (Good : W → Type 0) (good : (i : ℕ) → Good (wordAt c i)
   declared-sound i n (some (Variable j g)) s Q h = win-if (eqb 0 n) _ _ s Q (λ k. push-sound c FnCallExpr false (suc n) 0 s Q (h k)) (λ k. throw-sound c _ s Q)
   declared-sound i n (some Other) s Q h = win-if (eqb 0 n) _ _ s Q (λ k. push-sound c FnCallExpr false (suc n) 0 s Q (h k)) (λ k. throw-sound c _ s Q)
 
+  -- a call passed: its target is a single token that may be called
   record CallOk (target : Node) (n : ℕ) (s s′ : St) : Type 0 where
     single′ : T (eqb (target .kind) PrimaryExpr)
     fits : T (callable (seen l E) (wordAt c (target .pay)) n)
     state : s′ ≡ pushed FnCallExpr (isStdLibFn (nameAt c (target .pay))) (suc n) 0 s
 
+  -- a call that passes the check of its name
   named-sound : (target : Node) (i n : ℕ) (s : St) (b : Bool) → n ≤ 64 → Stands c l E b s → Win (callNamed c target i n s) (λ u. CallOk target n s)
   unfolding callNamed callName isNamed callable retrieve Win if_then_else_ go-on
   named-sound target i n s b few h =
@@ -132,6 +137,7 @@ module _ (c : Ctx) (Good : W → Type 0) (good : (i : ℕ) → Good (wordAt c i)
     made : Made c (primLab word′ ∷ []) ns (s .nodes)
     same-check : ends b e ≡ b
 
+  -- a reading whose newest node is a PrimaryExpr is one of a single token
   to-single : {b : Bool} {ns : List Node} (s : St) (r : Rd b ns s) → T (eqb (topOf (s .nodes) .kind) PrimaryExpr) → Single b (r .expr) ns s
   unfolding Ok Said renc ends
   to-single {b} {ns} s r t =
@@ -145,6 +151,7 @@ module _ (c : Ctx) (Good : W → Type 0) (good : (i : ℕ) → Good (wordAt c i)
         same-check = ap (λ (z : Expr). ends b z) (q .is);
       }
 
+  -- `(` makes a call
   callPart-sound : (r : Rec) → SoundRec c Good good l E r → (b : Bool) (ns₀ : List Node) (s : St) → Rd b ns₀ s → Win (callPart c r (topOf (s .nodes)) (s .at) s) (λ u. Rd b ns₀)
   unfolding callPart Ok Said renc ends Spelt scopeOf textOf hasToken member if_then_else_
   callPart-sound r sr b ns₀ s rd =
@@ -175,6 +182,7 @@ module _ (c : Ctx) (Good : W → Type 0) (good : (i : ℕ) → Good (wordAt c i)
         inn = subst₂ (λ (z : Bool) (y : St). Stands c l E (endss z (ar .exprs)) y) (sg .same-check) (sym (ck .state)) (h₃ .inn);
       }))))
 
+  -- `.` makes a table access
   dot-sound : (r : Rec) → SoundRec c Good good l E r → (b : Bool) (ns₀ : List Node) (s : St) → Rd b ns₀ s → Win (dotPart c r (topOf (s .nodes)) (s .at) s) (λ u. Rd b ns₀)
   unfolding dotPart setCheck single Win Ok Said renc ends Spelt scopeOf textOf hasToken member if_then_else_ go-on
   dot-sound r sr b ns₀ s rd =
@@ -201,6 +209,7 @@ module _ (c : Ctx) (Good : W → Type 0) (good : (i : ℕ) → Good (wordAt c i)
         inn = record { level = r₂ .inn .level; names = r₂ .inn .names; fair = r₂ .inn .fair; check = refl };
       })))))
 
+  -- `[` makes an index
   index-sound : (r : Rec) → SoundRec c Good good l E r → (b : Bool) (ns₀ : List Node) (s : St) → Rd b ns₀ s → Win (indexPart c r (topOf (s .nodes)) (s .at) s) (λ u. Rd b ns₀)
   unfolding indexPart single Win Ok Said renc ends Spelt scopeOf textOf hasToken member if_then_else_ go-on
   index-sound r sr b ns₀ s rd =
@@ -229,6 +238,7 @@ module _ (c : Ctx) (Good : W → Type 0) (good : (i : ℕ) → Good (wordAt c i)
         inn = subst (λ (z : Bool). Stands c l E (ends z (r₂ .expr)) s₃) (sg .same-check) (h₃ .inn);
       }))))))
 
+  -- what follows a primary expression makes an expression
   postfix-sound : (r : Rec) → SoundRec c Good good l E r → (b : Bool) (ns₀ : List Node) (s : St) → Rd b ns₀ s → Win (postfix c r (topOf (s .nodes)) s) (λ u. Rd b ns₀)
   unfolding postfix Win if_then_else_ go-on
   postfix-sound r sr b ns₀ s rd =
@@ -237,12 +247,14 @@ module _ (c : Ctx) (Good : W → Type 0) (good : (i : ℕ) → Good (wordAt c i)
       (λ t. win-if (eqb (tokAt c (s .at) .kind) Period) _ _ s Q (λ t₁. dot-sound r sr b ns₀ s rd)
       (λ t₁. win-if (eqb (tokAt c (s .at) .kind) LeftBracket) _ _ s Q (λ t₂. index-sound r sr b ns₀ s rd) (λ t₂. rd)))
 
+  -- fn_call_expr reads expressions
   call-sound : (r : Rec) → SoundRec c Good good l E r → Sound c Good good l E (fnCallExpr c r)
   unfolding fnCallExpr go-on
   call-sound r sr b s h = win-then (primaryExpr c r s) _ (λ u. Rd b (s .nodes)) (λ u. Rd b (s .nodes)) (primary-sound c Good good l E r sr b s h) (λ a s₁ r₁. postfix-sound r sr b (s .nodes) s₁ r₁)
 
   -- ── assignments ──
 
+  -- an assignment that passes is one to a variable
   assignVar-sound : (i : ℕ) (v : Option What) (s : St) (Q : Unit {0} → St → Type 0) → ((j : ℕ) (g : Bool) → v ≡ some (Variable j g) → Q tt (pushed VarAssignExpr g 2 j s)) → Win (assignVar c i v s) Q
   unfolding assignVar
   assignVar-sound i none s Q h = throw-sound c _ s Q
@@ -277,6 +289,7 @@ module _ (c : Ctx) (Good : W → Type 0) (good : (i : ℕ) → Good (wordAt c i)
       }))
       (λ t₁. throw-sound c _ s₃ Q)
 
+  -- an assignment to an element
   array-sound : (b : Bool) (ns₀ : List Node) (s s₂ s₃ : St) (rd : Rd b ns₀ s) → s₂ .nodes ≡ s .nodes → Rd (ends b (rd .expr)) (s₂ .nodes) s₃ → T (eqb (topOf (s .nodes) .kind) ArrayAccess) → Win (assignArray c (length (s .nodes) - 1) s₃) (λ u. Rd b ns₀)
   unfolding assignArray setNodes Ok Said renc ends Spelt scopeOf textOf hasToken member if_then_else_ go-on
   array-sound b ns₀ s s₂ s₃ rd en r₃ t =
@@ -304,6 +317,7 @@ module _ (c : Ctx) (Good : W → Type 0) (good : (i : ℕ) → Good (wordAt c i)
         inn = subst (λ (z : Bool). Stands c l E (ends z (r₃ .expr)) s₃) ec (r₃ .inn);
       })
 
+  -- an assignment is to a variable or to an element
   assignTo-sound : (op : ℕ) (b : Bool) (ns₀ : List Node) (s s₂ s₃ : St) (rd : Rd b ns₀ s) → s₂ .nodes ≡ s .nodes → Rd (ends b (rd .expr)) (s₂ .nodes) s₃ → Win (assignTo c (topOf (s .nodes)) (length (s .nodes) - 1) op s₃) (λ u. Rd b ns₀)
   unfolding assignTo assignNothing if_then_else_
   assignTo-sound op b ns₀ s s₂ s₃ rd en r₃ =
@@ -312,6 +326,7 @@ module _ (c : Ctx) (Good : W → Type 0) (good : (i : ℕ) → Good (wordAt c i)
       (λ t. win-if (eqb (topOf (s .nodes) .kind) ArrayAccess) _ _ s₃ Q (λ t₁. array-sound b ns₀ s s₂ s₃ rd en r₃ t₁)
       (λ t₁. win-then (addErrorWPos c op _ s₃) _ (λ a s′. Unit {0}) Q (win-any (addErrorWPos c op _ s₃)) (λ e s′ k. raise-sound c e s′ Q)))
 
+  -- assign_expr reads expressions
   assign-sound : (r : Rec) → SoundRec c Good good l E r → Sound c Good good l E (assignExpr c r)
   unfolding assignExpr Win if_then_else_ go-on
   assign-sound r sr b s h =

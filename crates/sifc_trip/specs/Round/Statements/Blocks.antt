@@ -1,44 +1,42 @@
 -- Completeness of declarations and statements: their words are read as them, or a refusal 6 to 9 says otherwise.
 use Prim.Native.Nat.{ℕ, zero, suc, _+_, _-_, _≤_, _<_}
-use mathlib.Core.Path.{_≡_, refl, sym, ap, ap₂, _∙_, subst, subst₂}
-use mathlib.Core.List.{List, [], _∷_, _++_, map, append-assoc, append-nil, reverse, reverseAux, reverseAux-eq, reverse-reverse}
-use mathlib.Core.Option.{Option, none, some}
-use mathlib.Core.Bool.{Bool, true, false, _&&_, _||_, not}
+use mathlib.Core.Path.{_≡_, refl, sym, ap, ap₂, _∙_, subst}
+use mathlib.Core.List.{List, [], _∷_, _++_, map, reverse, reverseAux, reverseAux-eq, reverse-reverse}
+use mathlib.Core.Bool.{Bool, true, false, _||_, not}
 use native.Mathlib.Omega.{arith}
-use native.Mathlib.Nat.{zero-add, le-trans, not-suc-le-zero}
-use lib.Dec.{T, eqb, leb, ltb, eqb→eq, leb→le, nleb→lt, eqb-refl, le→leb}
-use lib.ListN.{take, drop, length, getD, length-reverse, length-map}
+use native.Mathlib.Nat.{zero-add, not-suc-le-zero}
+use lib.Dec.{T, eqb, ltb, eqb→eq, le→leb}
+use lib.ListN.{take, length, length-reverse, length-map}
 use lib.Seq.{take-append-seam}
-use Rattle.sifc_lex.specs.Base.{if_then_else_, member, part}
-use Rattle.sifc_lex.specs.Kind.{LeftParen, RightParen, LeftBrace, RightBrace, LeftBracket, RightBracket, Semicolon, Eq, Comma, EqArrow, DoubleLeftBracket, DoubleRightBracket, Ident, Var, Fn, Return, If, Elif, Else, For, In as InKind, Eof}
-use Rattle.sifc_def.specs.declared.Why.{Why}
-use Rattle.sifc_def.specs.declared.Why.the-variants.{InvalidTknMsg, InvalidIfStmt, ExpectedIdent}
-use Rattle.sifc_def.specs.declared.What.{What}
-use Rattle.sifc_def.specs.declared.What.the-variants.{Placeholder, Function, Variable, Other}
-use Rattle.sifc_def.specs.Ast.{Block, IfStmt, ElifStmt, ForStmt, ReturnStmt, ExprStmt, VarDecl, FnDecl, FnParams, IdentPair, ItemList, TableItem, Table, Array, ArrayItems, PrimaryExpr}
-use Rattle.sifc_def.specs.State.{Node, node, Sym, Ctx, St, Out, done, fail, refuse, M, Void, go-on, _>>=_, _>>_, return, ok, when, W, nameOf, wordIn, tokAt, wordAt, nameAt, here, kindNow, consume, addErrorWPos, addError, list, expect, optional, ident, push, loads}
-use Rattle.sifc_def.specs.Symbols.{find, putAt, store, setLevel, initScope, closeScope}
-use Rattle.sifc_def.specs.Label.{Lab, lab, hasToken, scopeOf, textOf, label}
+use Rattle.sifc_lex.specs.Base.{if_then_else_, member}
+use Rattle.sifc_lex.specs.Kind.{LeftBrace, RightBrace, Semicolon, Var, Fn, Return, If, Elif, Else, For, Eof}
+use Rattle.sifc_def.specs.Ast.{Block, ReturnStmt, ExprStmt, PrimaryExpr}
+use Rattle.sifc_def.specs.State.{Node, node, Sym, Ctx, St, done, go-on, W, tokAt, wordAt}
+use Rattle.sifc_def.specs.Symbols.{setLevel, initScope, closeScope}
+use Rattle.sifc_def.specs.Label.{Lab, hasToken, scopeOf, textOf}
 use Rattle.sifc_def.specs.Walk.{walkers}
-use Rattle.sifc_def.specs.Expr.{Rec, fnParamMaxLen, looseness, fuel, separator, paramList}
-use Rattle.sifc_def.specs.Stmt.{bind, withReturn, identNode, param, identPair, declareVar, endIf, initial, varDecl, fnDecl, elifStmt, elseBlock, branches, ifStmt, forStmt, retStmt, exprStmt as exprPart, stmt, decl, decls, block as blockPart}
-use Rattle.sifc_trip.specs.Typed.{Expr, Exprs, nil, more, Items, noItem, item, Stmt, varNone, varExpr, varArray, varTable, func, block, cond, loop, ret, retExpr, exprStmt, Stmts, stop, next, Branches, noBranch, elifOf, elseOf, counted, manyBranches, manyItems, word, lp, rp, lb, rb, eq, comma, semi, dlb, drb, lbrace, rbrace, varWord, fnWord, returnWord, ifWord, elifWord, elseWord, forWord, inWord, betweenNames, betweenItems, pr, prs, prNames, prItems, prS, prSs, prBs, bare, said, primLab, blockLab, renc, rencNames, rencItems, rencArray, globalAt, rencS, rencSs, rencBs, seen, Ok, Oks, OkItems, OkNames, isReturn, returns, returnsLast, bound, declared, stored, inside, envS, envSs, envBs, OkS, OkSs, OkBs}
-use Rattle.sifc_trip.specs.Round.{true-of, not-eqb, not-leb, at-kind, and-l, and-r, or-l, or-r, ofSize, Res, and-then, yes-then, no-else, res-map, erased, In, ident-name, labelled, Made, made-none, made-then, made-push, Newest, newest, topOf}
-use Rattle.sifc_trip.specs.Round.Steps.{first, Pre, Ahead, Got, now, kind-now, test, later, stand, sees-length, stepped, pushed, listed, consume-eq, expect-eq, ident-eq, push-ok, list-ok, pr-length, prs-length}
-use Rattle.sifc_trip.specs.Round.Levels.{Stop, starters, made-single}
+use Rattle.sifc_def.specs.Expr.{Rec, fuel}
+use Rattle.sifc_def.specs.Stmt.{bind, withReturn, retStmt, exprStmt as exprPart, stmt, decl, decls, block as blockPart}
+use Rattle.sifc_trip.specs.Typed.{Expr, Items, noItem, item, Stmt, varNone, varExpr, varArray, varTable, func, block, cond, loop, ret, retExpr, exprStmt, Stmts, stop, next, Branches, noBranch, elifOf, elseOf, counted, manyBranches, rp, rb, comma, semi, drb, lbrace, rbrace, returnWord, betweenNames, betweenItems, pr, prNames, prItems, prS, prSs, prBs, bare, blockLab, renc, rencS, rencSs, isReturn, returns, returnsLast, bound, envS, envSs, OkS, OkSs}
+use Rattle.sifc_trip.specs.Round.{true-of, at-kind, or-r, ofSize, Res, and-then, yes-then, no-else, res-map, In, labelled, Made, made-none, made-then, made-push, Newest, newest, topOf}
+use Rattle.sifc_trip.specs.Round.Steps.{first, Ahead, Got, test, later, stand, sees-length, stepped, consume-eq, expect-eq, push-ok, pr-length, prs-length}
+use Rattle.sifc_trip.specs.Round.Levels.{starters}
 use Rattle.sifc_trip.specs.Round.Levels.Suffixes.{start}
-use Rattle.sifc_trip.specs.Round.Statements.{stop-semi, stop-lbrace, Count, other-not, read-expr, store-got, store-other, declare-ok, array-ok, table-ok, bind-ok, identNode-eq}
+use Rattle.sifc_trip.specs.Round.Statements.{stop-semi, Count, read-expr, bind-ok}
 pub mod Every
 
 -- ── lists ──
 
+-- the node of the single token i
 abbrev pub primNode : ℕ → Node
 primNode i = node PrimaryExpr false 0 i
 
+-- the payloads of single tokens' nodes are the tokens
 pay-prims : (is : List ℕ) → map (λ (x : Node). x .pay) (map primNode is) ≡ is
 pay-prims [] = refl
 pay-prims (i ∷ is) = ap (λ (r : List ℕ). i ∷ r) (pay-prims is)
 
+-- a function over a reversed list
 map-reverse : {A B : Type 0} (f : A → B) (xs r : List A) → map f (reverseAux xs r) ≡ reverseAux (map f xs) (map f r)
 map-reverse f [] r = refl
 map-reverse f (x ∷ xs) r = map-reverse f xs (x ∷ r)
@@ -68,6 +66,7 @@ member-test k n ks t f = go (eqb k n) refl
 abbrev pub declStarters : List ℕ
 declStarters = Var ∷ Fn ∷ Return ∷ If ∷ For ∷ LeftBrace ∷ starters
 
+-- an expression begins a declaration
 of-expr : (k : ℕ) → T (member k starters) → T (member k declStarters)
 unfolding member
 of-expr k t = or-r (eqb k Var) _ (or-r (eqb k Fn) _ (or-r (eqb k Return) _ (or-r (eqb k If) _ (or-r (eqb k For) _ (or-r (eqb k LeftBrace) _ t)))))
@@ -76,10 +75,12 @@ of-expr k t = or-r (eqb k Var) _ (or-r (eqb k Fn) _ (or-r (eqb k Return) _ (or-r
 unfoldable pub Follow : List W → Type 0
 Follow rest = (eqb (first rest .kind) Elif ≡ false) × (eqb (first rest .kind) Else ≡ false)
 
+-- no `if` goes on with what begins a declaration
 follow-of : (ws : List W) → T (member (first ws .kind) declStarters) → Follow ws
 unfolding Follow member
 follow-of ws t = (member-test (first ws .kind) Elif declStarters t tt, member-test (first ws .kind) Else declStarters t tt)
 
+-- what a declaration begins with
 pub start-decl : (t : Stmt) (c : Ctx) (l : ℕ) (E : List Sym) (rest : List W) → OkS l E t → T (member (first (prS t rest) .kind) declStarters)
 unfolding OkS prS member
 start-decl (varNone x) c l E rest k = tt
@@ -94,6 +95,7 @@ start-decl ret c l E rest k = tt
 start-decl (retExpr e) c l E rest k = tt
 start-decl (exprStmt e) c l E rest k = of-expr (first (pr e (semi ∷ rest)) .kind) (start c l E e true k (semi ∷ rest))
 
+-- no `if` goes on with `}`
 pub follow-rbrace : (rest : List W) → Follow (rbrace ∷ rest)
 unfolding Follow
 follow-rbrace rest = (refl, refl)
@@ -106,12 +108,14 @@ follow-decls (next t ts) c l E rest k f = follow-of (prS t (prSs ts rest)) (star
 
 -- ── lengths of prints ──
 
+-- items only add words
 items-length : (is : Items) (rest : List W) → length rest ≤ length (prItems is rest)
 unfolding prItems betweenItems
 items-length noItem rest = omega arith
 items-length (item x e noItem) rest = let z = pr-length e rest in omega arith
 items-length (item x e (item y e′ is)) rest = let z = pr-length e (comma ∷ prItems (item y e′ is) rest) in let q = items-length (item y e′ is) rest in omega arith
 
+-- each name is a word
 names-length : (ns : List W) (rest : List W) → length ns + length rest ≤ length (prNames ns rest)
 unfolding prNames betweenNames
 names-length [] rest = omega arith
@@ -121,6 +125,7 @@ names-length (x ∷ y ∷ ns) rest = let q = names-length (y ∷ ns) rest in ome
 mutual
   unfolding prS counted manyBranches
 
+  -- a declaration has a word
   prS-length : (t : Stmt) (rest : List W) → length rest < length (prS t rest)
   prS-length (varNone x) rest = omega arith
   prS-length (varExpr x e) rest = let z = pr-length e (semi ∷ rest) in omega arith
@@ -134,10 +139,12 @@ mutual
   prS-length (retExpr e) rest = let z = pr-length e (semi ∷ rest) in omega arith
   prS-length (exprStmt e) rest = let z = pr-length e (semi ∷ rest) in omega arith
 
+  -- each declaration has a word
   pub prSs-length : (ts : Stmts) (rest : List W) → counted ts + length rest ≤ length (prSs ts rest)
   prSs-length stop rest = omega arith
   prSs-length (next t ts) rest = let z = prS-length t (prSs ts rest) in let y = prSs-length ts rest in omega arith
 
+  -- each branch has a word
   prBs-length : (bs : Branches) (rest : List W) → manyBranches bs + length rest ≤ length (prBs bs rest)
   prBs-length noBranch rest = omega arith
   prBs-length (elifOf e ss bs) rest = let z = pr-length e (lbrace ∷ prSs ss (rbrace ∷ prBs bs rest)) in let y = prSs-length ss (rbrace ∷ prBs bs rest) in let q = prBs-length bs rest in omega arith
@@ -152,6 +159,7 @@ record Headed (k : ℕ) (xs : List Lab) : Type 0 where
   is : xs ≡ head′ ∷ others
   kind′ : head′ .kind ≡ k
 
+-- a last return has the newest label
 last-head : (t : Stmt) (ts : Stmts) (l : ℕ) → T (returnsLast t ts) → Headed ReturnStmt (rencSs l (next t ts))
 unfolding returns isReturn rencS
 last-head (varNone x) stop l h = absurd h
@@ -169,16 +177,19 @@ last-head t (next u ts) l h =
     let q : Headed ReturnStmt (rencSs l (next u ts)) = last-head u ts l h in
     record { head′ = q .head′; others = q .others ++ rencS l t; is = ap (λ (xs : List Lab). xs ++ rencS l t) (q .is); kind′ = q .kind′ }
 
+-- so where a list of declarations ends in one
 returns-head : (ts : Stmts) (l : ℕ) → T (returns ts) → Headed ReturnStmt (rencSs l ts)
 unfolding returns
 returns-head stop l h = absurd h
 returns-head (next t ts) l h = last-head t ts l h
 
+-- such a list is not empty
 returns-some : (ts : Stmts) → T (returns ts) → 0 < counted ts
 unfolding returns counted
 returns-some stop h = absurd h
 returns-some (next t ts) h = omega arith
 
+-- no labels, no nodes
 pub made-empty : {c : Ctx} {ns ns′ : List Node} → Made c [] ns ns′ → ns′ ≡ ns
 made-empty {c} {ns} {ns′} m = go (m .new) (m .nodes) (m .labs)
   where
@@ -186,9 +197,11 @@ made-empty {c} {ns} {ns′} m = go (m .new) (m .nodes) (m .labs)
     go [] e f = e
     go (x ∷ new) e f = absurd (let z : _≡_ {A = ℕ} 0 1 = cc in let y : ⊥ = omega arith in y)
 
+-- the level is set, names and checking stay
 pub in-level : {c : Ctx} {l : ℕ} {E : List Sym} {b : Bool} {lvl : ℕ} {syms : List Sym} {chk : Bool} (l′ lvl′ : ℕ) → lvl′ ≡ l′ → In c l E b lvl syms chk → In c l′ E b lvl′ syms chk
 in-level l′ lvl′ e h = record { level = e; names = h .names; fair = h .fair; check = h .check }
 
+-- the state with another level
 abbrev pub levelled : ℕ → St → St
 levelled n s = record { at = s .at; nodes = s .nodes; syms = s .syms; level = n; check = s .check; errs = s .errs }
 
@@ -207,9 +220,11 @@ module _ (c : Ctx) where
 
   -- ── a declaration is read as itself ──
 
+  -- a declaration's words are read as that declaration
   pub Says : Stmt → Type 0
   Says t = (d l : ℕ) (E : List Sym) (rest : List W) (s : St) → OkS l E t → Follow rest → Ahead c l E true (prS t rest) s → Res (decl c (walkers c d) s) (λ u. Got c l (envS l E t) true (rencS l t) rest (s .nodes))
 
+  -- so is each of them
   AllSay : Stmts → Type 0
   AllSay stop = Unit {0}
   AllSay (next t ts) = Says t × AllSay ts
@@ -222,6 +237,7 @@ module _ (c : Ctx) where
       test (λ n. eqb n RightBrace || eqb n Eof) false p
       (rw (member-test (first (prS t rest) .kind) RightBrace declStarters m tt, member-test (first (prS t rest) .kind) Eof declStarters m tt) refl)
 
+  -- the loop of block reads declarations as they are
   decls-ok : (ts : Stmts) → AllSay ts → (d f n l : ℕ) (E : List Sym) (rest : List W) (s : St) → OkSs l E ts → counted ts ≤ f → Ahead c l E true (prSs ts (rbrace ∷ rest)) s
       → Res (decls c (walkers c d) f n s) (Count (n + counted ts) (Got c l (envSs l E ts) true (rencSs l ts) (rbrace ∷ rest) (s .nodes)))
   unfolding AllSay Says decls prSs OkSs envSs rencSs counted Res if_then_else_ go-on
@@ -244,6 +260,7 @@ module _ (c : Ctx) where
   abbrev pub blockLabs : ℕ → Stmts → List Lab
   blockLabs l ss = blockLab (counted ss) l ∷ rencSs l ss
 
+  -- a block is read as it is, with the names that are bound in it
   block-ok : (ss : Stmts) → AllSay ss → (body : Bool) (is : List ℕ) (xs : List W) (d l : ℕ) (E : List Sym) (rest : List W) (s : St) → T (not body || returns ss) → map (λ (i : ℕ). wordAt c i) is ≡ xs
       → OkSs (suc l) (bound (suc l) xs E) ss → Ahead c l E true (lbrace ∷ prSs ss (rbrace ∷ rest)) s
       → Res (walkers c d .block body is s) (λ u. Got c l (envSs (suc l) (bound (suc l) xs E) ss) true (blockLabs (suc l) ss) rest (s .nodes))
@@ -280,10 +297,12 @@ module _ (c : Ctx) where
 
   -- ── which declaration it is ──
 
+  -- what is no variable and no function is a statement
   to-stmt : (r : Rec) (l : ℕ) (E : List Sym) (ws : List W) (s : St) (Q : Unit {0} → St → Type 0) → Ahead c l E true ws s → eqb (first ws .kind) Var ≡ false → eqb (first ws .kind) Fn ≡ false → Res (stmt c r s) Q → Res (decl c r s) Q
   unfolding decl go-on if_then_else_
   to-stmt r l E ws s Q p e₁ e₂ h = no-else _ _ _ s Q (test (λ n. eqb n Var) false p e₁) (no-else _ _ _ s Q (test (λ n. eqb n Fn) false p e₂) h)
 
+  -- an expression statement is read as it is
   expr-says : (e : Expr) → Says (exprStmt e)
   unfolding Says OkS prS stmt exprPart envS rencS scopeOf textOf hasToken member if_then_else_ go-on
   expr-says e d l E rest s k f p =
@@ -298,6 +317,7 @@ module _ (c : Ctx) where
       (read-expr c e d l E (semi ∷ rest) s k (stop-semi rest) p)
       (λ u s₁ h. rw (expect-eq Semicolon s₁ (h .pre) refl refl) (push-ok c ExprStmt false 1 0 (stepped s₁) Q (record { pre = later (h .pre); made = made-push refl (h .made) }))))))))
 
+  -- a block is read as it is
   block-says : (ss : Stmts) → AllSay ss → Says (block ss)
   unfolding Says OkS prS stmt envS rencS if_then_else_ go-on
   block-says ss all d l E rest s k f p =
@@ -308,6 +328,7 @@ module _ (c : Ctx) where
       (no-else _ _ _ s Q (test (λ n. eqb n Return) false p refl)
       (yes-then _ _ _ s Q (test (λ n. eqb n LeftBrace) true p refl) (plain-ok ss all d l E rest s k p)))))
 
+  -- `return ;` is read as it is
   ret-says : Says ret
   unfolding Says OkS prS stmt retStmt envS rencS scopeOf textOf hasToken member if_then_else_ go-on
   ret-says d l E rest s k f p =
@@ -321,6 +342,7 @@ module _ (c : Ctx) where
       (rw (consume-eq (stepped s) (later p) refl)
       (push-ok c ReturnStmt false 0 0 (stepped (stepped s)) Q (record { pre = later (later p); made = made-push refl made-none }))))))))
 
+  -- a return with a value is read as it is
   retExpr-says : (e : Expr) → Says (retExpr e)
   unfolding Says OkS prS stmt retStmt envS rencS scopeOf textOf hasToken member if_then_else_ go-on
   retExpr-says e d l E rest s k f p =

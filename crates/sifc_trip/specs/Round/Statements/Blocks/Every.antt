@@ -1,36 +1,33 @@
 -- Completeness of declarations and statements, the rest: variables, functions, if and for, and every declaration.
-use Prim.Native.Nat.{ℕ, zero, suc, _+_, _-_, _≤_, _<_}
+use Prim.Native.Nat.{ℕ, zero, suc, _+_, _≤_}
 use mathlib.Core.Path.{_≡_, refl, sym, ap, ap₂, _∙_, subst, subst₂}
-use mathlib.Core.List.{List, [], _∷_, _++_, map, append-assoc, append-nil, reverse, reverseAux, reverseAux-eq, reverse-reverse}
-use mathlib.Core.Option.{Option, none, some}
-use mathlib.Core.Bool.{Bool, true, false, _&&_, _||_, not}
+use mathlib.Core.List.{List, [], _∷_, _++_, map, append-assoc, reverse, reverseAux}
+use mathlib.Core.Bool.{Bool, true, false, not}
 use native.Mathlib.Omega.{arith}
-use native.Mathlib.Nat.{zero-add, add-zero, le-trans, not-suc-le-zero}
-use lib.Dec.{T, eqb, leb, ltb, eqb→eq, leb→le, nleb→lt, eqb-refl, le→leb}
-use lib.ListN.{take, drop, length, getD, length-reverse, length-map}
-use lib.Seq.{take-append-seam}
-use Rattle.sifc_lex.specs.Base.{if_then_else_, member, part}
-use Rattle.sifc_lex.specs.Kind.{LeftParen, RightParen, LeftBrace, RightBrace, LeftBracket, RightBracket, Semicolon, Eq, Comma, EqArrow, DoubleLeftBracket, DoubleRightBracket, Ident, Var, Fn, Return, If, Elif, Else, For, In as InKind, Eof}
+use native.Mathlib.Nat.{zero-add, add-zero, not-suc-le-zero}
+use lib.Dec.{T, eqb, ltb}
+use lib.ListN.{take, length, length-map}
+use Rattle.sifc_lex.specs.Base.{if_then_else_, member}
+use Rattle.sifc_lex.specs.Kind.{LeftParen, RightParen, LeftBracket, Semicolon, Eq, Comma, DoubleLeftBracket, Ident, Var, Fn, If, Elif, Else, For, In as InKind, Eof}
 use Rattle.sifc_def.specs.declared.Why.{Why}
-use Rattle.sifc_def.specs.declared.Why.the-variants.{InvalidTknMsg, InvalidIfStmt, ExpectedIdent}
-use Rattle.sifc_def.specs.declared.What.{What}
-use Rattle.sifc_def.specs.declared.What.the-variants.{Placeholder, Function, Variable, Other}
-use Rattle.sifc_def.specs.Ast.{Block, IfStmt, ElifStmt, ForStmt, ReturnStmt, ExprStmt, VarDecl, FnDecl, FnParams, IdentPair, ItemList, TableItem, Table, Array, ArrayItems, PrimaryExpr}
-use Rattle.sifc_def.specs.State.{Node, node, Sym, Ctx, St, Out, done, fail, refuse, M, Void, go-on, _>>=_, _>>_, return, ok, when, W, nameOf, wordIn, tokAt, wordAt, nameAt, here, kindNow, consume, addErrorWPos, addError, list, expect, optional, ident, push, loads}
-use Rattle.sifc_def.specs.Symbols.{find, putAt, store, setLevel, initScope, closeScope}
-use Rattle.sifc_def.specs.Label.{Lab, lab, hasToken, scopeOf, textOf, label}
+use Rattle.sifc_def.specs.declared.Why.the-variants.{InvalidIfStmt, ExpectedIdent}
+use Rattle.sifc_def.specs.declared.What.the-variants.{Placeholder, Function}
+use Rattle.sifc_def.specs.Ast.{IfStmt, ElifStmt, ForStmt, VarDecl, FnDecl, FnParams, IdentPair, ItemList, Table, PrimaryExpr}
+use Rattle.sifc_def.specs.State.{Node, Sym, Ctx, St, M, Void, go-on, _>>_, ok, W, nameOf, wordAt, addErrorWPos, addError, list, push}
+use Rattle.sifc_def.specs.Symbols.{putAt, store}
+use Rattle.sifc_def.specs.Label.{Lab, hasToken, scopeOf, textOf}
 use Rattle.sifc_def.specs.Walk.{walkers}
-use Rattle.sifc_def.specs.Expr.{Rec, fnParamMaxLen, looseness, fuel, separator, paramList}
+use Rattle.sifc_def.specs.Expr.{fuel, separator, paramList}
 use Rattle.sifc_def.specs.declared.Err.{Err}
 use Rattle.sifc_def.specs.State.{err}
-use Rattle.sifc_def.specs.Stmt.{bind, withReturn, identNode, param, identPair, declareVar, arrayDecl, tableDecl, endIf, initial, varDecl, fnDecl, elifStmt, elseBlock, branches, ifStmt, forStmt, stmt, decl, decls}
-use Rattle.sifc_trip.specs.Typed.{Expr, Exprs, nil, more, Items, noItem, item, Stmt, varNone, varExpr, varArray, varTable, func, block, cond, loop, ret, retExpr, exprStmt, Stmts, stop, next, Branches, noBranch, elifOf, elseOf, counted, manyBranches, manyItems, word, lp, rp, lb, rb, eq, comma, semi, dlb, drb, lbrace, rbrace, varWord, fnWord, returnWord, ifWord, elifWord, elseWord, forWord, inWord, betweenNames, pr, prs, prNames, prItems, prS, prSs, prBs, bare, said, primLab, blockLab, renc, rencNames, rencItems, rencArray, globalAt, rencS, rencSs, rencBs, seen, Ok, Oks, OkItems, OkNames, isReturn, returns, bound, declared, stored, inside, envS, envSs, envBs, OkS, OkSs, OkBs}
-use Rattle.sifc_trip.specs.Round.{true-of, not-eqb, not-leb, at-kind, and-l, and-r, or-l, or-r, ofSize, Res, and-then, yes-then, no-else, res-map, erased, In, ident-name, labelled, Made, made-none, made-then, made-push}
-use Rattle.sifc_trip.specs.Round.Steps.{first, Pre, Ahead, Got, now, kind-now, test, later, stand, sees-length, stepped, pushed, listed, consume-eq, expect-eq, ident-eq, push-ok, list-ok, pr-length, prs-length}
-use Rattle.sifc_trip.specs.Round.Levels.{Stop, starters, made-single}
+use Rattle.sifc_def.specs.Stmt.{identNode, param, identPair, endIf, initial, varDecl, fnDecl, elifStmt, elseBlock, branches, ifStmt, forStmt, stmt, decl}
+use Rattle.sifc_trip.specs.Typed.{Expr, Exprs, Items, Stmt, varNone, varExpr, varArray, varTable, func, block, cond, loop, ret, retExpr, exprStmt, Stmts, stop, next, Branches, noBranch, elifOf, elseOf, manyBranches, manyItems, lp, rp, lb, rb, eq, comma, semi, dlb, drb, lbrace, rbrace, varWord, ifWord, forWord, inWord, betweenNames, pr, prs, prNames, prItems, prS, prSs, prBs, bare, said, primLab, renc, rencNames, rencItems, rencArray, globalAt, rencS, rencBs, seen, Ok, Oks, OkItems, OkNames, bound, declared, stored, inside, envS, envSs, envBs, OkS, OkSs, OkBs}
+use Rattle.sifc_trip.specs.Round.{not-leb, at-kind, Res, and-then, yes-then, no-else, res-map, erased, Made, made-none, made-then, made-push}
+use Rattle.sifc_trip.specs.Round.Steps.{first, Ahead, Got, now, test, later, sees-length, stepped, pushed, listed, consume-eq, expect-eq, ident-eq, push-ok, list-ok}
+use Rattle.sifc_trip.specs.Round.Levels.{starters, made-single}
 use Rattle.sifc_trip.specs.Round.Levels.Suffixes.{start}
-use Rattle.sifc_trip.specs.Round.Statements.{stop-semi, stop-lbrace, Count, other-not, read-expr, store-got, store-other, declare-ok, array-ok, table-ok, bind-ok, identNode-eq}
-use Rattle.sifc_trip.specs.Round.Statements.Blocks.{primNode, loads-prims, member-test, declStarters, Follow, names-length, prBs-length, made-empty, Says, AllSay, blockLabs, block-ok, plain-ok, to-stmt, expr-says, block-says, ret-says, retExpr-says}
+use Rattle.sifc_trip.specs.Round.Statements.{stop-semi, stop-lbrace, read-expr, store-got, declare-ok, array-ok, table-ok, identNode-eq}
+use Rattle.sifc_trip.specs.Round.Statements.Blocks.{primNode, loads-prims, member-test, Follow, names-length, prBs-length, made-empty, Says, AllSay, blockLabs, block-ok, plain-ok, to-stmt, expr-says, block-says, ret-says, retExpr-says}
 
 module _ (c : Ctx) where
   -- ── variables ──
@@ -47,10 +44,12 @@ module _ (c : Ctx) where
       (read-expr c e d l E (semi ∷ rest) s k (stop-semi rest) p)
       (λ u s₁ h. rw (expect-eq Semicolon s₁ (h .pre) refl refl) (record { pre = later (h .pre); made = h .made }))))
 
+  -- the value that follows `=`, an array
   initial-array : (i : ℕ) (x : W) (es : Exprs) (d l : ℕ) (E : List Sym) (rest : List W) (s : St) → wordAt c i ≡ x → Oks (seen l E) true es → Ahead c l E true (lb ∷ prs es (rb ∷ semi ∷ rest)) s → Res (initial c (walkers c d) i s) (λ u. Got c l (stored l x E) true (rencArray x es) rest (s .nodes))
   unfolding initial go-on if_then_else_
   initial-array i x es d l E rest s ew k p = yes-then _ _ _ s _ (test (λ n. eqb n LeftBracket) true p refl) (array-ok c i x es d l E rest s ew k p)
 
+  -- the value that follows `=`, a table
   initial-table : (i : ℕ) (x : W) (is : Items) (d l : ℕ) (E : List Sym) (rest : List W) (s : St) → wordAt c i ≡ x → OkItems (seen l E) is → Ahead c l E true (dlb ∷ prItems is (drb ∷ semi ∷ rest)) s → Res (initial c (walkers c d) i s) (λ u. Got c l (stored l x E) true (said Table false 1 x ∷ bare ItemList false (manyItems is) ∷ rencItems is) rest (s .nodes))
   unfolding initial go-on if_then_else_
   initial-table i x is d l E rest s ew k p = no-else _ _ _ s _ (test (λ n. eqb n LeftBracket) false p refl) (yes-then _ _ _ s _ (test (λ n. eqb n DoubleLeftBracket) true p refl) (table-ok c i x is d l E rest s ew k p))
@@ -71,6 +70,7 @@ module _ (c : Ctx) where
       (init (stepped (stepped (stepped s))) (later (later (later p))))
       (λ u s₁ h. declare-ok c (suc (s .at)) 1 x s₁ (now (later p)) xk h))))))
 
+  -- a variable without value is read as it is
   varNone-says : (x : W) → Says c (varNone x)
   unfolding Says OkS prS envS rencS decl varDecl go-on if_then_else_
   varNone-says x d l E rest s k f p =
@@ -83,14 +83,17 @@ module _ (c : Ctx) where
       (rw (consume-eq (stepped (stepped s)) (later (later p)) refl)
       (declare-ok c (suc (s .at)) 0 x (stepped (stepped (stepped s))) (now (later p)) k (record { pre = later (later (later p)); made = made-none })))))))
 
+  -- a variable with an expression is read as it is
   varExpr-says : (x : W) (e : Expr) → Says c (varExpr x e)
   unfolding Says OkS prS envS rencS
   varExpr-says x e d l E rest s k f p = var-ok x d l E E (renc e) (pr e (semi ∷ rest)) rest s (k .0) (λ s₁ p₁. initial-expr (suc (s .at)) e d l E rest s₁ (k .1) p₁) p
 
+  -- a variable with an array is read as it is
   varArray-says : (x : W) (es : Exprs) → Says c (varArray x es)
   unfolding Says OkS prS envS rencS
   varArray-says x es d l E rest s k f p = var-ok x d l E (stored l x E) (rencArray x es) (lb ∷ prs es (rb ∷ semi ∷ rest)) rest s (k .0) (λ s₁ p₁. initial-array (suc (s .at)) x es d l E rest s₁ (now (later p)) (k .1) p₁) p
 
+  -- a variable with a table is read as it is
   varTable-says : (x : W) (is : Items) → Says c (varTable x is)
   unfolding Says OkS prS envS rencS
   varTable-says x is d l E rest s k f p = var-ok x d l E (stored l x E) (said Table false 1 x ∷ bare ItemList false (manyItems is) ∷ rencItems is) (dlb ∷ prItems is (drb ∷ semi ∷ rest)) rest s (k .0) (λ s₁ p₁. initial-table (suc (s .at)) x is d l E rest s₁ (now (later p)) (k .1) p₁) p
@@ -105,10 +108,12 @@ module _ (c : Ctx) where
     nodes : s .nodes ≡ reverseAux (map primNode toks) ns
     got : Got c l E true (rencNames xs) rest ns s
 
+  -- nothing but the place changed
   record Sepd (l : ℕ) (E : List Sym) (ws : List W) (ns : List Node) (s : St) : Type 0 where
     same-nodes : s .nodes ≡ ns
     pre : Ahead c l E true ws s
 
+  -- a comma, or none before `)`
   sep-names : (xs : List W) (l : ℕ) (E : List Sym) (rest : List W) (s : St) → Ahead c l E true (betweenNames xs (prNames xs (rp ∷ rest))) s → Res (separator c s) (λ u. Sepd l E (prNames xs (rp ∷ rest)) (s .nodes))
   unfolding separator betweenNames prNames Res go-on if_then_else_
   sep-names [] l E rest s p = no-else _ _ _ s _ (test (λ k. not (eqb k RightParen)) false p refl) (record { same-nodes = refl; pre = p })
@@ -116,6 +121,7 @@ module _ (c : Ctx) where
       yes-then _ _ _ s _ (test (λ k. not (eqb k RightParen)) true p refl)
       (rw (expect-eq Comma s p refl refl) (record { same-nodes = refl; pre = later p }))
 
+  -- parameters are read as they are
   params-ok : (xs : List W) (f n l : ℕ) (E : List Sym) (rest : List W) (s : St) → OkNames xs → n + length xs ≤ 64 → length xs ≤ f → Ahead c l E true (prNames xs (rp ∷ rest)) s
       → Res (paramList c (param c) f n s) (Params xs n l E (rp ∷ rest) (s .nodes))
   unfolding paramList param prNames OkNames rencNames Res go-on if_then_else_
@@ -146,9 +152,11 @@ module _ (c : Ctx) where
         got = record { pre = q .got .pre; made = made-then (made-single s p) (subst (λ (ns : List Node). Made c (rencNames xs) ns (s₄ .nodes)) (h₃ .same-nodes) (q .got .made)) };
       })))))))
 
+  -- as many tokens as words
   spelt-length : (is : List ℕ) (xs : List W) → map (λ (i : ℕ). wordAt c i) is ≡ xs → length is ≡ length xs
   spelt-length is xs e = sym (length-map is (λ (i : ℕ). wordAt c i)) ∙ ap (λ (ys : List W). length ys) e
 
+  -- a function is read as it is
   func-says : (x : W) (ns : List W) (ss : Stmts) → AllSay c ss → Says c (func x ns ss)
   unfolding Says OkS prS envS rencS inside decl fnDecl erased scopeOf textOf hasToken member go-on if_then_else_
   func-says x xs ss all d l E rest s k f p =
@@ -222,6 +230,7 @@ module _ (c : Ctx) where
       (plain-ok c ss all d l E rest s₁ ks (h₁ .pre))
       (λ u s₂ h₂. h s₂ (record { pre = h₂ .pre; made = made-then (h₁ .made) (h₂ .made) })))
 
+  -- the blocks of each branch are read as they are
   AllBranches : Branches → Type 0
   AllBranches noBranch = Unit {0}
   AllBranches (elifOf e ss bs) = AllSay c ss × AllBranches bs
@@ -265,6 +274,7 @@ module _ (c : Ctx) where
       (branches-ok bs (all .1) d fu (suc n) (suc elses) l E₁ (X ++ L) rest ns s₂ (k .1) (omega arith) f (record { pre = h₂ .pre; made = made-then (h .made) (h₂ .made) }))
       (λ u s₃ q. record { pre = q .pre; made = subst₂ (λ (m : ℕ) (ls : List Lab). Made c (bare IfStmt false m ∷ ls) ns (s₃ .nodes)) (omega arith) (sym (append-assoc (rencBs l bs) X L)) (q .made) }))))
 
+  -- an `if` is read as it is
   cond-says : (e : Expr) (ss : Stmts) (bs : Branches) → AllSay c ss → AllBranches bs → Says c (cond e ss bs)
   unfolding Says OkS prS envS rencS stmt ifStmt if_then_else_ go-on
   cond-says e ss bs all allb d l E rest s k f p =
@@ -281,10 +291,12 @@ module _ (c : Ctx) where
 
   -- ── for ──
 
+  -- the two names of a `for`
   record Pair (x y : W) (l : ℕ) (E : List Sym) (rest : List W) (ns : List Node) (is : List ℕ) (s : St) : Type 0 where
     spelt : map (λ (i : ℕ). wordAt c i) is ≡ x ∷ y ∷ []
     got : Got c l E true (bare IdentPair false 2 ∷ primLab y ∷ primLab x ∷ []) rest ns s
 
+  -- two names are read as they are
   pair-ok : (x y : W) (l : ℕ) (E : List Sym) (rest : List W) (s : St) → x .kind ≡ Ident → y .kind ≡ Ident → Ahead c l E true (x ∷ comma ∷ y ∷ rest) s → Res (identPair c s) (Pair x y l E rest (s .nodes))
   unfolding identPair Res scopeOf textOf hasToken member if_then_else_ go-on
   pair-ok x y l E rest s xk yk p =
@@ -305,6 +317,7 @@ module _ (c : Ctx) where
       (record { pre = later (later (later p)); made = made-push refl (made-push (ap (λ (z : W). primLab z) (now (later (later p)))) (made-single s p)) }))
       (λ u s₄ h. record { spelt = ap₂ (λ (a : W) (b : W). a ∷ b ∷ []) (now p) (now (later (later p))); got = h })))))
 
+  -- a `for` is read as it is
   loop-says : (x y : W) (e : Expr) (ss : Stmts) → AllSay c ss → Says c (loop x y e ss)
   unfolding Says OkS prS envS rencS stmt forStmt scopeOf textOf hasToken member if_then_else_ go-on
   loop-says x y e ss all d l E rest s k f p =
@@ -332,6 +345,7 @@ module _ (c : Ctx) where
   mutual
     unfolding AllSay AllBranches
 
+    -- every declaration is read as it is
     says : (t : Stmt) → Says c t
     says (varNone x) = varNone-says x
     says (varExpr x e) = varExpr-says x e
@@ -345,10 +359,12 @@ module _ (c : Ctx) where
     says (retExpr e) = retExpr-says c e
     says (exprStmt e) = expr-says c e
 
+    -- every list of declarations is read as it is
     all-say : (ts : Stmts) → AllSay c ts
     all-say stop = tt
     all-say (next t ts) = (says t, all-say ts)
 
+    -- every list of branches is read as it is
     all-branches : (bs : Branches) → AllBranches bs
     all-branches noBranch = tt
     all-branches (elifOf e ss bs) = (all-say ss, all-branches bs)

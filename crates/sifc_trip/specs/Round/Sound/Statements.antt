@@ -1,35 +1,31 @@
 -- Soundness of declarations and statements: whatever the walk reads without failing is a declaration that the writer writes.
-use Prim.Native.Nat.{ℕ, zero, suc, _+_, _-_, _≤_, _<_}
+use Prim.Native.Nat.{ℕ, zero, suc, _+_, _-_, _≤_}
 use mathlib.Core.Path.{_≡_, refl, sym, ap, ap₂, _∙_, subst, subst₂}
-use mathlib.Core.List.{List, [], _∷_, _++_, map, append-assoc, append-nil, reverse, reverseAux, reverseAux-eq, reverse-reverse}
-use mathlib.Core.Option.{Option, none, some}
+use mathlib.Core.List.{List, [], _∷_, _++_, map, append-assoc, reverse}
 use mathlib.Core.Bool.{Bool, true, false, _&&_, _||_, not}
 use native.Mathlib.Omega.{arith}
-use native.Mathlib.Nat.{zero-add, add-zero, le-trans, not-suc-le-zero}
-use lib.Dec.{T, eqb, leb, ltb, eqb→eq, leb→le, nleb→lt, eqb-refl, le→leb}
-use lib.ListN.{take, drop, length, getD, length-reverse, length-map}
-use lib.Seq.{take-append-seam}
-use Rattle.sifc_lex.specs.Base.{if_then_else_, member, part}
-use Rattle.sifc_lex.specs.Kind.{LeftParen, RightParen, LeftBrace, RightBrace, LeftBracket, RightBracket, Semicolon, Eq, Comma, EqArrow, DoubleLeftBracket, DoubleRightBracket, Ident, Var, Fn, Return, If, Elif, Else, For, In as InKind, Eof}
+use native.Mathlib.Nat.{zero-add, add-zero}
+use lib.Dec.{T, eqb, ltb}
+use lib.ListN.{take, length, length-map}
+use Rattle.sifc_lex.specs.Base.{if_then_else_, member}
+use Rattle.sifc_lex.specs.Kind.{LeftParen, RightParen, LeftBrace, RightBrace, Semicolon, Eq, Comma, Ident, Var, Fn, Return, If, Elif, Else, For, In as InKind, Eof}
 use Rattle.sifc_def.specs.declared.Why.{Why}
-use Rattle.sifc_def.specs.declared.Why.the-variants.{InvalidTknMsg, InvalidIfStmt, ExpectedIdent}
-use Rattle.sifc_def.specs.declared.What.{What}
-use Rattle.sifc_def.specs.declared.What.the-variants.{Placeholder, Function, Variable, Other}
-use Rattle.sifc_def.specs.Ast.{Block, IfStmt, ElifStmt, ForStmt, ReturnStmt, ExprStmt, VarDecl, FnDecl, FnParams, IdentPair, ItemList, TableItem, Table, Array, ArrayItems, PrimaryExpr}
-use Rattle.sifc_def.specs.State.{Node, node, Sym, Ctx, St, Out, done, fail, refuse, M, Void, go-on, _>>=_, _>>_, return, ok, when, W, nameOf, wordIn, tokAt, wordAt, nameAt, here, kindNow, consume, addErrorWPos, addError, list, expect, optional, ident, push, loads}
-use Rattle.sifc_def.specs.Symbols.{find, putAt, store, setLevel, initScope, closeScope}
-use Rattle.sifc_def.specs.Label.{Lab, lab, hasToken, scopeOf, textOf, label}
+use Rattle.sifc_def.specs.declared.Why.the-variants.{InvalidIfStmt, ExpectedIdent}
+use Rattle.sifc_def.specs.declared.What.the-variants.{Placeholder, Function}
+use Rattle.sifc_def.specs.Ast.{Block, IfStmt, ElifStmt, ForStmt, ReturnStmt, ExprStmt, VarDecl, FnDecl, FnParams, IdentPair}
+use Rattle.sifc_def.specs.State.{Node, node, Sym, Ctx, St, Void, go-on, _>>_, ok, W, tokAt, wordAt, nameAt, consume, addErrorWPos, addError, list, expect, ident, push}
+use Rattle.sifc_def.specs.Symbols.{putAt, store, setLevel, initScope, closeScope}
+use Rattle.sifc_def.specs.Label.{Lab, hasToken, scopeOf, textOf}
 use Rattle.sifc_def.specs.Walk.{walkers}
-use Rattle.sifc_def.specs.Expr.{Rec, fnParamMaxLen, looseness, fuel, separator, paramList}
+use Rattle.sifc_def.specs.Expr.{Rec, fuel, paramList}
 use Rattle.sifc_def.specs.declared.Err.{Err}
-use Rattle.sifc_def.specs.State.{err, throw}
+use Rattle.sifc_def.specs.State.{err}
 use Rattle.sifc_def.specs.Stmt.{bind, withReturn, identNode, param, identPair, declareVar, endIf, initial, varDecl, fnDecl, elifStmt, elseBlock, branches, ifStmt, forStmt, retStmt, exprStmt as exprPart, stmt, decl, decls, block as blockPart}
-use Rattle.sifc_trip.specs.Typed.{Expr, Exprs, Items, Stmt, varNone, varExpr, varArray, varTable, func, block, cond, loop, ret, retExpr, exprStmt, Stmts, stop, next, Branches, noBranch, elifOf, elseOf, counted, manyBranches, bare, said, primLab, blockLab, renc, rencNames, rencArray, globalAt, rencS, rencSs, rencBs, seen, Ok, OkNames, isReturn, returns, returnsLast, bound, declared, inside, envS, envSs, envBs, OkS, OkSs, OkBs, Said, SaidNames, SaidS, SaidSs, SaidBs}
-use Rattle.sifc_trip.specs.Round.{true-of, and-l, and-r, or-l, or-r, erased, In, Stands, labelled, Made, made-none, made-then, made-push, Newest, newest, topOf}
+use Rattle.sifc_trip.specs.Typed.{Expr, Stmt, varNone, varExpr, varArray, varTable, func, block, cond, loop, ret, retExpr, exprStmt, Stmts, stop, next, Branches, noBranch, elifOf, elseOf, counted, manyBranches, bare, said, primLab, blockLab, renc, rencArray, globalAt, rencS, rencSs, rencBs, seen, Ok, isReturn, returns, returnsLast, bound, declared, inside, envS, envSs, envBs, OkS, OkSs, OkBs, Said, SaidS, SaidSs, SaidBs}
+use Rattle.sifc_trip.specs.Round.{and-l, and-r, erased, Stands, Made, made-none, made-then, made-push, topOf}
 use Rattle.sifc_trip.specs.Round.Statements.Blocks.{primNode, loads-prims, blockLabs, in-level, levelled}
-use Rattle.sifc_trip.specs.Round.Sound.{Win, win-then, win-map, win-any, win-if, win-when, made-at, made-from, pushed, Kept, throw-sound, consume-sound, expect-sound, push-sound, top-kind}
+use Rattle.sifc_trip.specs.Round.Sound.{Win, win-then, win-map, win-if, win-when, made-at, made-from, pushed, Kept, throw-sound, consume-sound, expect-sound, push-sound, top-kind}
 use Rattle.sifc_trip.specs.Round.Sound.Parts.{Named, ident-sound, store-sound, bind-sound, Declared, declare-sound, Expressed, ReadsExpr, expr-sound, Valued, initial-sound, NameNode, identNode-sound, Params, params-sound}
-pub mod Program
 
 -- ── the return that is inserted ──
 
@@ -38,31 +34,37 @@ snoc : Stmts → Stmt → Stmts
 snoc stop t = next t stop
 snoc (next u ts) t = next u (snoc ts t)
 
+-- it is one more
 snoc-counted : (ts : Stmts) (t : Stmt) → counted (snoc ts t) ≡ suc (counted ts)
 unfolding snoc counted
 snoc-counted stop t = refl
 snoc-counted (next u ts) t = ap suc (snoc-counted ts t)
 
+-- an inserted return has the newest label
 snoc-labels : (ts : Stmts) (l : ℕ) → rencSs l (snoc ts ret) ≡ bare ReturnStmt false 0 ∷ rencSs l ts
 unfolding snoc rencSs
 snoc-labels stop l = refl
 snoc-labels (next u ts) l = ap (λ (xs : List Lab). xs ++ rencS l u) (snoc-labels ts l)
 
+-- an inserted return leaves the names
 snoc-names : (ts : Stmts) (l : ℕ) (E : List Sym) → envSs l E (snoc ts ret) ≡ envSs l E ts
 unfolding snoc envSs
 snoc-names stop l E = refl
 snoc-names (next u ts) l E = snoc-names ts l (envS l E u)
 
+-- an inserted return is Ok
 snoc-fit : (ts : Stmts) (l : ℕ) (E : List Sym) → OkSs l E ts → OkSs l E (snoc ts ret)
 unfolding snoc OkSs
 snoc-fit stop l E k = (tt, tt)
 snoc-fit (next u ts) l E k = (k .0, snoc-fit ts l (envS l E u) (k .1))
 
+-- an inserted return has no word of the script
 snoc-words : (Good : W → Type 0) (ts : Stmts) → SaidSs Good ts → SaidSs Good (snoc ts ret)
 unfolding snoc SaidSs
 snoc-words Good stop k = (tt, tt)
 snoc-words Good (next u ts) k = (k .0, snoc-words Good ts (k .1))
 
+-- with an inserted return a list ends in one
 snoc-returns : (ts : Stmts) → T (returns (snoc ts ret))
 unfolding snoc returns isReturn
 snoc-returns stop = tt
@@ -79,6 +81,7 @@ record Tops (t : Stmt) (ts : Stmts) (l : ℕ) : Type 0 where
   is : rencSs l (next t ts) ≡ head′ ∷ others
   ends′ : T (eqb (head′ .kind) ReturnStmt) → T (returnsLast t ts)
 
+-- every list of declarations has its newest label
 tops : (t : Stmt) (ts : Stmts) (l : ℕ) → Tops t ts l
 unfolding returns isReturn rencS
 tops (varNone x) stop l = record { head′ = said VarDecl (globalAt l) 0 x; others = []; is = refl; ends′ = λ t. t }
@@ -96,6 +99,7 @@ tops t (next u ts) l =
     let q : Tops u ts l = tops u ts l in
     record { head′ = q .head′; others = q .others ++ rencS l t; is = ap (λ (xs : List Lab). xs ++ rencS l t) (q .is); ends′ = q .ends′ }
 
+-- a body whose newest node is a return ends in one
 ends-in-return : (c : Ctx) (ts : Stmts) (l m : ℕ) (ns ns′ : List Node) → m ≡ counted ts → Made c (rencSs l ts) ns ns′ → T (ltb 0 m && eqb (topOf ns′ .kind) ReturnStmt) → T (returns ts)
 unfolding counted returns
 ends-in-return c stop l m ns ns′ em md t = absurd (subst (λ (k : ℕ). T (ltb 0 k)) em (and-l (ltb 0 m) _ t))
@@ -122,6 +126,7 @@ module _ (c : Ctx) (Good : W → Type 0) (good : (i : ℕ) → Good (wordAt c i)
     pub made : Made c (blockLabs c (suc l) trees) ns (s .nodes)
     pub inn : Stands c l (envSs (suc l) (bound (suc l) xs E) trees) true s
 
+  -- the words of tokens
   abbrev pub spoken : List ℕ → List W
   spoken is = map (λ (i : ℕ). wordAt c i) is
 
@@ -133,6 +138,7 @@ module _ (c : Ctx) (Good : W → Type 0) (good : (i : ℕ) → Good (wordAt c i)
   module _ (r : Rec) (so : Sounds r) where
     -- ── variables ──
 
+    -- var_decl reads a variable
     var-sound : (l : ℕ) (E : List Sym) (s : St) → Stands c l E true s → Win (varDecl c r s) (λ u. Declares l E (s .nodes))
     unfolding varDecl rencS envS OkS SaidS if_then_else_ go-on
     var-sound l E s h =
@@ -169,6 +175,7 @@ module _ (c : Ctx) (Good : W → Type 0) (good : (i : ℕ) → Good (wordAt c i)
 
     -- ── functions ──
 
+    -- fn_decl reads a function
     fn-sound : (l : ℕ) (E : List Sym) (s : St) → Stands c l E true s → Win (fnDecl c r s) (λ u. Declares l E (s .nodes))
     unfolding fnDecl inside erased rencS envS OkS SaidS scopeOf textOf hasToken member if_then_else_ go-on
     fn-sound l E s h =
@@ -226,10 +233,12 @@ module _ (c : Ctx) (Good : W → Type 0) (good : (i : ℕ) → Good (wordAt c i)
     unfolding list Win
     list-sound e {l} {E} {b} s h = win-when (ltb (length (s .errs)) (c .errRoom)) _ _ (λ u. Kept c l E b (s .nodes)) (λ t. record { inn = h; same-nodes = refl }) (λ t. tt)
 
+    -- an error is listed, and nothing else changes
     add-sound : (why : Why) {l : ℕ} {E : List Sym} {b : Bool} (s : St) → Stands c l E b s → Win (addError c why s) (λ e. Kept c l E b (s .nodes))
     unfolding addError addErrorWPos Win go-on
     add-sound why {l} {E} {b} s h = win-then (list c (err (s .at) why) s) _ (λ u. Kept c l E b (s .nodes)) (λ e. Kept c l E b (s .nodes)) (list-sound (err (s .at) why) s h) (λ u s₁ k. k)
 
+    -- the end of an `if`, with two `else` or not
     endIf-sound : (n elses l : ℕ) (E : List Sym) (L : List Lab) (ns : List Node) (s : St) → Made c L ns (s .nodes) → Stands c l E true s → Win (endIf c n elses s) (λ u. Declared c l E (bare IfStmt false (2 + n) ∷ L) ns)
     unfolding endIf Win scopeOf textOf hasToken member if_then_else_ go-on
     endIf-sound n elses l E L ns s md h =
@@ -251,6 +260,7 @@ module _ (c : Ctx) (Good : W → Type 0) (good : (i : ℕ) → Good (wordAt c i)
       made : Made c (blockLabs c (suc l) trees ++ renc expr) ns (s .nodes)
       inn : Stands c l (envSs (suc l) E trees) true s
 
+    -- a condition and its block are read
     guarded-sound : (f : Void) (l : ℕ) (E : List Sym) (ns : List Node) (s : St) (Q : Unit {0} → St → Type 0) → s .nodes ≡ ns → Stands c l E true s
         → ((s₁ : St) → Guarded l E ns s₁ → Win (f s₁) Q) → Win (go-on (r .assign s) (λ u. r .block false [] >> f)) Q
     unfolding bound go-on
@@ -268,6 +278,7 @@ module _ (c : Ctx) (Good : W → Type 0) (good : (i : ℕ) → Good (wordAt c i)
       made : Made c (bare IfStmt false (2 + (n + manyBranches trees)) ∷ (rencBs l trees ++ L)) ns (s .nodes)
       inn : Stands c l (envBs l E trees) true s
 
+    -- no further branch
     no-branch : (n elses l : ℕ) (E : List Sym) (L : List Lab) (ns : List Node) (s : St) → Made c L ns (s .nodes) → Stands c l E true s → Win (endIf c n elses s) (λ u. Branched n l E L ns)
     unfolding OkBs SaidBs rencBs envBs manyBranches
     no-branch n elses l E L ns s md h =
@@ -285,6 +296,7 @@ module _ (c : Ctx) (Good : W → Type 0) (good : (i : ℕ) → Good (wordAt c i)
       made : Made c (bare ElifStmt false 2 ∷ (blockLabs c (suc l) trees ++ renc expr)) ns (s .nodes)
       inn : Stands c l (envSs (suc l) E trees) true s
 
+    -- an elif is read
     elif-sound : (l : ℕ) (E : List Sym) (s : St) → Stands c l E true s → Win (elifStmt c r s) (λ u. ElifRead l E (s .nodes))
     unfolding elifStmt scopeOf textOf hasToken member if_then_else_
     elif-sound l E s h =
@@ -303,6 +315,7 @@ module _ (c : Ctx) (Good : W → Type 0) (good : (i : ℕ) → Good (wordAt c i)
         win-map (r .block false [] s₁) (λ u. Blocked false [] l E (s₁ .nodes)) (λ u. Blocked false [] l E (s .nodes)) (so .block false [] l E s₁ (k₁ .inn))
         (λ u s₂ b. record { trees = b .trees; ended = b .ended; fit = b .fit; words = b .words; made = made-from (k₁ .same-nodes) (b .made); inn = b .inn }))
 
+    -- the loop of if_stmt reads branches
     branches-sound : (f n elses l : ℕ) (E : List Sym) (L : List Lab) (ns : List Node) (s : St) → Made c L ns (s .nodes) → Stands c l E true s → Win (branches c r f n elses s) (λ u. Branched n l E L ns)
     unfolding branches bound OkBs SaidBs rencBs envBs manyBranches if_then_else_ go-on
     branches-sound zero n elses l E L ns s md h = no-branch n elses l E L ns s md h
@@ -340,6 +353,7 @@ module _ (c : Ctx) (Good : W → Type 0) (good : (i : ℕ) → Good (wordAt c i)
         })))
         (λ t₁. no-branch n elses l E L ns s md h))
 
+    -- if_stmt reads an `if`
     if-sound : (l : ℕ) (E : List Sym) (s : St) → Stands c l E true s → Win (ifStmt c r s) (λ u. Declares l E (s .nodes))
     unfolding ifStmt rencS envS OkS SaidS
     if-sound l E s h =
@@ -361,6 +375,7 @@ module _ (c : Ctx) (Good : W → Type 0) (good : (i : ℕ) → Good (wordAt c i)
 
     -- ── for ──
 
+    -- the two names of a `for`
     record PairRead (l : ℕ) (E : List Sym) (ns : List Node) (is : List ℕ) (s : St) : Type 0 where
       one : ℕ
       two : ℕ
@@ -370,6 +385,7 @@ module _ (c : Ctx) (Good : W → Type 0) (good : (i : ℕ) → Good (wordAt c i)
       made : Made c (bare IdentPair false 2 ∷ primLab (wordAt c two) ∷ primLab (wordAt c one) ∷ []) ns (s .nodes)
       inn : Stands c l E true s
 
+    -- ident_pair reads two names
     pair-sound : (l : ℕ) (E : List Sym) (s : St) → Stands c l E true s → Win (identPair c s) (PairRead l E (s .nodes))
     unfolding identPair Win scopeOf textOf hasToken member if_then_else_
     pair-sound l E s h =
@@ -386,6 +402,7 @@ module _ (c : Ctx) (Good : W → Type 0) (good : (i : ℕ) → Good (wordAt c i)
         rw e₄
         (record { one = i; two = j; both = refl; kind₁ = k₁ .kind; kind₂ = k₃ .kind; made = made-push refl (made-at en (made-push refl (made-push refl made-none))); inn = k₃ .inn })))))
 
+    -- for_stmt reads a `for`
     for-sound : (l : ℕ) (E : List Sym) (s : St) → Stands c l E true s → Win (forStmt c r s) (λ u. Declares l E (s .nodes))
     unfolding forStmt rencS envS OkS SaidS scopeOf textOf hasToken member if_then_else_
     for-sound l E s h =
@@ -413,6 +430,7 @@ module _ (c : Ctx) (Good : W → Type 0) (good : (i : ℕ) → Good (wordAt c i)
 
     -- ── return, expressions, and all of them ──
 
+    -- ret_stmt reads a return
     ret-sound : (l : ℕ) (E : List Sym) (s : St) → Stands c l E true s → Win (retStmt c r s) (λ u. Declares l E (s .nodes))
     unfolding retStmt rencS envS OkS SaidS scopeOf textOf hasToken member if_then_else_ go-on
     ret-sound l E s h =
@@ -429,6 +447,7 @@ module _ (c : Ctx) (Good : W → Type 0) (good : (i : ℕ) → Good (wordAt c i)
         win-then (expect c Semicolon s₂) _ (λ u. Kept c l E true (s₂ .nodes)) Q (expect-sound c Semicolon s₂ (e .inn))
         (λ u s₃ k₃. push-sound c ReturnStmt false 1 0 s₃ Q (record { tree = retExpr (e .expr); fit = e .fit; words = e .words; made = made-push refl (made-at (k₃ .same-nodes) (made-from (k₁ .same-nodes) (e .made))); inn = k₃ .inn })))))
 
+    -- expr_stmt reads an expression statement
     exprStmt-sound : (l : ℕ) (E : List Sym) (s : St) → Stands c l E true s → Win (exprPart c r s) (λ u. Declares l E (s .nodes))
     unfolding exprPart rencS envS OkS SaidS scopeOf textOf hasToken member if_then_else_
     exprStmt-sound l E s h =
@@ -438,12 +457,14 @@ module _ (c : Ctx) (Good : W → Type 0) (good : (i : ℕ) → Good (wordAt c i)
         win-then (expect c Semicolon s₂) _ (λ u. Kept c l E true (s₂ .nodes)) Q (expect-sound c Semicolon s₂ (e .inn))
         (λ u s₃ k₃. push-sound c ExprStmt false 1 0 s₃ Q (record { tree = exprStmt (e .expr); fit = e .fit; words = e .words; made = made-push refl (made-at (k₃ .same-nodes) (e .made)); inn = k₃ .inn })))
 
+    -- a block is a declaration
     plain-sound : (l : ℕ) (E : List Sym) (s : St) → Stands c l E true s → Win (r .block false [] s) (λ u. Declares l E (s .nodes))
     unfolding bound rencS envS OkS SaidS
     plain-sound l E s h =
         win-map (r .block false [] s) (λ u. Blocked false [] l E (s .nodes)) (λ u. Declares l E (s .nodes)) (so .block false [] l E s h)
         (λ u s₁ b. record { tree = block (b .trees); fit = b .fit; words = b .words; made = b .made; inn = b .inn })
 
+    -- decl reads a declaration
     decl-sound : (l : ℕ) (E : List Sym) (s : St) → Stands c l E true s → Win (decl c r s) (λ u. Declares l E (s .nodes))
     unfolding decl stmt if_then_else_ go-on
     decl-sound l E s h =
@@ -457,6 +478,7 @@ module _ (c : Ctx) (Good : W → Type 0) (good : (i : ℕ) → Good (wordAt c i)
 
     -- ── blocks ──
 
+    -- the declarations of a block, after n
     record Listed (l : ℕ) (E : List Sym) (n : ℕ) (ns : List Node) (m : ℕ) (s : St) : Type 0 where
       trees : Stmts
       num : m ≡ n + counted trees
@@ -465,10 +487,12 @@ module _ (c : Ctx) (Good : W → Type 0) (good : (i : ℕ) → Good (wordAt c i)
       made : Made c (rencSs l trees) ns (s .nodes)
       inn : Stands c l (envSs l E trees) true s
 
+    -- no more declarations
     no-decl : (l : ℕ) (E : List Sym) (n : ℕ) (s : St) → Stands c l E true s → Listed l E n (s .nodes) n s
     unfolding counted OkSs SaidSs rencSs envSs
     no-decl l E n s h = record { trees = stop; num = omega arith; fit = tt; words = tt; made = made-none; inn = h }
 
+    -- the loop of block reads declarations
     decls-sound : (f n l : ℕ) (E : List Sym) (s : St) → Stands c l E true s → Win (decls c r f n s) (Listed l E n (s .nodes))
     unfolding decls counted OkSs SaidSs rencSs envSs Win if_then_else_ go-on
     decls-sound zero n l E s h = no-decl l E n s h
@@ -499,6 +523,7 @@ module _ (c : Ctx) (Good : W → Type 0) (good : (i : ℕ) → Good (wordAt c i)
       made : Made c (rencSs l trees) ns (s .nodes)
       inn : Stands c L (envSs l E trees) true s
 
+    -- a body that ends in no return gets one
     finish-sound : (body : Bool) (l L : ℕ) (E : List Sym) (ns : List Node) (ts : Stmts) (m : ℕ) (s : St) → m ≡ counted ts → OkSs l E ts → SaidSs Good ts → Made c (rencSs l ts) ns (s .nodes) → Stands c L (envSs l E ts) true s
         → Win (withReturn c body m s) (Finished body l E ns L)
     unfolding withReturn Win scopeOf textOf hasToken member if_then_else_ go-on
@@ -521,6 +546,7 @@ module _ (c : Ctx) (Good : W → Type 0) (good : (i : ℕ) → Good (wordAt c i)
           inn = subst (λ (ys : List Sym). Stands c L ys true s) (sym (snoc-names ts l E)) h;
         })))
 
+    -- block reads a block
     block-sound : (body : Bool) (is : List ℕ) (l : ℕ) (E : List Sym) (s : St) → Stands c l E true s → Win (blockPart c r body is s) (λ u. Blocked body (spoken is) l E (s .nodes))
     unfolding blockPart initScope closeScope setLevel scopeOf textOf hasToken member if_then_else_ go-on
     block-sound body is l E s h =

@@ -13,16 +13,16 @@ use Rattle.sifc_lex.specs.Kind.{Eof, LexPanic}
 use Rattle.sifc_def.specs.declared.Err.{Err}
 use Rattle.sifc_def.specs.Ast.{Program}
 use Rattle.sifc_def.specs.Error.{continuable}
-use Rattle.sifc_def.specs.State.{Node, node, Sym, Ctx, St, Out, done, fail, refuse, M, Void, go-on, W, wordIn, tokAt, wordAt, arrive, setNodes, push}
-use Rattle.sifc_def.specs.Label.{Lab, lab, hasToken, scopeOf, textOf, label}
+use Rattle.sifc_def.specs.State.{Node, node, Sym, Ctx, St, Out, done, fail, refuse, M, Void, go-on, W, tokAt, wordAt, arrive, setNodes, push}
+use Rattle.sifc_def.specs.Label.{Lab, hasToken, scopeOf, textOf}
 use Rattle.sifc_def.specs.Expr.{fuel}
 use Rattle.sifc_def.specs.Stmt.{decl}
 use Rattle.sifc_def.specs.Walk.{End, end, start, walkers, giveUp, settled, topDecl, endRead, program, walk}
-use Rattle.sifc_trip.specs.Typed.{Stmt, Stmts, stop, next, counted, prProgram, bare, rencS, rencSs, rencProgram, envS, envSs, OkS, OkSs, OkProgram, SaidS, SaidSs}
-use Rattle.sifc_trip.specs.Round.{Res, Fairs, In, Stands, labelled, Made, made-none, made-then, made-push}
-use Rattle.sifc_trip.specs.Round.Program.{ReadAs, walk-eq, program-read}
+use Rattle.sifc_trip.specs.Typed.{Stmts, stop, next, counted, bare, rencS, rencSs, rencProgram, envS, OkSs, OkProgram, SaidSs}
+use Rattle.sifc_trip.specs.Round.{Fairs, Stands, labelled, Made, made-none, made-then, made-push}
+use Rattle.sifc_trip.specs.Round.Program.{walk-eq}
 use Rattle.sifc_trip.specs.Round.Sound.{Win, win-then, win-map, win-any, win-if, win-when, pushed, push-sound}
-use Rattle.sifc_trip.specs.Round.Sound.Parts.Every.{Declares, declaration-sound}
+use Rattle.sifc_trip.specs.Round.Sound.Statements.{Declares, declaration-sound}
 
 module _ (c : Ctx) (Good : W → Type 0) (good : (i : ℕ) → Good (wordAt c i)) where
   -- a top-level declaration: what it is if it did not fail
@@ -30,12 +30,14 @@ module _ (c : Ctx) (Good : W → Type 0) (good : (i : ℕ) → Good (wordAt c i)
   Settled E ns none s = Declares c Good good 0 E ns s
   Settled E ns (some e) s = Unit {0}
 
+  -- a top-level declaration that is done is a declaration
   settled-sound : (n : ℕ) (o : Out (Unit {0})) (E : List Sym) (ns : List Node) → Win o (λ u. Declares c Good good 0 E ns) → Win (settled c n o) (Settled E ns)
   unfolding settled giveUp setNodes Settled Win go-on
   settled-sound n (done a s) E ns h = h
   settled-sound n (fail e s) E ns h = tt
   settled-sound n (refuse r) E ns h = tt
 
+  -- a top-level declaration is read
   top-sound : (d : ℕ) (E : List Sym) (s : St) → Stands c 0 E true s → Win (topDecl c (decl c (walkers c d)) s) (Settled E (s .nodes))
   unfolding topDecl go-on
   top-sound d E s h = settled-sound (length (s .nodes)) (decl c (walkers c d) s) E (s .nodes) (declaration-sound c Good good d 0 E s h)
@@ -66,6 +68,7 @@ module _ (c : Ctx) (Good : W → Type 0) (good : (i : ℕ) → Good (wordAt c i)
     words : SaidSs Good trees
     made : Made c (bare Program false (n + counted trees) ∷ (rencSs 0 trees ++ L)) ns (s .nodes)
 
+  -- the Program node
   end-sound : (n : ℕ) (E : List Sym) (L : List Lab) (ns : List Node) (s : St) → Made c L ns (s .nodes) → Win (endRead c n false none s) (λ e s₁. T (not (e .flag)) → Programmed n E L ns e s₁)
   unfolding endRead Win counted OkSs SaidSs rencSs scopeOf textOf hasToken member if_then_else_
   end-sound n E L ns s md =
@@ -74,10 +77,12 @@ module _ (c : Ctx) (Good : W → Type 0) (good : (i : ℕ) → Good (wordAt c i)
       rw e₁
       (λ t. record { trees = stop; down = refl; fit = tt; words = tt; made = subst (λ (k : ℕ). Made c (bare Program false k ∷ L) ns (node Program false n 0 ∷ s .nodes)) (sym (add-zero n)) (made-push refl md) }))
 
+  -- a flag is not up and down
   clash : (b : Bool) → b ≡ true → T (not b) → ⊥
   clash true e t = t
   clash false e t = subst (λ (x : Bool). T (not x)) e tt
 
+  -- the loop of parse reads declarations
   program-sound : (d f n : ℕ) (E : List Sym) (L : List Lab) (ns : List Node) (s : St) → Made c L ns (s .nodes) → Stands c 0 E true s → Win (program c f (decl c (walkers c d)) n false s) (λ e s₁. T (not (e .flag)) → Programmed n E L ns e s₁)
   unfolding program Settled counted OkSs SaidSs rencSs if_then_else_ go-on
   program-sound d zero n E L ns s md h = end-sound n E L ns s md
