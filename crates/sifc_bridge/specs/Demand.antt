@@ -28,12 +28,12 @@ use Rattle.sifc_def.specs.Read.{Arrays, Called, reading, Written, textCall}
 unfoldable pub sizeOrDepth : Refusal → Bool
 sizeOrDepth r = member (numberOf r) (1 ∷ 3 ∷ 4 ∷ 6 ∷ 7 ∷ 8 ∷ 9 ∷ 11 ∷ [])
 
--- a reading, or a text call, that meets none
+-- a reading that meets none
 unfoldable pub Fits : Reading → Type 0
 Fits (Read m) = Unit {0}
 Fits (Refused r) = T (not (sizeOrDepth r))
 
--- likewise
+-- a text call that meets none
 unfoldable pub FitsText : Texting → Type 0
 FitsText (Wrote n) = Unit {0}
 FitsText (NoText r) = T (not (sizeOrDepth r))
@@ -50,7 +50,7 @@ unfoldable pub nodeCount : Reading → ℕ
 nodeCount (Read m) = m .nodes
 nodeCount (Refused r) = 0
 
--- the two words of node i in the lent arrays
+-- the first word of node i in the lent arrays
 abbrev pub headAt : Arrays → ℕ → ℕ
 headAt a i = getD (a .heads) i 0
 

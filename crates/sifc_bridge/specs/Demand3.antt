@@ -22,7 +22,7 @@ use Rattle.sifc_trip.specs.Typed.{Stmts, prProgram, rencProgram, OkProgram, Sai
 use Rattle.sifc_trip.specs.Round.{ofSize, Res}
 use Rattle.sifc_trip.specs.Round.Program.{ReadAs, program-read}
 use Rattle.sifc_trip.specs.Round.Sound.{Win}
-use Rattle.sifc_trip.specs.Round.Sound.Parts.Every.Program.{IsProgram, program-is-typed}
+use Rattle.sifc_trip.specs.Round.Sound.Program.{IsProgram, program-is-typed}
 use Rattle.sifc_bridge.specs.Bytes.{Fine}
 use Rattle.sifc_bridge.specs.Lexed.{FromScript, from-script-fine, carry-Ss}
 use Rattle.sifc_bridge.specs.Kinded.{IfToken, token-Ss}
