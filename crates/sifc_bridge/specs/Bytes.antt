@@ -1,19 +1,16 @@
 -- The bytes of a print: the words of each declaration with a space after each, a newline after the last. They lex to those words, and then Eof.
-use Prim.Native.Nat.{ℕ, zero, suc, _+_, _-_, _≤_, _<_}
-use mathlib.Core.Path.{_≡_, refl, sym, ap, ap₂, _∙_, subst}
+use Prim.Native.Nat.{ℕ, suc, _+_, _≤_, _<_}
+use mathlib.Core.Path.{_≡_, refl, sym, ap, _∙_}
 use mathlib.Core.List.{List, [], _∷_, _++_, map, append-assoc, append-nil}
 use mathlib.Core.Bool.{Bool, true, false}
 use mathlib.Core.Logic.{_⊎_, inl, inr}
-use native.Mathlib.Omega.{arith}
-use lib.Dec.{T, ltb}
-use lib.ListN.{take, drop, length, length-append}
+use lib.Dec.{T}
+use lib.ListN.{length}
 use lib.Seq.{drop-append-seam}
 use Rattle.sifc_err.specs.declared.Token.{Token}
-use Rattle.sifc_err.specs.declared.Ending.{Ending}
 use Rattle.sifc_err.specs.declared.Ending.the-variants.{TrueEnd}
-use Rattle.sifc_lex.specs.declared.lex.Step.{Step}
-use Rattle.sifc_lex.specs.declared.lex.Step.the-variants.{Skip, Word, Stop}
-use Rattle.sifc_lex.specs.Base.{if_then_else_, span, part}
+use Rattle.sifc_lex.specs.declared.lex.Step.the-variants.{Skip}
+use Rattle.sifc_lex.specs.Base.{if_then_else_, span}
 use Rattle.sifc_lex.specs.BaseLaws.{span-yes, true-of}
 use Rattle.sifc_lex.specs.Lex.{step, onStep, ended, lexed, lex, ending}
 use Rattle.sifc_lex.specs.LexLaws.{lexAt, lexAt-turn}

@@ -1,26 +1,24 @@
 -- What a call's answer says of what was read, and the other way round: entry, the token room, the walk.
-use Prim.Native.Nat.{ℕ, zero, suc, _+_, _-_, _≤_, _<_}
+use Prim.Native.Nat.{ℕ, suc, _-_, _≤_}
 use mathlib.Core.Path.{_≡_, refl, sym, ap, _∙_, subst}
-use mathlib.Core.List.{List, [], _∷_, _++_, map, reverse, reverseAux}
+use mathlib.Core.List.{List, [], _∷_, reverse}
 use mathlib.Core.Option.{Option, none, some}
 use mathlib.Core.Bool.{Bool, true, false, not}
 use mathlib.Core.Logic.{_⊎_, inl, inr}
 use native.Mathlib.Omega.{arith}
-use lib.Dec.{T, ltb, lt→ltb, ltb→lt, nltb→le}
-use lib.ListN.{take, length, replicate}
+use lib.Dec.{T, ltb, nltb→le}
+use lib.ListN.{length, replicate}
 use lib.Seq.{take-append-seam}
 use Rattle.sifc_err.specs.declared.Token.{Token}
 use Rattle.sifc_err.specs.declared.Refusal.{Refusal}
 use Rattle.sifc_err.specs.declared.Refusal.the-variants.{LongScript, NotAscii, Uneven, TokensFull, SourceFault, TooDeep, NodesFull, SymbolsFull, ErrorsFull, Flagged, TextFull}
-use Rattle.sifc_err.specs.Refusal.{numberOf}
 use Rattle.sifc_lex.specs.Base.{if_then_else_, member, span}
 use Rattle.sifc_lex.specs.Lex.{lex, ending}
-use Rattle.sifc_def.specs.declared.Err.{Err}
 use Rattle.sifc_def.specs.declared.Reading.{Reading}
 use Rattle.sifc_def.specs.declared.Reading.the-variants.{Read, Refused}
 use Rattle.sifc_def.specs.declared.Texting.{Texting}
 use Rattle.sifc_def.specs.declared.Texting.the-variants.{Wrote, Refused as NoText}
-use Rattle.sifc_def.specs.State.{Node, Ctx, St, Out, done, fail, refuse}
+use Rattle.sifc_def.specs.State.{St, Out, done, fail, refuse}
 use Rattle.sifc_def.specs.Walk.{End, walk}
 use Rattle.sifc_def.specs.Read.{longest, depthLimit, Arrays, Rooms, roomsOf, clearedArrays, cleared, padded, isAscii, even, entry, Found, Outcome, found, refused, faultOf, ctxOf, ended, read, Called, called, summary, filled, answered, reading, Written, written, textFound, texted, textCall}
 use Rattle.sifc_bridge.specs.Bytes.{Plain}

@@ -4,11 +4,11 @@
 -- trees are the same in shape, flags, scopes and token texts, positions ignored; trees and error flags are those that demand 2's definition gives. For each of
 -- the two, reading its canonical text gives the same tree with the flag down, and the canonical text of that text is itself, byte for byte. Premise: none of
 -- these calls meets a refusal for size or depth (1, 3, 4, 6 to 9 or 11 of document 01, each given exactly when its table says)."
-use Prim.Native.Nat.{ℕ, _+_, _-_, _*_, _/_, _%_, _≤_, _<_}
+use Prim.Native.Nat.{ℕ, _/_, _%_, _<_}
 use mathlib.Core.Path.{_≡_}
 use mathlib.Core.Logic.{_↔_}
 use mathlib.Core.List.{List, [], _∷_}
-use mathlib.Core.Bool.{Bool, true, false, not}
+use mathlib.Core.Bool.{Bool, false, not}
 use lib.Dec.{T}
 use lib.ListN.{take, length, getD}
 use Rattle.sifc_err.specs.declared.Refusal.{Refusal}

@@ -2,23 +2,21 @@
 use Prim.Native.Nat.{ℕ}
 use mathlib.Core.Path.{_≡_, refl, sym, ap, _∙_, subst}
 use mathlib.Core.Logic.{_↔_}
-use mathlib.Core.List.{List, [], _∷_, _++_, map, reverse, reverseAux}
-use mathlib.Core.Option.{Option, none, some}
-use mathlib.Core.Bool.{Bool, true, false, not}
+use mathlib.Core.List.{List, [], _∷_, map, reverse, reverseAux}
+use mathlib.Core.Option.{none}
+use mathlib.Core.Bool.{false, not}
 use native.Mathlib.Omega.{arith}
 use lib.Dec.{T}
-use lib.ListN.{length}
 use Rattle.sifc_err.specs.declared.Refusal.{Refusal}
 use Rattle.sifc_err.specs.declared.Refusal.the-variants.{LongScript, NotAscii, Uneven, TokensFull, SourceFault, TooDeep, NodesFull, SymbolsFull, ErrorsFull, Flagged, TextFull}
 use Rattle.sifc_lex.specs.Base.{member}
 use Rattle.sifc_lex.specs.Lex.{lex}
-use Rattle.sifc_def.specs.declared.Reading.{Reading}
-use Rattle.sifc_def.specs.State.{Node, St, Out, done, fail, refuse, wordIn}
+use Rattle.sifc_def.specs.State.{Node, St, Out, done, fail, refuse}
 use Rattle.sifc_def.specs.Label.{Lab, label, labels}
 use Rattle.sifc_def.specs.Walk.{End, walk}
 use Rattle.sifc_def.specs.Text.{text}
-use Rattle.sifc_def.specs.Read.{depthLimit, Arrays, Rooms, roomsOf, Found, Outcome, found, refused, ctxOf, read, Called, called, summary, filled, reading, Written, textFound, textCall}
-use Rattle.sifc_trip.specs.Typed.{Stmts, prProgram, rencProgram, OkProgram, SaidSs}
+use Rattle.sifc_def.specs.Read.{depthLimit, Arrays, Rooms, roomsOf, Found, Outcome, found, refused, ctxOf, read, reading, textFound, textCall}
+use Rattle.sifc_trip.specs.Typed.{Stmts, rencProgram, OkProgram, SaidSs}
 use Rattle.sifc_trip.specs.Round.{ofSize, Res}
 use Rattle.sifc_trip.specs.Round.Program.{ReadAs, program-read}
 use Rattle.sifc_trip.specs.Round.Sound.{Win}
@@ -28,9 +26,9 @@ use Rattle.sifc_bridge.specs.Lexed.{FromScript, from-script-fine, carry-
 use Rattle.sifc_bridge.specs.Kinded.{IfToken, token-Ss}
 use Rattle.sifc_bridge.specs.Laws.{print, text-print, print-words, print-calm, print-passes}
 use Rattle.sifc_bridge.specs.Kinds.{Small, small-program}
-use Rattle.sifc_bridge.specs.Demand.{sizeOrDepth, Fits, FitsText, FlagDown, SameTree, Writes, bytesOf, Lent, itsReading, itsText, canonical, nextReading, nextText, AllFit, RoundTrip, Demand3}
+use Rattle.sifc_bridge.specs.Demand.{sizeOrDepth, Fits, FitsText, FlagDown, SameTree, Writes, Lent, itsReading, itsText, canonical, nextText, AllFit, RoundTrip, Demand3}
 use Rattle.sifc_bridge.specs.Same.{Told, told, labels-same, same-labels}
-use Rattle.sifc_bridge.specs.Calls.{plain-script, Finds, finds, cramped, other-rooms, Walked, walked, done-found, refused-too, Reads, reads-reading, Down, flag-down, fits-reads, fits-text, writes-bytes, down-ascii}
+use Rattle.sifc_bridge.specs.Calls.{plain-script, Finds, finds, cramped, other-rooms, walked, done-found, refused-too, Reads, reads-reading, Down, flag-down, fits-reads, fits-text, writes-bytes, down-ascii}
 
 -- ── lists ──
 

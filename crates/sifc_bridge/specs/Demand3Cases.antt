@@ -1,13 +1,10 @@
 -- Demand 3's premises are met: `1;` and `(1);` with what each of the eight calls is lent, and what the theorem then says of them.
 use Prim.Native.Nat.{ℕ}
-use mathlib.Core.Path.{_≡_, refl, ap}
-use mathlib.Core.List.{List, [], _∷_}
-use mathlib.Core.Bool.{Bool, true, false}
+use mathlib.Core.Path.{_≡_, refl}
 use lib.ListN.{replicate}
-use Rattle.sifc_lex.specs.Base.{member}
 use Rattle.sifc_def.specs.Ascii.{ascii}
 use Rattle.sifc_def.specs.Read.{Arrays, reading, textCall}
-use Rattle.sifc_bridge.specs.Demand.{sizeOrDepth, Fits, FitsText, FlagDown, answeredBytes, SameTree, Lent, itsReading, canonical, AllFit, RoundTrip, Demand3}
+use Rattle.sifc_bridge.specs.Demand.{Fits, FitsText, FlagDown, answeredBytes, SameTree, Lent, itsReading, canonical, AllFit, Demand3}
 use Rattle.sifc_bridge.specs.Demand3.{demand3-definition}
 
 -- room for n tokens, n nodes, n words of symbols and n errors, each element v

@@ -1,19 +1,18 @@
 -- Each word of a typed tree that a reading accepts is a token that is not the script's end: so what holds of every such token holds of each word.
 use Prim.Native.Nat.{ℕ, suc, _≤_, _<_}
-use mathlib.Core.Path.{_≡_, refl, sym, subst}
+use mathlib.Core.Path.{_≡_}
 use mathlib.Core.List.{List, [], _∷_}
 use mathlib.Core.Option.{Option}
-use mathlib.Core.Bool.{Bool, true, false, _&&_, _||_, not}
+use mathlib.Core.Bool.{Bool, true, false, _&&_, _||_}
 use native.Mathlib.Omega.{arith}
 use lib.Dec.{T, eqb, leb, eqb→eq, leb→le}
-use Rattle.sifc_lex.specs.Base.{if_then_else_, member}
+use Rattle.sifc_lex.specs.Base.{member}
 use Rattle.sifc_lex.specs.BaseLaws.{and-left, and-right, if-either}
 use Rattle.sifc_lex.specs.Kind.{Lt, Gt, Bang, Plus, Minus, Star, Slash, Percent, EqEq, LtEq, GtEq, BangEq, AmpAmp, PipePipe, Ident}
-use Rattle.sifc_lex.specs.Reserved.{isStdLibFn}
 use Rattle.sifc_def.specs.declared.What.{What}
-use Rattle.sifc_def.specs.State.{W, Sym, nameOf}
+use Rattle.sifc_def.specs.State.{W, Sym}
 use Rattle.sifc_def.specs.Expr.{looseness, isUnary, isLiteral}
-use Rattle.sifc_trip.specs.Typed.{Expr, prim, un, bin, call, dot, idx, set, mut, Exprs, nil, more, Items, noItem, item, Stmt, varNone, varExpr, varArray, varTable, func, block, cond, loop, ret, retExpr, exprStmt, Stmts, stop, next, Branches, noBranch, elifOf, elseOf, isSome, fine, Ok, Oks, OkItems, OkNames, seen, OkS, OkSs, OkBs, Said, Saids, SaidNames, SaidItems, SaidS, SaidSs, SaidBs}
+use Rattle.sifc_trip.specs.Typed.{Expr, prim, un, bin, call, dot, idx, set, mut, Exprs, nil, more, Items, noItem, item, Stmt, varNone, varExpr, varArray, varTable, func, block, cond, loop, ret, retExpr, exprStmt, Stmts, stop, next, Branches, noBranch, elifOf, elseOf, fine, Ok, Oks, OkItems, OkNames, seen, OkS, OkSs, OkBs, Said, Saids, SaidNames, SaidItems, SaidS, SaidSs, SaidBs}
 
 -- ── kinds ──
 

@@ -1,9 +1,7 @@
 -- The kinds of a typed program's labels are kinds of nodes: below 32, so that a node's first word tells its kind.
-use Prim.Native.Nat.{ℕ, suc, _<_}
-use mathlib.Core.Path.{_≡_, refl}
+use Prim.Native.Nat.{ℕ, suc}
 use mathlib.Core.List.{List, [], _∷_, _++_, reverse, reverseAux}
-use lib.Dec.{T, ltb, lit<}
-use lib.ListN.{length, getD}
+use lib.Dec.{T, ltb}
 use Rattle.sifc_def.specs.State.{W}
 use Rattle.sifc_def.specs.Label.{Lab}
 use Rattle.sifc_trip.specs.Typed.{Expr, prim, un, bin, call, dot, idx, set, mut, Exprs, nil, more, Items, noItem, item, Stmt, varNone, varExpr, varArray, varTable, func, block, cond, loop, ret, retExpr, exprStmt, Stmts, stop, next, Branches, noBranch, elifOf, elseOf, renc, rencs, rencNames, rencItems, rencArray, rencS, rencSs, rencBs, rencProgram}

@@ -4,7 +4,7 @@ use mathlib.Core.Path.{_≡_, refl, sym, ap, _∙_, subst}
 use mathlib.Core.List.{List, [], _∷_, _++_, map, reverse}
 use mathlib.Core.Bool.{Bool, true, false}
 use native.Mathlib.Omega.{arith}
-use lib.Dec.{T, eqb, ltb, ltb→lt, eqb→eq}
+use lib.Dec.{eqb, ltb, ltb→lt, eqb→eq}
 use lib.ListN.{length, getD, List·getD-map}
 use Rattle.sifc_err.specs.declared.Ending.the-variants.{TrueEnd}
 use Rattle.sifc_lex.specs.Base.{span}
@@ -15,8 +15,7 @@ use Rattle.sifc_def.specs.Ast.{Program}
 use Rattle.sifc_def.specs.State.{W, tokenAt, wordIn}
 use Rattle.sifc_def.specs.Read.{isAscii}
 use Rattle.sifc_def.specs.Label.{Lab, lab}
-use Rattle.sifc_def.specs.Text.{text, line, lines, pieces, declarations}
-use Rattle.sifc_def.specs.Tree.{dec, gather}
+use Rattle.sifc_def.specs.Text.{text}
 use Rattle.sifc_trip.specs.Typed.{Stmts, prProgram, rencProgram, OkProgram, SaidSs, eofWord}
 use Rattle.sifc_bridge.specs.Bytes.{printed, joined, eof, Fine, AllFine, EachFine, Lined, print-lexed, print-ends, print-ascii, print-lined}
 use Rattle.sifc_bridge.specs.Words.{Tells, declWords, text-printed}

@@ -1,11 +1,9 @@
 -- A token of an ASCII script is a fine word; and what holds of each word of a typed tree is carried over.
 use Prim.Native.Nat.{ℕ, zero, suc, _+_, _-_, _≤_, _<_}
-use mathlib.Core.Path.{_≡_, refl, sym, ap, _∙_, subst}
+use mathlib.Core.Path.{_≡_, sym, subst}
 use mathlib.Core.List.{List, [], _∷_}
-use mathlib.Core.Bool.{Bool, true, false}
-use mathlib.Core.Logic.{_⊎_, inl, inr}
+use mathlib.Core.Logic.{inl, inr}
 use native.Mathlib.Omega.{arith}
-use lib.Dec.{T}
 use lib.ListN.{take, drop, length, getD, length-drop}
 use lib.Seq.{length-take-le}
 use Rattle.sifc_err.specs.declared.Token.{Token}
@@ -15,7 +13,7 @@ use Rattle.sifc_lex.specs.LexLaws.{Run, last, more, lex-runs}
 use Rattle.sifc_lex.specs.LexTrip.{Good, spell, AllWords, lex-all-words}
 use Rattle.sifc_def.specs.State.{W, tokenAt, wordIn}
 use Rattle.sifc_trip.specs.Typed.{Expr, prim, un, bin, call, dot, idx, set, mut, Exprs, nil, more as another, Items, noItem, item, Stmt, varNone, varExpr, varArray, varTable, func, block, cond, loop, ret, retExpr, exprStmt, Stmts, stop, next, Branches, noBranch, elifOf, elseOf, Said, Saids, SaidNames, SaidItems, SaidS, SaidSs, SaidBs}
-use Rattle.sifc_bridge.specs.Bytes.{speltOf, Plain, Fine}
+use Rattle.sifc_bridge.specs.Bytes.{Plain, Fine}
 
 -- ── a token of a script ──
 

@@ -1,14 +1,13 @@
 -- A lexed operator's text tells its kind: the strength that the text's definition gives it is the one that the walk reads it with.
-use Prim.Native.Nat.{ℕ, zero, suc, _+_, _-_, _≤_, _<_}
-use mathlib.Core.Path.{_≡_, refl, sym, ap, _∙_, subst, subst₂}
+use Prim.Native.Nat.{ℕ, _+_, _-_, _<_}
+use mathlib.Core.Path.{_≡_, refl, sym, subst, subst₂}
 use mathlib.Core.List.{List, [], _∷_, _++_}
 use mathlib.Core.Bool.{Bool, true, false, _&&_, not}
 use native.Mathlib.Omega.{arith}
 use lib.Dec.{T, eqb, eqb→eq}
 use lib.ListN.{take, drop, length}
 use lib.Seq.{take-append-seam}
-use Rattle.sifc_err.specs.declared.Ending.{Ending}
-use Rattle.sifc_err.specs.declared.Ending.the-variants.{UnknownChar, UnterminatedString, Panic}
+use Rattle.sifc_err.specs.declared.Ending.the-variants.{UnknownChar}
 use Rattle.sifc_lex.specs.declared.lex.Step.{Step}
 use Rattle.sifc_lex.specs.declared.lex.Step.the-variants.{Skip, Word, Stop}
 use Rattle.sifc_lex.specs.Base.{if_then_else_, same, span, member}

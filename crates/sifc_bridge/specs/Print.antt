@@ -1,6 +1,6 @@
 -- The print of a typed tree: it only puts words before the rest, and each word is one that is lexed to itself, the fixed ones by computation, the others because
 -- they were lexed.
-use Prim.Native.Nat.{ℕ, zero, suc, _≤_, _<_}
+use Prim.Native.Nat.{ℕ}
 use mathlib.Core.Path.{_≡_, refl, sym, ap, _∙_}
 use mathlib.Core.List.{List, [], _∷_, _++_, append-assoc}
 use mathlib.Core.Bool.{Bool, true, false, _&&_}
@@ -13,7 +13,7 @@ use Rattle.sifc_lex.specs.Lex.{step}
 use Rattle.sifc_lex.specs.LexTrip.{Good, sep}
 use Rattle.sifc_def.specs.State.{W}
 use Rattle.sifc_def.specs.Read.{isAscii}
-use Rattle.sifc_trip.specs.Typed.{Expr, prim, un, bin, call, dot, idx, set, mut, Exprs, nil, more, Items, noItem, item, Stmt, varNone, varExpr, varArray, varTable, func, block, cond, loop, ret, retExpr, exprStmt, Stmts, stop, next, Branches, noBranch, elifOf, elseOf, word, lp, rp, lb, rb, eq, period, comma, semi, arrow, dlb, drb, lbrace, rbrace, varWord, fnWord, returnWord, ifWord, elifWord, elseWord, forWord, inWord, eofWord, height, wrap, between, betweenNames, betweenItems, pr, prs, prNames, prItems, prS, prSs, prBs, prProgram, Said, Saids, SaidNames, SaidItems, SaidS, SaidSs, SaidBs}
+use Rattle.sifc_trip.specs.Typed.{Expr, prim, un, bin, call, dot, idx, set, mut, Exprs, nil, more, Items, noItem, item, Stmt, varNone, varExpr, varArray, varTable, func, block, cond, loop, ret, retExpr, exprStmt, Stmts, stop, next, Branches, noBranch, elifOf, elseOf, word, lp, rp, lb, rb, eq, period, comma, semi, arrow, dlb, drb, lbrace, rbrace, varWord, fnWord, returnWord, ifWord, elifWord, elseWord, forWord, inWord, height, wrap, between, betweenNames, betweenItems, pr, prs, prNames, prItems, prS, prSs, prBs, Said, Saids, SaidNames, SaidItems, SaidS, SaidSs, SaidBs}
 use Rattle.sifc_bridge.specs.Bytes.{Plain, Fine, AllFine, EachFine, joined}
 use Rattle.sifc_bridge.specs.Words.{declWords}
 

@@ -1,10 +1,10 @@
 -- What a reading finds does not depend on how much room it is given: two walks over one script, with rooms of their own, come to the same, unless one of them
 -- is refused for its rooms.
-use Prim.Native.Nat.{ℕ, zero, suc, _+_, _-_}
+use Prim.Native.Nat.{ℕ, zero, suc, _-_}
 use mathlib.Core.Path.{_≡_, refl}
 use mathlib.Core.List.{List, [], _∷_}
 use mathlib.Core.Option.{Option, none, some}
-use mathlib.Core.Bool.{Bool, true, false, _&&_, _||_, not}
+use mathlib.Core.Bool.{Bool, true, false}
 use lib.Dec.{T, eqb, leb, ltb}
 use lib.ListN.{length}
 use Rattle.sifc_err.specs.declared.Token.{Token}
@@ -12,16 +12,15 @@ use Rattle.sifc_err.specs.declared.Refusal.{Refusal}
 use Rattle.sifc_err.specs.declared.Refusal.the-variants.{NodesFull, SymbolsFull, ErrorsFull}
 use Rattle.sifc_err.specs.Refusal.{numberOf}
 use Rattle.sifc_lex.specs.Base.{if_then_else_, member}
-use Rattle.sifc_lex.specs.Reserved.{isStdLibFn}
 use Rattle.sifc_def.specs.declared.Err.{Err}
 use Rattle.sifc_def.specs.declared.Why.{Why}
 use Rattle.sifc_def.specs.declared.What.{What}
 use Rattle.sifc_def.specs.declared.What.the-variants.{Placeholder, Function, Variable, Other}
-use Rattle.sifc_def.specs.State.{Node, Sym, Ctx, St, Out, done, fail, refuse, M, Void, go-on, nameAt, panicAt, arrive, consume, list, raise, addErrorWPos, addError, throw, throwPast, expect, optional, matchIdent, orThrow, ident, push, setNodes}
+use Rattle.sifc_def.specs.State.{Node, Ctx, St, Out, done, fail, refuse, M, Void, go-on, nameAt, panicAt, arrive, consume, list, raise, addErrorWPos, addError, throw, throwPast, expect, optional, matchIdent, orThrow, ident, push, setNodes}
 use Rattle.sifc_def.specs.Symbols.{putAt, retrieve, store, setLevel, initScope, closeScope, setCheck}
 use Rattle.sifc_def.specs.Expr.{Rec, fuel, operators, levels, assignVar, assignToken, assignArray, assignNothing, assignTo, separator, paramList, single, callCounted, callDeclared, callName, isNamed, callNamed, literal, known, checkName, identExpr, assignExpr, unaryExpr, groupExpr, atExpr, primaryExpr, callPart, dot, index, postfix, fnCallExpr}
 use Rattle.sifc_def.specs.Stmt.{bind, withReturn, identNode, param, identPair, declareVar, arrayNodes, endIf, arrayItems, arrayDecl, tableItem, items, itemList, tableDecl, initial, varDecl, fnDecl, elifStmt, elseBlock, branches, ifStmt, forStmt, retStmt, exprStmt, stmt, decl, decls, block}
-use Rattle.sifc_def.specs.Walk.{End, start, walkers, giveUp, settled, topDecl, endRead, program, walk}
+use Rattle.sifc_def.specs.Walk.{start, walkers, giveUp, settled, topDecl, endRead, program, walk}
 
 -- a refusal for room: NodesFull, SymbolsFull, ErrorsFull
 unfoldable pub forRoom : Refusal → Bool

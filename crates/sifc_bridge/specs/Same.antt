@@ -1,13 +1,13 @@
 -- The arrays that a reading leaves tell its labels: two readings have the same tree, as document 01 words it, exactly when their label lists are equal.
-use Prim.Native.Nat.{ℕ, zero, suc, _+_, _-_, _*_, _/_, _%_, _≤_, _<_}
+use Prim.Native.Nat.{ℕ, zero, suc, _+_, _-_, _*_, _/_, _%_, _<_}
 use mathlib.Core.Path.{_≡_, refl, sym, ap, ap₂, _∙_, subst}
 use mathlib.Core.List.{List, [], _∷_, _++_, map}
 use mathlib.Core.Bool.{Bool, true, false}
-use mathlib.Core.Logic.{_⊎_, inl, inr}
+use mathlib.Core.Logic.{inl, inr}
 use native.Mathlib.Omega.{arith}
 use native.Mathlib.Nat.{add-mul-mod-self-left, mod-eq-of-lt, add-mul-div-left, div-eq-of-lt, zero-add}
-use lib.Dec.{T, eqb, ltb, eqb→eq, ltb→lt, lit<}
-use lib.ListN.{take, length, getD, replicate, length-map, List·getD-map, List·getD-eq-default}
+use lib.Dec.{T, eqb, eqb→eq, ltb→lt, lit<}
+use lib.ListN.{length, getD, replicate, length-map, List·getD-map}
 use lib.Seq.{ext-getD}
 use Rattle.sifc_err.specs.declared.Token.{Token}
 use Rattle.sifc_lex.specs.Base.{if_then_else_, member, part}

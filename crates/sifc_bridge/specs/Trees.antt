@@ -1,8 +1,8 @@
 -- The tree of labels that a typed tree is: the labels of a typed program, oldest first, are read back (`dec`) to it.
-use Prim.Native.Nat.{ℕ, zero, suc, _+_}
-use mathlib.Core.Path.{_≡_, refl, sym, ap, ap₂, _∙_}
+use Prim.Native.Nat.{ℕ, suc, _+_}
+use mathlib.Core.Path.{_≡_, refl, ap, _∙_}
 use mathlib.Core.List.{List, [], _∷_, _++_, reverse, reverseAux, reverseAux-append}
-use mathlib.Core.Bool.{Bool, true, false}
+use mathlib.Core.Bool.{Bool, false}
 use native.Mathlib.Nat.{zero-add, suc-add, add-suc, add-zero}
 use lib.ListN.{drop, length}
 use Rattle.sifc_lex.specs.Reserved.{isStdLibFn}

@@ -1,27 +1,23 @@
 -- The words that the definition of the canonical text gives the tree of a typed program are the texts of the typed program's print.
-use Prim.Native.Nat.{ℕ, zero, suc, _+_, _-_, _≤_, _<_}
-use mathlib.Core.Path.{_≡_, refl, sym, ap, ap₂, _∙_}
-use mathlib.Core.List.{List, [], _∷_, _++_, map, append-assoc, append-nil, reverse}
+use Prim.Native.Nat.{ℕ, suc, _-_, _≤_, _<_}
+use mathlib.Core.Path.{_≡_, refl, sym, ap, _∙_}
+use mathlib.Core.List.{List, [], _∷_, _++_, append-assoc, append-nil, reverse}
 use mathlib.Core.Option.{Option}
 use mathlib.Core.Bool.{Bool, true, false, not}
 use mathlib.Core.Logic.{_⊎_, inl, inr}
 use native.Mathlib.Omega.{arith}
-use lib.Dec.{T, eqb, leb, ltb, leb→le, le→leb, nleb→lt, ltb→lt, lt→ltb, nltb→le, not-T}
-use lib.ListN.{length}
+use lib.Dec.{T, leb, ltb, leb→le, le→leb, nleb→lt, ltb→lt, lt→ltb, nltb→le, not-T}
 use Rattle.sifc_lex.specs.Base.{if_then_else_, member}
 use Rattle.sifc_lex.specs.BaseLaws.{if-either}
 use Rattle.sifc_def.specs.declared.What.{What}
-use Rattle.sifc_def.specs.Ast.{Block}
 use Rattle.sifc_def.specs.State.{W, Sym}
 use Rattle.sifc_def.specs.Expr.{looseness}
-use Rattle.sifc_def.specs.Label.{Lab}
-use Rattle.sifc_def.specs.Tree.{Tree, tree, Forest, leaf, grow, dec}
-use Rattle.sifc_def.specs.Text.{Words, Piece, opStrength, strengthOf, paren, commas, row, orElse, binary, unary, after, closed, valued, branched, wordsOf, piece, pieces, line, lines, declarations, text}
-use Rattle.sifc_trip.specs.Typed.{Expr, prim, un, bin, call, dot, idx, set, mut, Exprs, nil, more, Items, noItem, item, Stmt, varNone, varExpr, varArray, varTable, func, block, cond, loop, ret, retExpr, exprStmt, Stmts, stop, next, Branches, noBranch, elifOf, elseOf, lp, rp, lb, rb, eq, period, comma, semi, arrow, dlb, drb, lbrace, rbrace, varWord, fnWord, returnWord, ifWord, elifWord, elseWord, forWord, inWord, height, wrap, between, betweenNames, betweenItems, pr, prs, prNames, prItems, prS, prSs, prBs, rencProgram, ends, Ok, Oks, OkItems, OkNames, OkS, OkSs, OkBs, envS, envSs, inside, bound, seen, Said, Saids, SaidNames, SaidItems, SaidS, SaidSs, SaidBs}
+use Rattle.sifc_def.specs.Text.{Words, Piece, opStrength, strengthOf, paren, commas, row, orElse, binary, unary, after, closed, valued, branched, wordsOf, piece, pieces, lines, text}
+use Rattle.sifc_trip.specs.Typed.{Expr, prim, un, bin, call, dot, idx, set, mut, Exprs, nil, more, Items, noItem, item, Stmt, varNone, varExpr, varArray, varTable, func, block, cond, loop, ret, retExpr, exprStmt, Stmts, stop, next, Branches, noBranch, elifOf, elseOf, lp, rp, lb, rb, eq, period, comma, semi, arrow, dlb, drb, lbrace, rbrace, varWord, fnWord, returnWord, ifWord, elifWord, elseWord, forWord, inWord, height, wrap, between, betweenNames, betweenItems, pr, prs, prNames, prItems, prS, prSs, prBs, rencProgram, ends, Ok, Oks, OkItems, OkS, OkSs, OkBs, envS, seen, Said, Saids, SaidItems, SaidS, SaidSs, SaidBs}
 use Rattle.sifc_lex.specs.LexTrip
 use Rattle.sifc_bridge.specs.Bytes
 use Rattle.sifc_bridge.specs.Bytes.{texts, printed, printed-more}
-use Rattle.sifc_bridge.specs.Trees.{atom, one, blockTree, treeE, treesE, treesN, treesI, arrayForest, treeS, treesS, treesB, treeProgram, program-decoded}
+use Rattle.sifc_bridge.specs.Trees.{atom, treeE, treesE, treesN, treesI, arrayForest, treeS, treesS, treesB, treeProgram, program-decoded}
 
 -- ── lists of words, and prints before a rest ──
 
