@@ -34,7 +34,6 @@ limits =
     ∷ ample (ascii "print(" ++ many 65 "1," ++ ascii ");") (early 1 (listed 1 134 7 64 0 ∷ []) 1 134 7)
     ∷ ample (ascii "print(" ++ many 64 "1,") (early 1 (listed 2 0 7 64 0 ∷ []) 2 0 7)
     ∷ ample (many 768 "{") (early 1 [] 2 0 6)
-    ∷ ample (many 769 "{") (no TooDeep)
     ∷ ample (many 768 "{" ++ ascii "fn f() 5") (no TooDeep)
     ∷ ample (many 765 "-" ++ ascii "1;") (ok 768 [] false)
     ∷ ample (many 766 "-" ++ ascii "1;") (no TooDeep)
@@ -105,6 +104,8 @@ corners =
     ∷ says 3 1 10 (ascii "var a; var a; var b;") (no SymbolsFull)
     ∷ says 1 20 10 (ascii "var t=[[]]// c") (no (SourceFault 1 10))
     ∷ says 9 0 10 (ascii "var t=[[]]// c") (no (SourceFault 1 10))
+    ∷ says 9 0 10 (ascii "var t=[[]] 1;") (no SymbolsFull)
+    ∷ says 9 0 10 (ascii "var t=[] 1;") (early 1 [] 1 9 6)
     ∷ says 4 20 0 (ascii "if 1{}else{}else{}") (no ErrorsFull)
     ∷ says 4 20 9 (ascii "if 1{}else{}else{}") (no NodesFull)
     ∷ says 9 0 10 (ascii "fn f// c") (no (SourceFault 1 4))
@@ -117,6 +118,7 @@ corners =
     ∷ writes 23 "var a=(1+2)*3;" (Refused TextFull) ""
     ∷ writes 9 "a;" (Refused Flagged) ""
     ∷ writes 9 "" (Wrote 0) ""
+    ∷ writes 40 "(1*2)%3; 1*(2%3);" (Wrote 28) "( 1 * 2 ) % 3 ;\n1 * 2 % 3 ;\n"
     ∷ writes 9 "5 _" (Refused Flagged) ""
     ∷ writes 200 "fn f(a,b,){ if a {return b;} elif !(-b) {f(1,2);} }" (Wrote 77) "fn f ( a , b ) { if a { return b ; } elif ! - b { f ( 1 , 2 ) ; } return ; }\n"
     ∷ writes 200 "var x=[1,2,]; x[0]=@x[(1+2)-(3-4)]%2*3; for i,j in x { print(i,); }" (Wrote 97) "var x = [ 1 , 2 ] ;\nx [ 0 ] = x [ 1 + 2 - ( 3 - 4 ) ] % 2 * 3 ;\nfor i , j in x { print ( i ) ; }\n"
