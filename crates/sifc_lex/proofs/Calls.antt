@@ -20,7 +20,7 @@ use Rattle.sifc_lex.specs.declared.call.Checked.the-variants as check
 use Rattle.sifc_lex.specs.declared.call.TokensAnswer.the-variants.{Refused}
 use Rattle.sifc_lex.specs.Base.{if_then_else_, span}
 use Rattle.sifc_lex.specs.Lex.{ascii, lex, ending, endAt}
-use Rattle.sifc_lex.specs.Loaded.{Held, LoadedBy, Loaded}
+use Rattle.sifc_lex.specs.Loaded.{Loaded, usedBy}
 use Rattle.sifc_lex.specs.Tokens.{offsOf, wordsOf, tokenWord, padded, zeroed, LexCall, lexCalled, lexCall, checkOf, Answer, answerOf, TokensCall, tokensCalled, refusal, counted, byEnding, afterEntry, tokensCall}
 
 length-offs : (ts : List Token) → length (offsOf ts) ≡ length ts
@@ -45,35 +45,46 @@ pub front-none : (a a′ b : List ℕ) → length a ≡ length b → a′ ≡ ta
 unfolding zeroed
 front-none a a′ b l c = c ∙ ap (λ (i : ℕ). replicate i 0) (let z : length a - 0 ≡ length b = omega arith in z)
 
-module _ (s offs words offs′ words′ : List ℕ) (r : LexAnswer) (l : Loaded s offs words r offs′ words′) where
-  module _ (n at : ℕ) (e : Ending) (is : r ≡ Ended n e at) where
-    held : Held s n e at offs′ words′
-    held = subst (λ (x : LexAnswer). LoadedBy s x offs′ words′) is (l .by)
+module _ (s offs words offs′ words′ : List ℕ) (n at : ℕ) (e : Ending) (l : Loaded s offs words (Ended n e at) offs′ words′) where
+  ended-offs : n ≤ length offs′
+  ended-offs = front-fits offs′ (offsOf (lex s)) n (l .by .at-offs) (l .by .count ∙ sym (length-offs (lex s)))
 
-    pub ended-offs : n ≤ length offs′
-    ended-offs = front-fits offs′ (offsOf (lex s)) n (held .at-offs) (held .count ∙ sym (length-offs (lex s)))
+  ended-words : n ≤ length words′
+  ended-words = front-fits words′ (wordsOf (lex s)) n (l .by .at-words) (l .by .count ∙ sym (length-words (lex s)))
 
-    pub ended-words : n ≤ length words′
-    ended-words = front-fits words′ (wordsOf (lex s)) n (held .at-words) (held .count ∙ sym (length-words (lex s)))
-
-    pub ended-call : (offs″ words″ : List ℕ) → offs″ ≡ take n offs′ ++ replicate (length offs′ - n) 0 → words″ ≡ take n words′ ++ replicate (length words′ - n) 0 → lexCalled (Ended n e at) offs″ words″ ≡ lexCall s offs words
-    unfolding lexCall if_then_else_
-    ended-call offs″ words″ co cw =
-        let po : offs″ ≡ padded (offsOf (lex s)) (length offs) = front-padded offs′ offs″ (offsOf (lex s)) n (length offs) (held .at-offs) (held .count ∙ sym (length-offs (lex s))) (l .long-offs) co in
-        let pw : words″ ≡ padded (wordsOf (lex s)) (length words) = front-padded words′ words″ (wordsOf (lex s)) n (length words) (held .at-words) (held .count ∙ sym (length-words (lex s))) (l .long-words) cw in
-        let fits : length (lex s) ≤ length offs = omega (arith, ended-offs, held .count, l .long-offs) in
-        let pn : n ≡ length (lex s) = held .count in
-        let pe : e ≡ ending s = held .ends in
-        let pa : at ≡ endAt s = held .place in
-        rw (le-ltb (length offs) (length (lex s)) fits) (cc)
-
-  pub full-call : r ≡ Full → (offs″ words″ : List ℕ) → offs″ ≡ take 0 offs′ ++ replicate (length offs′ - 0) 0 → words″ ≡ take 0 words′ ++ replicate (length words′ - 0) 0 → lexCalled Full offs″ words″ ≡ lexCall s offs words
+  ended-call : (offs″ words″ : List ℕ) → offs″ ≡ take n offs′ ++ replicate (length offs′ - n) 0 → words″ ≡ take n words′ ++ replicate (length words′ - n) 0 → lexCalled (Ended n e at) offs″ words″ ≡ lexCall s offs words
   unfolding lexCall if_then_else_
-  full-call is offs″ words″ co cw =
-      let f : length offs′ < length (lex s) = subst (λ (x : LexAnswer). LoadedBy s x offs′ words′) is (l .by) in
-      let po : offs″ ≡ zeroed offs = front-none offs′ offs″ offs (l .long-offs) co in
-      let pw : words″ ≡ zeroed words = front-none words′ words″ words (l .long-words) cw in
-      rw (lt-ltb (length offs) (length (lex s)) (omega (arith, l .long-offs))) (cc)
+  ended-call offs″ words″ co cw =
+      let po : offs″ ≡ padded (offsOf (lex s)) (length offs) = front-padded offs′ offs″ (offsOf (lex s)) n (length offs) (l .by .at-offs) (l .by .count ∙ sym (length-offs (lex s))) (l .long-offs) co in
+      let pw : words″ ≡ padded (wordsOf (lex s)) (length words) = front-padded words′ words″ (wordsOf (lex s)) n (length words) (l .by .at-words) (l .by .count ∙ sym (length-words (lex s))) (l .long-words) cw in
+      let fits : length (lex s) ≤ length offs = omega (arith, ended-offs, l .by .count, l .long-offs) in
+      let pn : n ≡ length (lex s) = l .by .count in
+      let pe : e ≡ ending s = l .by .ends in
+      let pa : at ≡ endAt s = l .by .place in
+      rw (le-ltb (length offs) (length (lex s)) fits) (cc)
+
+full-call : (s offs words offs′ words′ : List ℕ) → Loaded s offs words Full offs′ words′
+    → (offs″ words″ : List ℕ) → offs″ ≡ take 0 offs′ ++ replicate (length offs′ - 0) 0 → words″ ≡ take 0 words′ ++ replicate (length words′ - 0) 0 → lexCalled Full offs″ words″ ≡ lexCall s offs words
+unfolding lexCall if_then_else_
+full-call s offs words offs′ words′ l offs″ words″ co cw =
+    let po : offs″ ≡ zeroed offs = front-none offs′ offs″ offs (l .long-offs) co in
+    let pw : words″ ≡ zeroed words = front-none words′ words″ words (l .long-words) cw in
+    rw (lt-ltb (length offs) (length (lex s)) (omega (arith, l .by, l .long-offs))) (cc)
+
+-- What the loop left, with everything past the used part cleared, is what lexing into the arrays is to leave.
+pub used-offs : (s offs words offs′ words′ : List ℕ) (r : LexAnswer) → Loaded s offs words r offs′ words′ → usedBy r ≤ length offs′
+used-offs s offs words offs′ words′ (Ended n e at) l = ended-offs s offs words offs′ words′ n at e l
+used-offs s offs words offs′ words′ Full l = omega arith
+
+pub used-words : (s offs words offs′ words′ : List ℕ) (r : LexAnswer) → Loaded s offs words r offs′ words′ → usedBy r ≤ length words′
+used-words s offs words offs′ words′ (Ended n e at) l = ended-words s offs words offs′ words′ n at e l
+used-words s offs words offs′ words′ Full l = omega arith
+
+pub loaded-call : (s offs words offs′ words′ : List ℕ) (r : LexAnswer) → Loaded s offs words r offs′ words′
+    → (offs″ words″ : List ℕ) → offs″ ≡ take (usedBy r) offs′ ++ replicate (length offs′ - usedBy r) 0 → words″ ≡ take (usedBy r) words′ ++ replicate (length words′ - usedBy r) 0
+    → lexCalled r offs″ words″ ≡ lexCall s offs words
+loaded-call s offs words offs′ words′ (Ended n e at) l offs″ words″ co cw = ended-call s offs words offs′ words′ n at e l offs″ words″ co cw
+loaded-call s offs words offs′ words′ Full l offs″ words″ co cw = full-call s offs words offs′ words′ l offs″ words″ co cw
 
 -- The tokens call out of what lexing into the arrays gave.
 pub entry-uneven : (s offs words : List ℕ) → (length offs ≡ length words → ⊥) → tokensCalled (refusal 3 0 0) offs words ≡ afterEntry s offs words

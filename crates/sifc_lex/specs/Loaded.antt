@@ -24,3 +24,8 @@ pub record Loaded (s offs words : List ℕ) (r : LexAnswer) (offs′ words′ : 
   pub long-offs : length offs′ ≡ length offs
   pub long-words : length words′ ≡ length words
   pub by : LoadedBy s r offs′ words′
+
+-- how many elements of the arrays an answer uses
+abbrev pub usedBy : LexAnswer → ℕ
+usedBy (Ended n e at) = n
+usedBy Full = 0

@@ -12,7 +12,7 @@ ghost use mathlib.Core.List.{_++_};
 ghost use Prim.Native.Nat.{_+_, _*_, _-_, _≤_, _<_};
 ghost use lib.ListN.{length, take, set, replicate};
 ghost use Rattle.sifc_lex.specs.Tokens.{lexCalled, lexCall, checkOf, tokensCalled, answerOf, afterEntry, byEnding, tokensCall};
-ghost use Rattle.sifc_lex.specs.Loaded.{Loaded};
+ghost use Rattle.sifc_lex.specs.Loaded.{Loaded, usedBy};
 
 // What the tokens call answers.
 pub enum TokensAnswer {
@@ -71,11 +71,11 @@ fn lex_all(script: &[u8], offs: &mut [u32], words: &mut [u32]) -> LexAnswer
                 at += len;
             }
             Step::Stop(k, ending) => {
-                if offs.len() <= n {
-                    return LexAnswer::Full;
+                if n < offs.len() {
+                    put(offs, words, n, end_kind(ending), at + k, 0);
+                    return LexAnswer::Ended(n + 1, ending, at + k);
                 }
-                put(offs, words, n, end_kind(ending), at + k, 0);
-                return LexAnswer::Ended(n + 1, ending, at + k);
+                return LexAnswer::Full;
             }
         }
     }
@@ -88,17 +88,19 @@ pub fn lex_tokens(script: &[u8], offs: &mut [u32], words: &mut [u32]) -> LexAnsw
     ensures { λ r. ⌜ lexCalled r (now (offs .exit)) (now (words .exit)) ≡ lexCall (now (script .entry)) (now (offs .entry)) (now (words .entry)) ⌝ }
 {
     let lexed = lex_all(script, offs, words);
+    let used = used_by(lexed);
+    clear_from(offs, used);
+    clear_from(words, used);
+    lexed
+}
+
+// How many elements of the arrays an answer uses.
+fn used_by(lexed: LexAnswer) -> usize
+    ensures { λ r. ⌜ r ≡ usedBy lexed ⌝ }
+{
     match lexed {
-        LexAnswer::Ended(n, ending, at) => {
-            clear_from(offs, n);
-            clear_from(words, n);
-            LexAnswer::Ended(n, ending, at)
-        }
-        LexAnswer::Full => {
-            clear_from(offs, 0);
-            clear_from(words, 0);
-            LexAnswer::Full
-        }
+        LexAnswer::Ended(n, _, _) => n,
+        LexAnswer::Full => 0,
     }
 }
 

@@ -1,0 +1,4 @@
+pub mod Names
+pub mod Levels
+pub mod Looking
+pub mod Entries

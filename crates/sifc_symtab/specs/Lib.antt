@@ -1,0 +1,4 @@
+pub mod Toks
+pub mod Table
+pub mod Scan
+pub mod Laws
