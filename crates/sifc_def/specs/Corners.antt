@@ -7,9 +7,15 @@ use mathlib.Core.Bool.{Bool, true, false}
 use lib.ListN.{replicate}
 use Rattle.sifc_err.specs.declared.Refusal.{Refusal}
 use Rattle.sifc_err.specs.declared.Refusal.the-variants.{LongScript, NotAscii, SourceFault, TooDeep, NodesFull, SymbolsFull, ErrorsFull, Flagged, TextFull}
+use Rattle.sifc_err.specs.declared.parse_err.ParseErrTy.the-variants.{TknMismatch}
+use Rattle.sifc_lex.specs.Kind.{LeftParen, RightParen, Semicolon, Eq, Ident, Str, Val, Var, Eof, LexPanic}
+use Rattle.sifc_lex.specs.Lex.{token}
+use Rattle.sifc_def.specs.declared.Early.the-variants.{Never, By}
 use Rattle.sifc_def.specs.declared.Texting.the-variants.{Wrote, Refused}
+use Rattle.sifc_def.specs.Ast.{Program, ExprStmt, VarDecl, FnCallExpr, PrimaryExpr}
+use Rattle.sifc_def.specs.State.{node}
 use Rattle.sifc_def.specs.Ascii.{ascii}
-use Rattle.sifc_def.specs.Case.{Case, says, writes, listed, Short, no, ok, early, ran, said}
+use Rattle.sifc_def.specs.Case.{Case, reads, says, writes, answers, listed, Short, no, ok, early, ran, said}
 
 -- with room enough
 abbrev ample : List ℕ → Short → Case
@@ -92,6 +98,16 @@ corners =
     ∷ ample (ascii "var a; var b=[a[0]];") (early 2 [] 1 17 6)
     -- a number's second point, and a number before a spaced point
     ∷ ample (ascii "1.2.3; 1..a; 1 .a;") (ok 13 [] false)
+    -- a lexing panic behind an early end; a string that names a standard function; the example of the listing program
+    ∷ reads "5 5 // c"
+    (answers (token Val 0 1 ∷ token Val 2 1 ∷ token LexPanic 4 0 ∷ []) (node Program false 0 0 ∷ []) [] true
+    (By (record { line = 1; pos = 2; ty = TknMismatch Semicolon (token Val 2 1) })))
+    ∷ reads "\"print\"(1);"
+    (answers (token Str 0 7 ∷ token LeftParen 7 1 ∷ token Val 8 1 ∷ token RightParen 9 1 ∷ token Semicolon 10 1 ∷ token Eof 11 0 ∷ [])
+    (node PrimaryExpr false 0 0 ∷ node PrimaryExpr false 0 2 ∷ node FnCallExpr true 2 0 ∷ node ExprStmt false 1 0 ∷ node Program false 1 0 ∷ []) [] false Never)
+    ∷ reads "var a = 1;\n"
+    (answers (token Var 0 3 ∷ token Ident 4 1 ∷ token Eq 6 1 ∷ token Val 8 1 ∷ token Semicolon 9 1 ∷ token Eof 11 0 ∷ [])
+    (node PrimaryExpr false 0 3 ∷ node VarDecl true 1 1 ∷ node Program false 1 0 ∷ []) [] false Never)
     -- where the rooms end: nodes, symbols, errors
     ∷ says 0 20 10 (ascii "1// c") (no NodesFull)
     ∷ says 0 20 10 (ascii "fn f(a// c") (no (SourceFault 1 6))
