@@ -7,9 +7,15 @@ use mathlib.Core.Bool.{Bool, true, false}
 use lib.ListN.{replicate}
 use Rattle.sifc_err.specs.declared.Refusal.{Refusal}
 use Rattle.sifc_err.specs.declared.Refusal.the-variants.{LongScript, NotAscii, SourceFault, TooDeep, NodesFull, SymbolsFull, ErrorsFull, Flagged, TextFull}
+use Rattle.sifc_err.specs.declared.parse_err.ParseErrTy.the-variants.{TknMismatch}
+use Rattle.sifc_lex.specs.Kind.{LeftParen, RightParen, Semicolon, Eq, Ident, Str, Val, Var, Eof, LexPanic}
+use Rattle.sifc_lex.specs.Lex.{token}
+use Rattle.sifc_def.specs.declared.Early.the-variants.{Never, By}
 use Rattle.sifc_def.specs.declared.Texting.the-variants.{Wrote, Refused}
+use Rattle.sifc_def.specs.Ast.{Program, ExprStmt, VarDecl, FnCallExpr, PrimaryExpr}
+use Rattle.sifc_def.specs.State.{node}
 use Rattle.sifc_def.specs.Ascii.{ascii}
-use Rattle.sifc_def.specs.Case.{Case, says, writes, listed, Short, no, ok, early, ran, said}
+use Rattle.sifc_def.specs.Case.{Case, reads, says, writes, answers, listed, Short, no, ok, early, ran, said}
 
 -- with room enough
 abbrev ample : List ℕ → Short → Case
@@ -34,7 +40,6 @@ limits =
     ∷ ample (ascii "print(" ++ many 65 "1," ++ ascii ");") (early 1 (listed 1 134 7 64 0 ∷ []) 1 134 7)
     ∷ ample (ascii "print(" ++ many 64 "1,") (early 1 (listed 2 0 7 64 0 ∷ []) 2 0 7)
     ∷ ample (many 768 "{") (early 1 [] 2 0 6)
-    ∷ ample (many 769 "{") (no TooDeep)
     ∷ ample (many 768 "{" ++ ascii "fn f() 5") (no TooDeep)
     ∷ ample (many 765 "-" ++ ascii "1;") (ok 768 [] false)
     ∷ ample (many 766 "-" ++ ascii "1;") (no TooDeep)
@@ -93,6 +98,16 @@ corners =
     ∷ ample (ascii "var a; var b=[a[0]];") (early 2 [] 1 17 6)
     -- a number's second point, and a number before a spaced point
     ∷ ample (ascii "1.2.3; 1..a; 1 .a;") (ok 13 [] false)
+    -- a lexing panic behind an early end; a string that names a standard function; the example of the listing program
+    ∷ reads "5 5 // c"
+    (answers (token Val 0 1 ∷ token Val 2 1 ∷ token LexPanic 4 0 ∷ []) (node Program false 0 0 ∷ []) [] true
+    (By (record { line = 1; pos = 2; ty = TknMismatch Semicolon (token Val 2 1) })))
+    ∷ reads "\"print\"(1);"
+    (answers (token Str 0 7 ∷ token LeftParen 7 1 ∷ token Val 8 1 ∷ token RightParen 9 1 ∷ token Semicolon 10 1 ∷ token Eof 11 0 ∷ [])
+    (node PrimaryExpr false 0 0 ∷ node PrimaryExpr false 0 2 ∷ node FnCallExpr true 2 0 ∷ node ExprStmt false 1 0 ∷ node Program false 1 0 ∷ []) [] false Never)
+    ∷ reads "var a = 1;\n"
+    (answers (token Var 0 3 ∷ token Ident 4 1 ∷ token Eq 6 1 ∷ token Val 8 1 ∷ token Semicolon 9 1 ∷ token Eof 11 0 ∷ [])
+    (node PrimaryExpr false 0 3 ∷ node VarDecl true 1 1 ∷ node Program false 1 0 ∷ []) [] false Never)
     -- where the rooms end: nodes, symbols, errors
     ∷ says 0 20 10 (ascii "1// c") (no NodesFull)
     ∷ says 0 20 10 (ascii "fn f(a// c") (no (SourceFault 1 6))
@@ -105,6 +120,8 @@ corners =
     ∷ says 3 1 10 (ascii "var a; var a; var b;") (no SymbolsFull)
     ∷ says 1 20 10 (ascii "var t=[[]]// c") (no (SourceFault 1 10))
     ∷ says 9 0 10 (ascii "var t=[[]]// c") (no (SourceFault 1 10))
+    ∷ says 9 0 10 (ascii "var t=[[]] 1;") (no SymbolsFull)
+    ∷ says 9 0 10 (ascii "var t=[] 1;") (early 1 [] 1 9 6)
     ∷ says 4 20 0 (ascii "if 1{}else{}else{}") (no ErrorsFull)
     ∷ says 4 20 9 (ascii "if 1{}else{}else{}") (no NodesFull)
     ∷ says 9 0 10 (ascii "fn f// c") (no (SourceFault 1 4))
@@ -117,6 +134,7 @@ corners =
     ∷ writes 23 "var a=(1+2)*3;" (Refused TextFull) ""
     ∷ writes 9 "a;" (Refused Flagged) ""
     ∷ writes 9 "" (Wrote 0) ""
+    ∷ writes 40 "(1*2)%3; 1*(2%3);" (Wrote 28) "( 1 * 2 ) % 3 ;\n1 * 2 % 3 ;\n"
     ∷ writes 9 "5 _" (Refused Flagged) ""
     ∷ writes 200 "fn f(a,b,){ if a {return b;} elif !(-b) {f(1,2);} }" (Wrote 77) "fn f ( a , b ) { if a { return b ; } elif ! - b { f ( 1 , 2 ) ; } return ; }\n"
     ∷ writes 200 "var x=[1,2,]; x[0]=@x[(1+2)-(3-4)]%2*3; for i,j in x { print(i,); }" (Wrote 97) "var x = [ 1 , 2 ] ;\nx [ 0 ] = x [ 1 + 2 - ( 3 - 4 ) ] % 2 * 3 ;\nfor i , j in x { print ( i ) ; }\n"

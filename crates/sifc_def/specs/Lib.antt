@@ -19,6 +19,7 @@ pub mod ExprLaws
 pub mod StmtLaws
 pub mod WalkLaws
 pub mod FuelLaws
+pub mod ReadLaws
 pub mod Case
 pub mod Cases
 pub mod Corners

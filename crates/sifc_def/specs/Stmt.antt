@@ -126,12 +126,12 @@ module _ (c : Ctx) (r : Rec) where
 
   -- the name is stored before `;` is expected
   unfoldable pub tableDecl : ℕ → Void
-  tableDecl i = do
+  tableDecl name = do
     expect c DoubleLeftBracket
     itemList
     expect c DoubleRightBracket
-    push c Table false 1 i
-    store c i Other
+    push c Table false 1 name
+    store c name Other
     expect c Semicolon
 
   -- the value of a variable, with the `;`
