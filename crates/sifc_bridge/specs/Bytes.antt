@@ -16,7 +16,7 @@ use Rattle.sifc_lex.specs.Lex.{step, onStep, ended, lexed, lex, ending}
 use Rattle.sifc_lex.specs.LexLaws.{lexAt, lexAt-turn}
 use Rattle.sifc_lex.specs.LexTrip.{Spelt, sep, Good, Item, bytes, Goods, spell, spelt, lex-words}
 use Rattle.sifc_def.specs.State.{W, wordIn}
-use Rattle.sifc_def.specs.Read.{isAscii}
+use Rattle.sifc_lex.specs.Lex.{ascii as isAscii}
 use Rattle.sifc_def.specs.Text.{line}
 
 -- ── words and their separators ──

@@ -13,14 +13,18 @@ use Rattle.sifc_err.specs.declared.Token.{Token}
 use Rattle.sifc_err.specs.declared.Refusal.{Refusal}
 use Rattle.sifc_err.specs.declared.Refusal.the-variants.{LongScript, NotAscii, Uneven, TokensFull, SourceFault, TooDeep, NodesFull, SymbolsFull, ErrorsFull, Flagged, TextFull}
 use Rattle.sifc_lex.specs.Base.{if_then_else_, member, span}
-use Rattle.sifc_lex.specs.Lex.{lex, ending}
+use Rattle.sifc_lex.specs.Lex.{ascii as isAscii, lex, ending}
 use Rattle.sifc_def.specs.declared.Reading.{Reading}
 use Rattle.sifc_def.specs.declared.Reading.the-variants.{Read, Refused}
 use Rattle.sifc_def.specs.declared.Texting.{Texting}
 use Rattle.sifc_def.specs.declared.Texting.the-variants.{Wrote, Refused as NoText}
 use Rattle.sifc_def.specs.State.{St, Out, done, fail, refuse}
 use Rattle.sifc_def.specs.Walk.{End, walk}
-use Rattle.sifc_def.specs.Read.{longest, depthLimit, Arrays, Rooms, roomsOf, clearedArrays, cleared, padded, isAscii, even, entry, Found, Outcome, found, refused, faultOf, ctxOf, ended, read, Called, called, summary, filled, answered, reading, Written, written, textFound, texted, textCall}
+use Rattle.sifc_lex.specs.declared.call.Checked.{Checked}
+use Rattle.sifc_lex.specs.declared.call.Checked.the-variants.{Fine}
+use Rattle.sifc_lex.specs.declared.call.Checked.the-variants as check
+use Rattle.sifc_lex.specs.Tokens.{padded, zeroed, checkOf}
+use Rattle.sifc_def.specs.Read.{depthLimit, Arrays, Rooms, roomsOf, clearedArrays, even, entry, Found, Outcome, found, refused, faultOf, ctxOf, ended, read, Called, called, summary, filled, answered, reading, Written, written, textFound, texted, textCall}
 use Rattle.sifc_bridge.specs.Bytes.{Plain}
 use Rattle.sifc_bridge.specs.Demand.{sizeOrDepth, Fits, FitsText, FlagDown, Writes, answeredBytes, bytesOf}
 use Rattle.sifc_bridge.specs.Rooms.{forRoom, Alike, same-out, left-out, right-out, walk-alike}
@@ -28,20 +32,20 @@ use Rattle.sifc_bridge.specs.Rooms.{forRoom, Alike, same-out, left-out, 
 -- ── the definition's calls, one step open ──
 
 -- a reading, by what entry says and by what is read
-byEntry : List ℕ → Arrays → Option Refusal → Outcome → Called Reading
-byEntry s a x o = elim x [ some r ↦ called (Refused r) a | none ↦ answered s a o ]
+byEntry : List ℕ → Arrays → Checked → Outcome → Called Reading
+byEntry s a x o = elim x [ check.Refused r ↦ called (Refused r) a | Fine ↦ answered s a o ]
 
 -- The reading call is that.
-reading-is : (s : List ℕ) (a : Arrays) → reading s a ≡ byEntry s a (entry s (even a)) (read (roomsOf a) s)
+reading-is : (s : List ℕ) (a : Arrays) → reading s a ≡ byEntry s a (entry s a) (read (roomsOf a) s)
 unfolding reading byEntry
 reading-is s a = refl
 
 -- a text call, likewise
-byEntryText : List ℕ → Arrays → List ℕ → Option Refusal → Outcome → Written
-byEntryText s a t x o = elim x [ some r ↦ written (NoText r) a t | none ↦ texted s a t o ]
+byEntryText : List ℕ → Arrays → List ℕ → Checked → Outcome → Written
+byEntryText s a t x o = elim x [ check.Refused r ↦ written (NoText r) a t | Fine ↦ texted s a t o ]
 
 -- The text call is that.
-text-is : (s : List ℕ) (a : Arrays) (t : List ℕ) → textCall s a t ≡ byEntryText s a t (entry s (even a)) (read (roomsOf a) s)
+text-is : (s : List ℕ) (a : Arrays) (t : List ℕ) → textCall s a t ≡ byEntryText s a t (entry s a) (read (roomsOf a) s)
 unfolding textCall byEntryText
 text-is s a t = refl
 
@@ -57,26 +61,40 @@ read-is r s = refl
 -- ── entry ──
 
 -- there is a refusal for size or depth
-unfoldable pub Sized : Option Refusal → Type 0
-Sized none = ⊥
-Sized (some r) = T (sizeOrDepth r)
+unfoldable pub Sized : Checked → Type 0
+Sized Fine = ⊥
+Sized (check.Refused r) = T (sizeOrDepth r)
+
+-- what entry says, by its three tests: over 65,535 bytes, a byte of 128 or more, arrays of one length
+byTests : List ℕ → Bool → Bool → Bool → Checked
+unfolding if_then_else_
+byTests s p q e = elim (if p then check.Refused LongScript else if q then check.Refused (NotAscii (span isAscii s)) else Fine) [ check.Refused r ↦ check.Refused r | Fine ↦ if e then Fine else check.Refused Uneven ]
+
+-- Entry is that.
+entry-is : (s : List ℕ) (a : Arrays) → entry s a ≡ byTests s (ltb 65535 (length s)) (ltb (span isAscii s) (length s)) (even a)
+unfolding entry checkOf byTests
+entry-is s a = refl
+
+-- a refusal is none
+refused-fine : {X : Type 0} (r : Refusal) → check.Refused r ≡ Fine → X
+refused-fine r e = absurd (let z : _≡_ {A = ℕ} 0 1 = cc in let y : ⊥ = omega arith in y)
 
 -- a script that is not refused is ASCII
-ascii-only : (s : List ℕ) (e : Bool) → entry s e ≡ none → ltb (span isAscii s) (length s) ≡ false
-unfolding entry if_then_else_
-ascii-only s e h = go (ltb longest (length s)) (ltb (span isAscii s) (length s)) h
+ascii-only : (s : List ℕ) (a : Arrays) → entry s a ≡ Fine → ltb (span isAscii s) (length s) ≡ false
+unfolding byTests if_then_else_
+ascii-only s a h = go (ltb 65535 (length s)) (ltb (span isAscii s) (length s)) (even a) (sym (entry-is s a) ∙ h)
   where
-    go : (p q : Bool) → (if p then some LongScript else if q then some (NotAscii (span isAscii s)) else if not e then some Uneven else none) ≡ none → q ≡ false
-    go true q h = absurd (let z : _≡_ {A = ℕ} 0 1 = cc in let y : ⊥ = omega arith in y)
-    go false true h = absurd (let z : _≡_ {A = ℕ} 0 1 = cc in let y : ⊥ = omega arith in y)
-    go false false h = refl
+    go : (p q e : Bool) → byTests s p q e ≡ Fine → q ≡ false
+    go true q e h = refused-fine LongScript h
+    go false true e h = refused-fine (NotAscii (span isAscii s)) h
+    go false false e h = refl
 
 -- an ASCII script is refused for size, or not at all
-entry-ascii : (s : List ℕ) (e : Bool) → ltb (span isAscii s) (length s) ≡ false → (entry s e ≡ none) ⊎ Sized (entry s e)
-unfolding entry if_then_else_ Sized sizeOrDepth member
-entry-ascii s e h = go (ltb longest (length s)) (ltb (span isAscii s) (length s)) e h
+entry-ascii : (s : List ℕ) (a : Arrays) → ltb (span isAscii s) (length s) ≡ false → (entry s a ≡ Fine) ⊎ Sized (entry s a)
+unfolding byTests if_then_else_ Sized sizeOrDepth member
+entry-ascii s a h = rw (entry-is s a) (go (ltb 65535 (length s)) (ltb (span isAscii s) (length s)) (even a) h)
   where
-    go : (p q e : Bool) → q ≡ false → ((if p then some LongScript else if q then some (NotAscii (span isAscii s)) else if not e then some Uneven else none) ≡ none) ⊎ Sized (if p then some LongScript else if q then some (NotAscii (span isAscii s)) else if not e then some Uneven else none)
+    go : (p q e : Bool) → q ≡ false → (byTests s p q e ≡ Fine) ⊎ Sized (byTests s p q e)
     go true q e h = inr tt
     go false true e h = absurd (subst (λ (x : Bool). T x) h tt)
     go false false true h = inl refl
@@ -198,13 +216,13 @@ refused-too r s x w t = go (ltb (r .tokens) (length (lex s))) (read-is r s)
 
 -- the call on s with the arrays a enters, and finds f
 pub record Reads (s : List ℕ) (a : Arrays) (f : Found) : Type 0 where
-  pub entered : entry s (even a) ≡ none
+  pub entered : entry s a ≡ Fine
   pub found-it : read (roomsOf a) s ≡ found f
 
 -- what a reading answers and leaves, then
 pub reads-reading : (s : List ℕ) (a : Arrays) (f : Found) → Reads s a f → reading s a ≡ called (Read (summary (ctxOf (roomsOf a) s) f)) (filled (ctxOf (roomsOf a) s) f a)
 unfolding byEntry answered
-reads-reading s a f h = reading-is s a ∙ ap (λ (x : Option Refusal). byEntry s a x (read (roomsOf a) s)) (h .entered) ∙ ap (answered s a) (h .found-it)
+reads-reading s a f h = reading-is s a ∙ ap (λ (x : Checked). byEntry s a x (read (roomsOf a) s)) (h .entered) ∙ ap (answered s a) (h .found-it)
 
 -- a script read with the flag down
 pub record Down (s : List ℕ) (a : Arrays) : Type 0 where
@@ -214,12 +232,12 @@ pub record Down (s : List ℕ) (a : Arrays) : Type 0 where
 
 -- A reading that answers the flag down finds something.
 pub flag-down : (s : List ℕ) (a : Arrays) → FlagDown (reading s a .answer) → Down s a
-flag-down s a h = go (entry s (even a)) (read (roomsOf a) s) refl refl (subst (λ (c : Called Reading). FlagDown (c .answer)) (reading-is s a) h)
+flag-down s a h = go (entry s a) (read (roomsOf a) s) refl refl (subst (λ (c : Called Reading). FlagDown (c .answer)) (reading-is s a) h)
   where
-    go : (x : Option Refusal) (o : Outcome) → entry s (even a) ≡ x → read (roomsOf a) s ≡ o → FlagDown (byEntry s a x o .answer) → Down s a
-    go (some x) o e k d = absurd (unfold byEntry FlagDown in d)
-    go none (refused x) e k d = absurd (unfold byEntry answered FlagDown in d)
-    go none (found f) e k d = record { what = f; reads = record { entered = e; found-it = k }; flag = unfold byEntry answered FlagDown in d }
+    go : (x : Checked) (o : Outcome) → entry s a ≡ x → read (roomsOf a) s ≡ o → FlagDown (byEntry s a x o .answer) → Down s a
+    go (check.Refused x) o e k d = absurd (unfold byEntry FlagDown in d)
+    go Fine (refused x) e k d = absurd (unfold byEntry answered FlagDown in d)
+    go Fine (found f) e k d = record { what = f; reads = record { entered = e; found-it = k }; flag = unfold byEntry answered FlagDown in d }
 
 -- A call that meets no refusal for size or depth meets not this one.
 spared : (x : Refusal) → T (sizeOrDepth x) → T (not (sizeOrDepth x)) → ⊥
@@ -231,13 +249,13 @@ spared x t u = go (sizeOrDepth x) t u
 
 -- A reading of an ASCII script that meets no refusal for size or depth finds what other rooms find.
 pub fits-reads : (s : List ℕ) (a : Arrays) (f : Found) → ltb (span isAscii s) (length s) ≡ false → Finds (roomsOf a) s f → Fits (reading s a .answer) → Reads s a f
-fits-reads s a f b n h = go (entry s (even a)) refl (entry-ascii s (even a) b) n (subst (λ (c : Called Reading). Fits (c .answer)) (reading-is s a) h)
+fits-reads s a f b n h = go (entry s a) refl (entry-ascii s a b) n (subst (λ (c : Called Reading). Fits (c .answer)) (reading-is s a) h)
   where
-    go : (x : Option Refusal) → entry s (even a) ≡ x → (x ≡ none) ⊎ Sized x → Finds (roomsOf a) s f → Fits (byEntry s a x (read (roomsOf a) s) .answer) → Reads s a f
-    go (some x) e (inl z) m k = absurd (let y : _≡_ {A = ℕ} 0 1 = cc in let v : ⊥ = omega arith in v)
-    go (some x) e (inr z) m k = absurd (spared x (unfold Sized in z) (unfold byEntry Fits in k))
-    go none e z (finds m) k = record { entered = e; found-it = m }
-    go none e z (cramped x m t) k = absurd (spared x t (unfold byEntry answered Fits in subst (λ (o : Outcome). Fits (answered s a o .answer)) m k))
+    go : (x : Checked) → entry s a ≡ x → (x ≡ Fine) ⊎ Sized x → Finds (roomsOf a) s f → Fits (byEntry s a x (read (roomsOf a) s) .answer) → Reads s a f
+    go (check.Refused x) e (inl z) m k = refused-fine x z
+    go (check.Refused x) e (inr z) m k = absurd (spared x (unfold Sized in z) (unfold byEntry Fits in k))
+    go Fine e z (finds m) k = record { entered = e; found-it = m }
+    go Fine e z (cramped x m t) k = absurd (spared x t (unfold byEntry answered Fits in subst (λ (o : Outcome). Fits (answered s a o .answer)) m k))
 
 -- Neither of the two refusals, so the text is written.
 chosen : (p q : Bool) (x y z : Written) (t : List ℕ) → p ≡ false → (FitsText (y .answer) → ⊥) → Writes z t → FitsText ((if p then x else if q then y else z) .answer) → Writes (if p then x else if q then y else z) t
@@ -248,23 +266,23 @@ chosen false false x y z t e n w k = w
 
 -- what is found with the flag down is written, if the buffer holds it
 texted-writes : (s : List ℕ) (a : Arrays) (t : List ℕ) (f : Found) → f .flag ≡ false → FitsText (texted s a t (found f) .answer) → Writes (texted s a t (found f)) (textFound s f)
-unfolding texted FitsText sizeOrDepth member
+unfolding texted FitsText sizeOrDepth member padded
 texted-writes s a t f d k =
-    chosen (f .flag) (ltb (length t) (length (textFound s f))) (written (NoText Flagged) (clearedArrays a) (cleared t)) (written (NoText TextFull) (clearedArrays a) (cleared t))
+    chosen (f .flag) (ltb (length t) (length (textFound s f))) (written (NoText Flagged) (clearedArrays a) (zeroed t)) (written (NoText TextFull) (clearedArrays a) (zeroed t))
     (written (Wrote (length (textFound s f))) (filled (ctxOf (roomsOf a) s) f a) (padded (textFound s f) (length t))) (textFound s f) d (λ u. u)
     (record { count = refl; bytes = take-append-seam (textFound s f) (replicate (length t - length (textFound s f)) 0) }) k
 
 -- A text call of an ASCII script, read with the flag down, that meets no refusal for size or depth writes the text of what is found.
 pub fits-text : (s : List ℕ) (a : Arrays) (t : List ℕ) (f : Found) → ltb (span isAscii s) (length s) ≡ false → f .flag ≡ false → Finds (roomsOf a) s f → FitsText (textCall s a t .answer) → Writes (textCall s a t) (textFound s f)
-fits-text s a t f b d n h = rw (text-is s a t) (go (entry s (even a)) (entry-ascii s (even a) b) n (subst (λ (c : Written). FitsText (c .answer)) (text-is s a t) h))
+fits-text s a t f b d n h = rw (text-is s a t) (go (entry s a) (entry-ascii s a b) n (subst (λ (c : Written). FitsText (c .answer)) (text-is s a t) h))
   where
-    go : (x : Option Refusal) → (x ≡ none) ⊎ Sized x → Finds (roomsOf a) s f → FitsText (byEntryText s a t x (read (roomsOf a) s) .answer) → Writes (byEntryText s a t x (read (roomsOf a) s)) (textFound s f)
-    go (some x) (inl z) m k = absurd (let y : _≡_ {A = ℕ} 0 1 = cc in let v : ⊥ = omega arith in v)
-    go (some x) (inr z) m k = absurd (spared x (unfold Sized in z) (unfold byEntryText FitsText in k))
-    go none z (finds m) k =
+    go : (x : Checked) → (x ≡ Fine) ⊎ Sized x → Finds (roomsOf a) s f → FitsText (byEntryText s a t x (read (roomsOf a) s) .answer) → Writes (byEntryText s a t x (read (roomsOf a) s)) (textFound s f)
+    go (check.Refused x) (inl z) m k = refused-fine x z
+    go (check.Refused x) (inr z) m k = absurd (spared x (unfold Sized in z) (unfold byEntryText FitsText in k))
+    go Fine z (finds m) k =
         let k′ : FitsText (texted s a t (found f) .answer) = unfold byEntryText in subst (λ (o : Outcome). FitsText (texted s a t o .answer)) m k in
         unfold byEntryText in subst (λ (o : Outcome). Writes (texted s a t o) (textFound s f)) (sym m) (texted-writes s a t f d k′)
-    go none z (cramped x m u) k = absurd (spared x u (unfold byEntryText texted FitsText in subst (λ (o : Outcome). FitsText (texted s a t o .answer)) m k))
+    go Fine z (cramped x m u) k = absurd (spared x u (unfold byEntryText texted FitsText in subst (λ (o : Outcome). FitsText (texted s a t o .answer)) m k))
 
 -- The bytes of a call that writes t are t.
 pub writes-bytes : (w : Written) (t : List ℕ) → Writes w t → bytesOf w ≡ t
@@ -273,4 +291,4 @@ writes-bytes w t h = ap (λ (x : Texting). answeredBytes x (w .text)) (h .count)
 
 -- entry's test on an ASCII script
 pub down-ascii : (s : List ℕ) (a : Arrays) → Down s a → ltb (span isAscii s) (length s) ≡ false
-down-ascii s a d = ascii-only s (even a) (d .reads .entered)
+down-ascii s a d = ascii-only s a (d .reads .entered)

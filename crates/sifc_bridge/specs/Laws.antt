@@ -13,7 +13,7 @@ use Rattle.sifc_lex.specs.Kind.{LexPanic}
 use Rattle.sifc_lex.specs.Lex.{token, lex, ending}
 use Rattle.sifc_def.specs.Ast.{Program}
 use Rattle.sifc_def.specs.State.{W, tokenAt, wordIn}
-use Rattle.sifc_def.specs.Read.{isAscii}
+use Rattle.sifc_lex.specs.Lex.{ascii as isAscii}
 use Rattle.sifc_def.specs.Label.{Lab, lab}
 use Rattle.sifc_def.specs.Text.{text}
 use Rattle.sifc_trip.specs.Typed.{Stmts, prProgram, rencProgram, OkProgram, SaidSs, eofWord}

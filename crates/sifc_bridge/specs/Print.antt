@@ -12,7 +12,7 @@ use Rattle.sifc_lex.specs.BaseLaws.{and-left, and-right}
 use Rattle.sifc_lex.specs.Lex.{step}
 use Rattle.sifc_lex.specs.LexTrip.{Good, sep}
 use Rattle.sifc_def.specs.State.{W}
-use Rattle.sifc_def.specs.Read.{isAscii}
+use Rattle.sifc_lex.specs.Lex.{ascii as isAscii}
 use Rattle.sifc_trip.specs.Typed.{Expr, prim, un, bin, call, dot, idx, set, mut, Exprs, nil, more, Items, noItem, item, Stmt, varNone, varExpr, varArray, varTable, func, block, cond, loop, ret, retExpr, exprStmt, Stmts, stop, next, Branches, noBranch, elifOf, elseOf, word, lp, rp, lb, rb, eq, period, comma, semi, arrow, dlb, drb, lbrace, rbrace, varWord, fnWord, returnWord, ifWord, elifWord, elseWord, forWord, inWord, height, wrap, between, betweenNames, betweenItems, pr, prs, prNames, prItems, prS, prSs, prBs, Said, Saids, SaidNames, SaidItems, SaidS, SaidSs, SaidBs}
 use Rattle.sifc_bridge.specs.Bytes.{Plain, Fine, AllFine, EachFine, joined}
 use Rattle.sifc_bridge.specs.Words.{declWords}

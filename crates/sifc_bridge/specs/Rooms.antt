@@ -19,7 +19,7 @@ use Rattle.sifc_def.specs.declared.What.the-variants.{Placeholder, Function, Va
 use Rattle.sifc_def.specs.State.{Node, Ctx, St, Out, done, fail, refuse, M, Void, go-on, nameAt, panicAt, arrive, consume, list, raise, addErrorWPos, addError, throw, throwPast, expect, optional, matchIdent, orThrow, ident, push, setNodes}
 use Rattle.sifc_def.specs.Symbols.{putAt, retrieve, store, setLevel, initScope, closeScope, setCheck}
 use Rattle.sifc_def.specs.Expr.{Rec, fuel, operators, levels, assignVar, assignToken, assignArray, assignNothing, assignTo, separator, paramList, single, callCounted, callDeclared, callName, isNamed, callNamed, literal, known, checkName, identExpr, assignExpr, unaryExpr, groupExpr, atExpr, primaryExpr, callPart, dot, index, postfix, fnCallExpr}
-use Rattle.sifc_def.specs.Stmt.{bind, withReturn, identNode, param, identPair, declareVar, arrayNodes, endIf, arrayItems, arrayDecl, tableItem, items, itemList, tableDecl, initial, varDecl, fnDecl, elifStmt, elseBlock, branches, ifStmt, forStmt, retStmt, exprStmt, stmt, decl, decls, block}
+use Rattle.sifc_def.specs.Stmt.{bind, withReturn, identNode, param, identPair, declareVar, arrayNodes, endIf, commaList, arrayDecl, tableItem, itemList, tableDecl, initial, varDecl, fnDecl, elifStmt, elseBlock, branches, ifStmt, forStmt, retStmt, exprStmt, stmt, decl, decls, block}
 use Rattle.sifc_def.specs.Walk.{start, walkers, giveUp, settled, topDecl, endRead, program, walk}
 
 -- a refusal for room: NodesFull, SymbolsFull, ErrorsFull
@@ -352,33 +352,26 @@ module _ (script : List ℕ) (ts : List Token) (w n y e n′ y′ e′ : ℕ) wh
 
     -- ── statements over the counted calls ──
 
-    l-arrayItems : (f m : ℕ) → Likes (arrayItems c r f m) (arrayItems c′ r′ f m)
-    unfolding arrayItems
-    l-arrayItems zero m = like _
-    l-arrayItems (suc f) m =
+    l-commaList : (close f m : ℕ) (x x′ : Void) → Likes x x′ → Likes (commaList c close x f m) (commaList c′ close x′ f m)
+    unfolding commaList
+    l-commaList close zero m x x′ y = like _
+    l-commaList close (suc f) m x x′ y =
         onward (like _)
-        (λ k. either _ (like _) (either _ (l-throw _) (onward (h .assign) (λ a. onward (l-optional _) (λ more. either more (l-arrayItems f (suc m)) (like _))))))
+        (λ k. either _ (like _) (either _ (l-throw _) (onward y (λ a. onward (l-optional _) (λ more. either more (l-commaList close f (suc m) x x′ y) (like _))))))
 
     l-arrayDecl : (i : ℕ) → Likes (arrayDecl c r i) (arrayDecl c′ r′ i)
     unfolding arrayDecl
     l-arrayDecl i =
         onward (l-expect _)
-        (λ a. onward (l-arrayItems _ 0) (λ m. onward (l-expect _) (λ a. onward (l-expect _) (λ a. onward (l-arrayNodes i m) (λ a. l-store i _)))))
+        (λ a. onward (l-commaList _ _ 0 (r .assign) (r′ .assign) (h .assign)) (λ m. onward (l-expect _) (λ a. onward (l-expect _) (λ a. onward (l-arrayNodes i m) (λ a. l-store i _)))))
 
     l-tableItem : Likes (tableItem c r) (tableItem c′ r′)
     unfolding tableItem
     l-tableItem = onward (l-ident _) (λ key. onward (l-expect _) (λ a. onward (h .assign) (λ a. l-push _ _ _ _)))
 
-    l-items : (f m : ℕ) → Likes (items c r f m) (items c′ r′ f m)
-    unfolding items
-    l-items zero m = like _
-    l-items (suc f) m =
-        onward (like _)
-        (λ k. either _ (like _) (either _ (l-throw _) (onward l-tableItem (λ a. onward (l-optional _) (λ more. either more (l-items f (suc m)) (like _))))))
-
     l-itemList : Likes (itemList c r) (itemList c′ r′)
     unfolding itemList
-    l-itemList = onward (l-items _ 0) (λ m. l-push _ _ _ _)
+    l-itemList = onward (l-commaList _ _ 0 (tableItem c r) (tableItem c′ r′) l-tableItem) (λ m. l-push _ _ _ _)
 
     l-tableDecl : (i : ℕ) → Likes (tableDecl c r i) (tableDecl c′ r′ i)
     unfolding tableDecl

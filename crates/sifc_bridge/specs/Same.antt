@@ -17,7 +17,8 @@ use Rattle.sifc_def.specs.declared.Reading.{Reading}
 use Rattle.sifc_def.specs.declared.Reading.the-variants.{Read}
 use Rattle.sifc_def.specs.Ast.{Block}
 use Rattle.sifc_def.specs.Label.{Lab, lab, hasToken, scopeOf, textOf, label, labels}
-use Rattle.sifc_def.specs.Read.{Arrays, Called, called, Found, bit, headWord, tokenWord, summary, filled}
+use Rattle.sifc_lex.specs.Tokens.{tokenWord, offsOf, wordsOf, padded}
+use Rattle.sifc_def.specs.Read.{Arrays, Called, called, Found, bit, headWord, summary, filled}
 use Rattle.sifc_def.specs.State.{Node, node, Ctx, tokenAt, wordIn}
 use Rattle.sifc_bridge.specs.Demand.{nodeCount, headAt, loadAt, kindIn, tokenText, SameTree}
 use Rattle.sifc_bridge.specs.Kinds.{Small}
@@ -98,7 +99,7 @@ pub record Told (s : List ℕ) (ns : List Node) (c : Called Reading) : Type 0 wh
 
 -- a reading that finds f tells of its nodes
 pub told : (s : List ℕ) (c : Ctx) (f : Found) (a : Arrays) → f .toks ≡ lex s → Told s (f .nodes) (called (Read (summary c f)) (filled c f a))
-unfolding nodeCount
+unfolding nodeCount padded offsOf wordsOf
 told s c f a e =
     record {
       count = refl;
