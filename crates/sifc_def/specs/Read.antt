@@ -27,7 +27,7 @@ use Rattle.sifc_def.specs.declared.Texting.{Texting}
 use Rattle.sifc_def.specs.declared.Texting.the-variants.{Wrote, Refused as NoText}
 use Rattle.sifc_def.specs.Error.{parseErr, errPlace, errReason}
 use Rattle.sifc_def.specs.Label.{hasToken, scopeOf, textOf, labels}
-use Rattle.sifc_def.specs.State.{Node, Ctx, St, Out, done, fail, refuse}
+use Rattle.sifc_def.specs.State.{Node, Ctx, Out, done, fail, refuse}
 use Rattle.sifc_def.specs.Text.{text}
 use Rattle.sifc_def.specs.Walk.{End, walk}
 
