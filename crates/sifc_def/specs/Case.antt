@@ -3,10 +3,9 @@ use Prim.Native.Nat.{ℕ, suc, _+_, _-_, _*_, _/_, _%_}
 use Prim.Native.String.{String}
 use mathlib.Core.List.{List, [], _∷_, map}
 use mathlib.Core.Bool.{Bool}
-use lib.ListN.{length, replicate, getD, take}
+use lib.ListN.{length, replicate, getD}
 use Rattle.sifc_err.specs.declared.Token.{Token}
 use Rattle.sifc_err.specs.declared.Refusal.{Refusal}
-use Rattle.sifc_err.specs.declared.parse_err.ParseErr.{ParseErr}
 use Rattle.sifc_err.specs.ParseErr.{valuesOf}
 use Rattle.sifc_lex.specs.declared.place.Place.{Place}
 use Rattle.sifc_lex.specs.Kind.{Eof}

@@ -1,7 +1,7 @@
 -- Document 01, "Small scripts": the marked ones (*), one table and one theorem, by computation.
 use mathlib.Core.Path.{_≡_, refl}
 use mathlib.Core.List.{List, [], _∷_, map}
-use mathlib.Core.Bool.{Bool, true, false}
+use mathlib.Core.Bool.{true, false}
 use Rattle.sifc_err.specs.declared.Refusal.the-variants.{SourceFault}
 use Rattle.sifc_err.specs.declared.parse_err.ParseErrTy.the-variants.{TknMismatch}
 use Rattle.sifc_lex.specs.Kind.{LeftBrace, RightBrace, Semicolon, Eq, Period, DoubleLeftBracket, DoubleRightBracket, Ident, Val, Var, If, Else, True, Eof}

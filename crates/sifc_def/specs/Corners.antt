@@ -3,9 +3,8 @@ use Prim.Native.Nat.{ℕ, zero, suc}
 use Prim.Native.String.{String}
 use mathlib.Core.Path.{_≡_, refl}
 use mathlib.Core.List.{List, [], _∷_, _++_, map}
-use mathlib.Core.Bool.{Bool, true, false}
+use mathlib.Core.Bool.{true, false}
 use lib.ListN.{replicate}
-use Rattle.sifc_err.specs.declared.Refusal.{Refusal}
 use Rattle.sifc_err.specs.declared.Refusal.the-variants.{LongScript, NotAscii, SourceFault, TooDeep, NodesFull, SymbolsFull, ErrorsFull, Flagged, TextFull}
 use Rattle.sifc_err.specs.declared.parse_err.ParseErrTy.the-variants.{TknMismatch}
 use Rattle.sifc_lex.specs.Kind.{LeftParen, RightParen, Semicolon, Eq, Ident, Str, Val, Var, Eof, LexPanic}

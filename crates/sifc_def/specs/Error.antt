@@ -2,7 +2,6 @@
 -- message."
 use Prim.Native.Nat.{ℕ, _+_, _-_, _*_}
 use mathlib.Core.Bool.{Bool}
-use Rattle.sifc_err.specs.declared.Token.{Token}
 use Rattle.sifc_err.specs.declared.parse_err.ParseErr.{ParseErr}
 use Rattle.sifc_err.specs.declared.parse_err.ParseErrTy.{ParseErrTy}
 use Rattle.sifc_err.specs.declared.parse_err.ParseErrTy.the-variants as Ty

@@ -8,12 +8,11 @@ use lib.ListN.{length}
 use Rattle.sifc_lex.specs.Base.{if_then_else_, member}
 use Rattle.sifc_lex.specs.Kind.{LeftParen, RightParen, LeftBracket, RightBracket, Eq, Lt, Gt, Period, Comma, Bang, Plus, Minus, Star, Slash, Percent, At, EqEq, LtEq, GtEq, BangEq, AmpAmp, PipePipe, Ident, Str, Val, True, False, Eof}
 use Rattle.sifc_lex.specs.Reserved.{isStdLibFn}
-use Rattle.sifc_def.specs.declared.Why.{Why}
 use Rattle.sifc_def.specs.declared.Why.the-variants.{InvalidTkn, InvalidTknMsg, InvalidAssign, FnParmCntExceeded, WrongFnParmCnt, UndeclSym}
 use Rattle.sifc_def.specs.declared.What.{What}
 use Rattle.sifc_def.specs.declared.What.the-variants.{Placeholder, Function, Variable, Other}
 use Rattle.sifc_def.specs.Ast.{TableAccess, ArrayAccess, ArrayMutExpr, FnCallExpr, VarAssignExpr, BinaryExpr, UnaryExpr, PrimaryExpr}
-use Rattle.sifc_def.specs.State.{Node, Ctx, St, Out, done, M, Void, go-on, _>>=_, _>>_, return, ok, when, tokAt, nameAt, here, kindNow, panicAt, consume, raise, addErrorWPos, throw, throwPast, expect, push, top, count, setNodes, without}
+use Rattle.sifc_def.specs.State.{Node, Ctx, M, Void, _>>=_, _>>_, return, ok, when, tokAt, nameAt, here, kindNow, panicAt, consume, raise, addErrorWPos, throw, throwPast, expect, push, top, count, setNodes, without}
 use Rattle.sifc_def.specs.Symbols.{retrieve, checking, setCheck}
 
 -- The counted calls of refusal 6, one level deeper: block (is it a function's body, and the tokens of the names bound in it), assign_expr, unary_expr,

@@ -1,29 +1,29 @@
 -- Expressions: where one is read, the walk has moved on, the nodes have one tree more, and no more nodes than tokens were taken. Where one fails, the walk has
 -- moved on or stands at Eof, and at most one error more is listed.
 use Prim.Native.Nat.{ℕ, zero, suc, _+_, _-_, _*_, _≤_, _<_}
-use mathlib.Core.List.{List, [], _∷_}
+use mathlib.Core.List.{List}
 use mathlib.Core.Option.{Option, none, some}
-use mathlib.Core.Bool.{Bool, true, false, _||_, _&&_, not}
+use mathlib.Core.Bool.{Bool, true, false, _||_, not}
 use mathlib.Core.Logic.{_⊎_, inl, inr}
-use mathlib.Core.Path.{_≡_, refl, sym, ap, _∙_, subst}
+use mathlib.Core.Path.{_≡_, refl, sym, ap, subst}
 use native.Mathlib.Omega.{arith}
-use lib.Dec.{T, eqb, leb, ltb, eqb·zero-suc, eqb→eq}
+use lib.Dec.{T, eqb, eqb·zero-suc, eqb→eq}
 use lib.ListN.{length, getD}
-use borrow.Author.Tests.{eqb-true, leb-false, not-false}
+use borrow.Author.Tests.{leb-false, not-false}
 use Rattle.sifc_lex.specs.Base.{if_then_else_, member}
-use Rattle.sifc_lex.specs.Kind.{LeftParen, RightParen, LeftBracket, RightBracket, Eq, Period, Comma, At, Ident, Str, Eof}
+use Rattle.sifc_lex.specs.Kind.{LeftParen, RightParen, LeftBracket, RightBracket, Eq, Period, Comma, At, Ident, Eof}
 use Rattle.sifc_lex.specs.Reserved.{isStdLibFn}
 use Rattle.sifc_def.specs.declared.Why.{Why}
-use Rattle.sifc_def.specs.declared.Why.the-variants.{InvalidTkn, InvalidTknMsg, InvalidAssign, FnParmCntExceeded, WrongFnParmCnt, UndeclSym}
+use Rattle.sifc_def.specs.declared.Why.the-variants.{InvalidTkn, InvalidAssign, WrongFnParmCnt, UndeclSym}
 use Rattle.sifc_def.specs.declared.What.{What}
 use Rattle.sifc_def.specs.declared.What.the-variants.{Placeholder, Function, Variable, Other}
 use Rattle.sifc_def.specs.Ast.{TableAccess, ArrayAccess, ArrayMutExpr, FnCallExpr, VarAssignExpr, BinaryExpr, UnaryExpr, PrimaryExpr}
-use Rattle.sifc_def.specs.State.{Node, node, err, Ctx, St, Out, done, refuse, M, Void, go-on, tokAt, nameAt, panicAt, consume, throw, throwPast, expect, push, setNodes, without}
+use Rattle.sifc_def.specs.State.{Node, node, err, Ctx, St, M, Void, go-on, nameAt, panicAt, throw, expect, push, setNodes}
 use Rattle.sifc_def.specs.Symbols.{retrieve, setCheck}
-use Rattle.sifc_def.specs.Expr.{Rec, looseness, isUnary, isLiteral, operators, levels, assignVar, assignToken, assignArray, assignNothing, assignTo, separator, paramList, single, callCounted, callDeclared, callName, isNamed, callNamed, literal, known, checkName, identExpr, assignExpr, unaryExpr, groupExpr, atExpr, primaryExpr, callPart, dot, index, postfix, fnCallExpr}
-use Rattle.sifc_def.specs.OutcomeLaws.{Holds, by-test, is-done, is-fail, is-refused, branch, call, last}
-use Rattle.sifc_def.specs.GroveLaws.{Fit, Grows, Kept, keeping, Top, grows-none, grows-as, grows-then, grows-over, top-of, grows-without}
-use Rattle.sifc_def.specs.StepLaws.{Toks, Well, clash, kindAt, FairFound, FairErr, well-nodes, moved, pushed, withErr, other, not-eof, Next, consumes, expects, pushes, retrieves, throws-at, throws, throws-past, consume-last, expect-last, push-last}
+use Rattle.sifc_def.specs.Expr.{Rec, looseness, isUnary, isLiteral, operators, levels, assignVar, assignToken, assignArray, assignNothing, assignTo, separator, paramList, single, callCounted, callDeclared, callName, callNamed, literal, known, checkName, identExpr, assignExpr, unaryExpr, groupExpr, atExpr, primaryExpr, callPart, dot, index, postfix, fnCallExpr}
+use Rattle.sifc_def.specs.OutcomeLaws.{Holds, by-test, is-done, is-refused, branch, call, last}
+use Rattle.sifc_def.specs.GroveLaws.{Grows, Kept, keeping, Top, grows-none, grows-as, grows-then, grows-over, top-of, grows-without}
+use Rattle.sifc_def.specs.StepLaws.{Toks, Well, clash, kindAt, FairFound, FairErr, well-nodes, moved, other, not-eof, Next, consumes, expects, pushes, retrieves, throws-at, throws, throws-past, consume-last, expect-last, push-last}
 
 module _ (c : Ctx) (b : ℕ → ℕ) where
   -- from s to s′: with k tokens to spare, each new node has a token; nothing is stored or listed

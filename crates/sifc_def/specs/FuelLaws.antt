@@ -1,27 +1,26 @@
 -- Loop fuel never runs out: with at least as much as there are tokens left, a loop gives what it gives with any more. Each turn takes a token that is not Eof, or
 -- ends the loop.
-use Prim.Native.Nat.{ℕ, zero, suc, _+_, _≤_, _<_}
-use mathlib.Core.List.{List, []}
+use Prim.Native.Nat.{ℕ, zero, suc, _+_, _≤_}
 use mathlib.Core.Option.{Option, none, some}
-use mathlib.Core.Bool.{Bool, true, false, _||_}
+use mathlib.Core.Bool.{Bool, true, false}
 use mathlib.Core.Path.{_≡_, refl}
 use native.Mathlib.Omega.{arith}
-use lib.Dec.{eqb, leb}
+use lib.Dec.{eqb}
 use lib.ListN.{length}
 use Rattle.sifc_lex.specs.Base.{if_then_else_}
-use Rattle.sifc_lex.specs.Kind.{RightParen, RightBrace, Comma, Elif, Else, Eof}
+use Rattle.sifc_lex.specs.Kind.{RightBrace, Comma, Eof}
 use Rattle.sifc_def.specs.declared.Err.{Err}
 use Rattle.sifc_def.specs.Ast.{BinaryExpr}
 use Rattle.sifc_def.specs.Error.{continuable}
-use Rattle.sifc_def.specs.State.{Ctx, St, Out, done, M, Void, go-on, consume, optional, push}
+use Rattle.sifc_def.specs.State.{Ctx, St, M, Void, go-on, consume, optional, push}
 use Rattle.sifc_def.specs.Expr.{Rec, operators, separator, paramList}
-use Rattle.sifc_def.specs.Stmt.{commaList, elifStmt, elseBlock, branches, decl, decls}
-use Rattle.sifc_def.specs.Walk.{End, topDecl, endRead, program}
-use Rattle.sifc_def.specs.OutcomeLaws.{Holds, is-done, branch, call, last, go-on-same, branch-same}
+use Rattle.sifc_def.specs.Stmt.{commaList, branches, decls}
+use Rattle.sifc_def.specs.Walk.{End, endRead, program}
+use Rattle.sifc_def.specs.OutcomeLaws.{Holds, is-done, branch, call, go-on-same, branch-same}
 use Rattle.sifc_def.specs.StepLaws.{Toks, Well, kindAt, well-nodes, other, consume-last, expect-last, push-last}
 use Rattle.sifc_def.specs.ExprLaws.{ItemOf, Item, loose-eof}
 use Rattle.sifc_def.specs.StmtLaws.{Decl, Good, elif-does, else-does, decl-does, right}
-use Rattle.sifc_def.specs.WalkLaws.{Far, FarOf, After, top-far}
+use Rattle.sifc_def.specs.WalkLaws.{Far, FarOf, top-far}
 
 -- the walk has come at least j tokens farther
 pub record On (c : Ctx) (j : ℕ) (s s′ : St) : Type 0 where

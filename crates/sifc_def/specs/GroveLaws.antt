@@ -1,11 +1,11 @@
 -- The nodes of n trees, newest first: each node stands above the trees that are its children. What a reading adds to the nodes is such a list.
-use Prim.Native.Nat.{ℕ, zero, suc, _+_, _-_, _≤_, _<_}
+use Prim.Native.Nat.{ℕ, suc, _+_, _-_, _<_}
 use mathlib.Core.List.{List, [], _∷_, _++_, append-assoc}
-use mathlib.Core.Bool.{Bool, true, false, _||_, not}
+use mathlib.Core.Bool.{_||_, not}
 use mathlib.Core.Path.{_≡_, refl, sym, ap, _∙_, subst}
 use native.Mathlib.Omega.{arith}
 use lib.Dec.{T, eqb, leb}
-use lib.ListN.{length, length-append, getD, take, drop}
+use lib.ListN.{length, length-append, take, drop}
 use lib.Seq.{take-at, drop-at}
 use Rattle.sifc_def.specs.Ast.{ArrayAccess}
 use Rattle.sifc_def.specs.State.{Node, without}

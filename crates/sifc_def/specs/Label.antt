@@ -4,7 +4,6 @@
 use Prim.Native.Nat.{ℕ}
 use mathlib.Core.List.{List, [], _∷_, map}
 use mathlib.Core.Bool.{Bool}
-use mathlib.Core.Path.{_≡_}
 use lib.Dec.{eqb}
 use Rattle.sifc_err.specs.declared.Token.{Token}
 use Rattle.sifc_lex.specs.Base.{if_then_else_, member}

@@ -1,7 +1,6 @@
 -- What holds of an outcome: P where it is done, Q where it has failed; a refusal is always allowed. The steps of a proof about a `do` block.
-use Prim.Native.Nat.{ℕ}
 use mathlib.Core.Bool.{Bool, true, false}
-use mathlib.Core.Path.{_≡_, refl, sym, _∙_}
+use mathlib.Core.Path.{_≡_, refl}
 use Rattle.sifc_err.specs.declared.Refusal.{Refusal}
 use Rattle.sifc_lex.specs.Base.{if_then_else_}
 use Rattle.sifc_def.specs.declared.Err.{Err}

@@ -10,6 +10,7 @@ use Rattle.sifc_err.specs.declared.Ending.{Ending}
 use Rattle.sifc_err.specs.declared.Ending.the-variants.{TrueEnd, UnknownChar, UnterminatedString, Panic}
 use Rattle.sifc_err.specs.declared.Refusal.{Refusal}
 use Rattle.sifc_err.specs.declared.Refusal.the-variants.{Uneven, TokensFull, Flagged, TextFull}
+use Rattle.sifc_err.specs.Refusal.{numberOf, kindOf, offsetOf}
 use Rattle.sifc_lex.specs.declared.call.Checked.{Checked}
 use Rattle.sifc_lex.specs.declared.call.Checked.the-variants.{Fine}
 use Rattle.sifc_lex.specs.declared.call.Checked.the-variants as check
@@ -26,7 +27,7 @@ use Rattle.sifc_def.specs.declared.Texting.{Texting}
 use Rattle.sifc_def.specs.declared.Texting.the-variants.{Wrote, Refused as NoText}
 use Rattle.sifc_def.specs.Error.{parseErr, errPlace, errReason}
 use Rattle.sifc_def.specs.Label.{hasToken, scopeOf, textOf, labels}
-use Rattle.sifc_def.specs.State.{Node, Ctx, St, Out, done, fail, refuse}
+use Rattle.sifc_def.specs.State.{Node, Ctx, Out, done, fail, refuse}
 use Rattle.sifc_def.specs.Text.{text}
 use Rattle.sifc_def.specs.Walk.{End, walk}
 
@@ -189,3 +190,29 @@ texted s a t (found f) =
 unfoldable pub textCall : List ℕ → Arrays → List ℕ → Written
 unfolding even entry ended read textFound texted walk lex ending offsOf wordsOf padded zeroed checkOf parseErr errPlace text hasToken scopeOf textOf if_then_else_
 textCall s a t = elim (entry s a) [ check.Refused r ↦ written (NoText r) a t | Fine ↦ texted s a t (read (roomsOf a) s) ]
+
+-- ── the answers in this paper's numbers: "The answer is number, kind, offset, else zeros." ──
+
+pub record ReadNumbers : Type 0 where
+  pub tokens : ℕ
+  pub nodes : ℕ
+  pub errors : ℕ
+  pub flag : Bool
+  pub early : Early
+  pub number : ℕ
+  pub kind : ℕ
+  pub offset : ℕ
+
+abbrev pub readNumbers : Reading → ReadNumbers
+readNumbers (Read m) = record { tokens = m .tokens; nodes = m .nodes; errors = m .errors; flag = m .flag; early = m .early; number = 0; kind = 0; offset = 0 }
+readNumbers (Refused r) = record { tokens = 0; nodes = 0; errors = 0; flag = false; early = Never; number = numberOf r; kind = kindOf r; offset = offsetOf r }
+
+pub record TextNumbers : Type 0 where
+  pub count : ℕ
+  pub number : ℕ
+  pub kind : ℕ
+  pub offset : ℕ
+
+abbrev pub textNumbers : Texting → TextNumbers
+textNumbers (Wrote n) = record { count = n; number = 0; kind = 0; offset = 0 }
+textNumbers (NoText r) = record { count = 0; number = numberOf r; kind = kindOf r; offset = offsetOf r }

@@ -1,21 +1,19 @@
 -- The bounds of a reading: at most a token more than bytes, a node for each token, an error for each byte; its nodes are one tree; and every word that it leaves
 -- in an array fits 32 bits.
-use Prim.Native.Nat.{ℕ, zero, suc, _+_, _-_, _*_, _/_, _≤_, _<_}
-use mathlib.Core.List.{List, [], _∷_, _++_, map, reverse, reverseAux, append-nil}
-use mathlib.Core.Option.{Option, none, some}
-use mathlib.Core.Bool.{Bool, true, false, _&&_, _||_, not}
+use Prim.Native.Nat.{ℕ, zero, suc, _+_, _≤_, _<_}
+use mathlib.Core.List.{List, [], _∷_, map, reverse, reverseAux, append-nil}
+use mathlib.Core.Bool.{Bool, true, false}
 use mathlib.Core.Logic.{_⊎_, inl, inr}
-use mathlib.Core.Path.{_≡_, refl, sym, ap, _∙_, subst}
+use mathlib.Core.Path.{_≡_, refl, sym, _∙_, subst}
 use native.Mathlib.Omega.{arith}
 use native.Mathlib.Numerals.{add-one}
-use lib.Dec.{T, eqb, leb, ltb, leb→le}
+use lib.Dec.{eqb, ltb, leb→le}
 use lib.ListN.{length, getD, length-reverse}
 use borrow.Author.Tests.{ltb-true, ltb-false}
-use Rattle.sifc_err.specs.declared.Token.{Token}
 use Rattle.sifc_err.specs.declared.Refusal.the-variants.{TokensFull}
 use Rattle.sifc_err.specs.ParseErr.{valuesOf}
 use Rattle.sifc_lex.specs.declared.place.Place.{Place}
-use Rattle.sifc_lex.specs.Lex.{lex, ending}
+use Rattle.sifc_lex.specs.Lex.{lex}
 use Rattle.sifc_lex.specs.LexLaws.{lex-count}
 use Rattle.sifc_lex.specs.Place.{placeOf, place, walkedTo, nextPlace}
 use Rattle.sifc_lex.specs.PlaceLaws.{walked-none, walked-more, walked-line, walked-pos, place-inside, place-even, place-ragged}
@@ -24,14 +22,14 @@ use Rattle.sifc_def.specs.declared.Why.{Why}
 use Rattle.sifc_def.specs.declared.Why.the-variants.{InvalidIdent, InvalidTkn, InvalidTknMsg, InvalidAssign, InvalidForStmt, InvalidIfStmt, TknMismatch, FnParmCntExceeded, WrongFnParmCnt, UndeclSym, UnassignedVar, ExpectedIdent}
 use Rattle.sifc_def.specs.Error.{tyOf, carried, carriedToo, placeAt, errPlace, errReason}
 use Rattle.sifc_def.specs.Label.{labels}
-use Rattle.sifc_def.specs.State.{Node, Ctx, St, Out, done, fail, refuse, tokAt}
+use Rattle.sifc_def.specs.State.{Node, Ctx, Out, done, fail, refuse, tokAt}
 use Rattle.sifc_def.specs.Tree.{Tree, enc}
 use Rattle.sifc_def.specs.Walk.{End, walk}
 use Rattle.sifc_def.specs.Read.{Rooms, Found, Outcome, found, refused, ctxOf, ended, read, headWord, bit, depthLimit}
 use Rattle.sifc_def.specs.OutcomeLaws.{Holds, by-test}
-use Rattle.sifc_def.specs.GroveLaws.{Fit, Over, Grove, Grows}
+use Rattle.sifc_def.specs.GroveLaws.{Fit, Grove}
 use Rattle.sifc_def.specs.TreeLaws.{one-tree}
-use Rattle.sifc_def.specs.StepLaws.{Toks, Well, Each, FairErr}
+use Rattle.sifc_def.specs.StepLaws.{Each, FairErr}
 use Rattle.sifc_def.specs.TokLaws.{worth, lexed-toks, lexed-worth}
 use Rattle.sifc_def.specs.WalkLaws.{Ended, walk-ends}
 

@@ -1,7 +1,7 @@
 -- The walk's context, its state and its small steps: the fields of Parser, and consume, expect, optional, match_ident, add_error and add_error_w_pos of
 -- parser.rs. A step is a function of the state. Its outcome is a value, a declaration that failed (the Rust's `Err`), or a refusal.
-use Prim.Native.Nat.{ℕ, zero, suc, _-_}
-use mathlib.Core.List.{List, [], _∷_, _++_, map, reverse}
+use Prim.Native.Nat.{ℕ, suc, _-_}
+use mathlib.Core.List.{List, _∷_, _++_, map, reverse}
 use mathlib.Core.Option.{Option, none, some}
 use mathlib.Core.Bool.{Bool, true, false}
 use lib.Dec.{eqb, ltb}

@@ -1,17 +1,17 @@
 -- The small steps: what holds of the state after each. A state is `Well` where the walk stands on a token that is no lexing panic, and what it has stored and
 -- listed is in bounds.
-use Prim.Native.Nat.{ℕ, zero, suc, _+_, _*_, _≤_, _<_}
-use mathlib.Core.List.{List, [], _∷_, _++_}
+use Prim.Native.Nat.{ℕ, zero, suc, _≤_, _<_}
+use mathlib.Core.List.{List, [], _∷_}
 use mathlib.Core.Option.{Option, none, some}
-use mathlib.Core.Bool.{Bool, true, false, _||_, not}
-use mathlib.Core.Logic.{_⊎_, inl, inr}
-use mathlib.Core.Path.{_≡_, refl, sym, ap, _∙_, subst}
+use mathlib.Core.Bool.{Bool, true, false}
+use mathlib.Core.Logic.{_⊎_, inl}
+use mathlib.Core.Path.{_≡_, refl, sym, subst}
 use native.Mathlib.Omega.{arith}
 use lib.Dec.{T, eqb, leb, ltb}
 use lib.ListN.{length}
-use borrow.Author.Tests.{eqb-true, eqb-false}
+use borrow.Author.Tests.{eqb-true}
 use Rattle.sifc_err.specs.declared.Refusal.{Refusal}
-use Rattle.sifc_lex.specs.Base.{if_then_else_, member}
+use Rattle.sifc_lex.specs.Base.{member}
 use Rattle.sifc_lex.specs.Kind.{Ident, Eof, LexPanic, Var, Fn, For}
 use Rattle.sifc_def.specs.declared.Err.{Err}
 use Rattle.sifc_def.specs.declared.Why.{Why}
@@ -21,7 +21,7 @@ use Rattle.sifc_def.specs.declared.What.the-variants.{Placeholder, Funct
 use Rattle.sifc_def.specs.Error.{carried, carriedToo}
 use Rattle.sifc_def.specs.State.{Node, node, Sym, Ctx, St, Out, done, fail, refuse, M, Void, go-on, tokAt, nameAt, err, arrive, consume, list, raise, addErrorWPos, addError, throw, throwPast, expect, optional, matchIdent, orThrow, ident, push}
 use Rattle.sifc_def.specs.Symbols.{isSym, findAt, find, putAt, retrieve, store}
-use Rattle.sifc_def.specs.OutcomeLaws.{Holds, by-test, is-done, is-fail, is-refused, branch, call, last}
+use Rattle.sifc_def.specs.OutcomeLaws.{Holds, by-test, is-done, is-fail, is-refused}
 
 -- the kind in front
 abbrev pub kindAt : Ctx → St → ℕ

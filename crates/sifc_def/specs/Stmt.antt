@@ -1,18 +1,14 @@
 -- Declarations and statements: decl down to expr_stmt of parser.rs.
 use Prim.Native.Nat.{ℕ, zero, suc, _+_}
 use mathlib.Core.List.{List, [], _∷_}
-use mathlib.Core.Option.{Option, none, some}
 use mathlib.Core.Bool.{Bool, true, false, _&&_, _||_}
 use lib.Dec.{eqb, ltb}
-use lib.ListN.{length}
 use Rattle.sifc_lex.specs.Base.{if_then_else_}
 use Rattle.sifc_lex.specs.Kind.{LeftParen, RightParen, LeftBrace, RightBrace, LeftBracket, RightBracket, Semicolon, Eq, Comma, EqArrow, DoubleLeftBracket, DoubleRightBracket, Var, Fn, Return, If, Elif, Else, For, In, Eof}
-use Rattle.sifc_def.specs.declared.Why.{Why}
 use Rattle.sifc_def.specs.declared.Why.the-variants.{InvalidTknMsg, InvalidIfStmt, ExpectedIdent}
-use Rattle.sifc_def.specs.declared.What.{What}
 use Rattle.sifc_def.specs.declared.What.the-variants.{Placeholder, Function, Variable, Other}
 use Rattle.sifc_def.specs.Ast.{Block, IfStmt, ElifStmt, ForStmt, ReturnStmt, ExprStmt, VarDecl, FnDecl, FnParams, IdentPair, ItemList, TableItem, Table, Array, ArrayItems, PrimaryExpr}
-use Rattle.sifc_def.specs.State.{Node, Ctx, St, Out, done, M, Void, go-on, _>>=_, _>>_, return, ok, when, here, kindNow, consume, addError, throw, expect, optional, ident, push, top, loads}
+use Rattle.sifc_def.specs.State.{Ctx, M, Void, _>>=_, _>>_, return, ok, when, kindNow, consume, addError, throw, expect, optional, ident, push, top, loads}
 use Rattle.sifc_def.specs.Symbols.{store, levelNow, isGlobal, initScope, closeScope}
 use Rattle.sifc_def.specs.Expr.{Rec, endOfFile, fuel, paramList}
 

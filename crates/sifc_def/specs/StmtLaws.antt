@@ -2,29 +2,27 @@
 -- below what was taken: tokens for the first two, the tokens' worth for the errors.
 use Prim.Native.Nat.{ℕ, zero, suc, _+_, _-_, _*_, _≤_, _<_}
 use mathlib.Core.List.{List, [], _∷_, map, reverse}
-use mathlib.Core.Option.{Option, none, some}
 use mathlib.Core.Bool.{Bool, true, false, _||_, _&&_, not}
 use mathlib.Core.Logic.{_⊎_, inl, inr}
-use mathlib.Core.Path.{_≡_, refl, sym, ap, _∙_, subst}
+use mathlib.Core.Path.{_≡_, refl, subst}
 use native.Mathlib.Omega.{arith}
 use lib.Dec.{T, eqb, leb, ltb}
 use lib.ListN.{length, getD, take, length-reverse, length-map, length-take}
 use borrow.Author.Tests.{eqb-true, eqb-false}
-use Rattle.sifc_lex.specs.Base.{if_then_else_, member}
+use Rattle.sifc_lex.specs.Base.{member}
 use Rattle.sifc_lex.specs.Kind.{LeftParen, RightParen, LeftBrace, RightBrace, LeftBracket, RightBracket, Semicolon, Eq, Comma, EqArrow, DoubleLeftBracket, DoubleRightBracket, Var, Fn, Return, If, Elif, Else, For, In, Eof}
 use Rattle.sifc_def.specs.declared.Why.{Why}
 use Rattle.sifc_def.specs.declared.Why.the-variants.{InvalidIdent, InvalidTknMsg, InvalidIfStmt, ExpectedIdent}
-use Rattle.sifc_def.specs.declared.What.{What}
-use Rattle.sifc_def.specs.declared.What.the-variants.{Placeholder, Function, Variable, Other}
+use Rattle.sifc_def.specs.declared.What.the-variants.{Placeholder, Function, Other}
 use Rattle.sifc_def.specs.Ast.{Block, IfStmt, ElifStmt, ForStmt, ReturnStmt, ExprStmt, VarDecl, FnDecl, FnParams, IdentPair, ItemList, TableItem, Table, Array, ArrayItems, PrimaryExpr}
-use Rattle.sifc_def.specs.State.{Node, node, Sym, err, tokAt, Ctx, St, Out, done, refuse, M, Void, go-on, consume, throw, expect, optional, ident, push, addError}
+use Rattle.sifc_def.specs.State.{Node, node, Sym, err, tokAt, Ctx, St, done, M, Void, go-on, expect, ident, push, addError}
 use Rattle.sifc_def.specs.Symbols.{store, setLevel, initScope, closeScope}
-use Rattle.sifc_def.specs.Expr.{Rec, paramList}
+use Rattle.sifc_def.specs.Expr.{Rec}
 use Rattle.sifc_def.specs.Stmt.{bind, withReturn, identNode, param, identPair, declareVar, arrayNodes, endIf, commaList, arrayDecl, tableItem, itemList, tableDecl, initial, varDecl, fnDecl, elifStmt, elseBlock, branches, ifStmt, forStmt, retStmt, exprStmt, stmt, decl, decls, block}
-use Rattle.sifc_def.specs.OutcomeLaws.{Holds, by-test, is-done, is-fail, is-refused, branch, call, inner, last}
+use Rattle.sifc_def.specs.OutcomeLaws.{Holds, by-test, is-done, branch, call, inner, last}
 use Rattle.sifc_def.specs.GroveLaws.{Fit, Grows, Kept, keeping, grows-none, grows-as, grows-then, grows-over}
-use Rattle.sifc_def.specs.StepLaws.{Toks, Well, clash, kindAt, FairWhat, FairErr, well-nodes, well-level, moved, pushed, stored, withErr, other, Next, Stored, keyword, consumes, expects, expects-or, takes, optionals, pushes, stores, throws, lists, idents, expect-last, push-last, store-last}
-use Rattle.sifc_def.specs.ExprLaws.{Reads, Fell, ItemOf, Item, Params, params-read}
+use Rattle.sifc_def.specs.StepLaws.{Toks, Well, clash, kindAt, well-nodes, well-level, moved, pushed, stored, withErr, other, Next, Stored, keyword, consumes, expects, expects-or, takes, optionals, pushes, stores, throws, lists, idents, expect-last, push-last, store-last}
+use Rattle.sifc_def.specs.ExprLaws.{Reads, Fell, ItemOf, Item, params-read}
 
 module _ (c : Ctx) (b : ℕ → ℕ) where
   -- from s to s′, with k tokens to spare for nodes, y for symbols (beyond m names that are given), and x for errors

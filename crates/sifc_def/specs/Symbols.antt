@@ -5,11 +5,10 @@ use mathlib.Core.Option.{Option, none, some}
 use mathlib.Core.Bool.{Bool, true, false, _&&_}
 use lib.Dec.{eqb, leb}
 use lib.ListN.{length}
-use Rattle.sifc_err.specs.declared.Refusal.{Refusal}
 use Rattle.sifc_err.specs.declared.Refusal.the-variants.{SymbolsFull}
 use Rattle.sifc_lex.specs.Base.{if_then_else_, same}
 use Rattle.sifc_def.specs.declared.What.{What}
-use Rattle.sifc_def.specs.State.{Sym, Ctx, St, Out, done, refuse, M, Void, _>>=_, _>>_, go-on, ok, nameAt}
+use Rattle.sifc_def.specs.State.{Sym, Ctx, done, refuse, M, Void, _>>=_, _>>_, nameAt}
 
 unfoldable pub isSym : ℕ → List ℕ → Sym → Bool
 isSym l n x = eqb (x .level) l && same (x .name) n

@@ -1,15 +1,15 @@
 -- Canonical text (document 01): the words of a tree, then its bytes. "Tokens with one space between; a newline after each top-level declaration; no comments,
 -- `@` or trailing commas; an empty tree gives no bytes."
-use Prim.Native.Nat.{ℕ, zero, suc, _-_}
+use Prim.Native.Nat.{ℕ, _-_}
 use mathlib.Core.List.{List, [], _∷_, _++_}
-use mathlib.Core.Bool.{Bool, true, false, _||_}
+use mathlib.Core.Bool.{Bool, true, false}
 use lib.Dec.{eqb, leb, ltb}
 use Rattle.sifc_lex.specs.declared.lex.Step.{Step}
 use Rattle.sifc_lex.specs.declared.lex.Step.the-variants.{Skip, Word, Stop}
 use Rattle.sifc_lex.specs.Base.{if_then_else_, member}
 use Rattle.sifc_lex.specs.Lex.{step}
 use Rattle.sifc_def.specs.Ascii.{ascii}
-use Rattle.sifc_def.specs.Ast.{Program, Block, IfStmt, ElifStmt, ForStmt, ReturnStmt, ExprStmt, VarDecl, FnDecl, FnParams, IdentPair, ItemList, TableItem, Table, TableAccess, Array, ArrayItems, ArrayAccess, ArrayMutExpr, FnCallExpr, VarAssignExpr, BinaryExpr, UnaryExpr, PrimaryExpr}
+use Rattle.sifc_def.specs.Ast.{Block, IfStmt, ElifStmt, ForStmt, ReturnStmt, ExprStmt, VarDecl, FnDecl, FnParams, IdentPair, ItemList, TableItem, Table, TableAccess, Array, ArrayItems, ArrayAccess, ArrayMutExpr, FnCallExpr, VarAssignExpr, BinaryExpr, UnaryExpr, PrimaryExpr}
 use Rattle.sifc_def.specs.Expr.{looseness}
 use Rattle.sifc_def.specs.Label.{Lab}
 use Rattle.sifc_def.specs.Tree.{Tree, tree, Forest, leaf, grow, gather, dec}

@@ -3,25 +3,25 @@ use Prim.Native.Nat.{ℕ, zero, suc, _+_, _≤_, _<_}
 use mathlib.Core.List.{List, [], _∷_}
 use mathlib.Core.Bool.{Bool, true, false, _&&_, not}
 use mathlib.Core.Logic.{_⊎_, inl, inr}
-use mathlib.Core.Path.{_≡_, refl, sym, ap, _∙_, subst}
+use mathlib.Core.Path.{_≡_, refl, subst}
 use native.Mathlib.Omega.{arith}
 use lib.Dec.{T, T-not, eqb, ltb, ltb→lt}
-use lib.ListN.{length, getD, take, drop}
+use lib.ListN.{length, take, drop}
 use borrow.Author.Tests.{eqb-true, eqb-false}
 use Rattle.sifc_err.specs.declared.Token.{Token}
 use Rattle.sifc_err.specs.declared.Ending.{Ending}
 use Rattle.sifc_err.specs.declared.Ending.the-variants.{TrueEnd, UnknownChar, UnterminatedString, Panic}
 use Rattle.sifc_lex.specs.declared.lex.Step.{Step}
 use Rattle.sifc_lex.specs.declared.lex.Step.the-variants.{Skip, Word, Stop}
-use Rattle.sifc_lex.specs.Base.{if_then_else_, member, same, span}
+use Rattle.sifc_lex.specs.Base.{member, same, span}
 use Rattle.sifc_lex.specs.BaseLaws.{and-left, and-right, if-either, same-lengths, length-span}
 use Rattle.sifc_lex.specs.Kind.{Var, Fn, For, Eof, LexPanic}
 use Rattle.sifc_lex.specs.Reserved.{reservedWords, kindAmong, nameKind}
 use Rattle.sifc_lex.specs.Reserved as Reserved
-use Rattle.sifc_lex.specs.Lex.{white, digit, letter, alnum, inLine, inStr, Sign, doubles, singles, singleKind, doubleKind, oneSign, lexSign, hashComment, lineEnd, slashComment, nextIs, lexSlash, closed, lexStr, pointed, fraction, lexNum, lexIdent, step, token, endKind, endLen, Lexed, ended, onStep, lexFrom, lexed, lex}
+use Rattle.sifc_lex.specs.Lex.{white, digit, letter, alnum, inLine, inStr, Sign, doubles, singles, singleKind, doubleKind, oneSign, lexSign, hashComment, lineEnd, slashComment, nextIs, lexSlash, closed, lexStr, pointed, fraction, lexNum, lexIdent, step, endKind, endLen, Lexed, ended, onStep, lexFrom, lexed, lex}
 use Rattle.sifc_lex.specs.LexLaws.{Run, lex-runs}
 use Rattle.sifc_lex.specs.LexLaws.Run.{last, more}
-use Rattle.sifc_def.specs.State.{Ctx, tokenAt, tokAt}
+use Rattle.sifc_def.specs.State.{Ctx, tokenAt}
 use Rattle.sifc_def.specs.OutcomeLaws.{by-test}
 use Rattle.sifc_def.specs.StepLaws.{Toks, Each, clash}
 

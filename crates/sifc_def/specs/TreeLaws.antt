@@ -1,6 +1,6 @@
 -- A list of labels, children first, is read back to its tree: `enc` is injective.
 use Prim.Native.Nat.{ℕ, zero, suc, _+_}
-use mathlib.Core.List.{List, [], _∷_, _++_, map, reverse, append-assoc, append-nil, map-append, reverse-cons}
+use mathlib.Core.List.{List, [], _∷_, _++_, reverse, append-assoc, append-nil, map-append, reverse-cons}
 use mathlib.Core.Path.{_≡_, refl, sym, ap, _∙_}
 use native.Mathlib.Nat.{zero-add, suc-add, add-suc, add-zero}
 use native.Mathlib.Omega.{arith}

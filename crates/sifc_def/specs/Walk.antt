@@ -1,11 +1,9 @@
 -- The walk: the counted calls tied together, and parse of parser.rs.
 use Prim.Native.Nat.{ℕ, zero, suc}
-use mathlib.Core.List.{List, [], _∷_}
+use mathlib.Core.List.{[]}
 use mathlib.Core.Option.{Option, none, some}
 use mathlib.Core.Bool.{Bool, true, false}
 use lib.Dec.{eqb}
-use lib.ListN.{length}
-use Rattle.sifc_err.specs.declared.Refusal.{Refusal}
 use Rattle.sifc_err.specs.declared.Refusal.the-variants.{TooDeep}
 use Rattle.sifc_lex.specs.Base.{if_then_else_, member, same}
 use Rattle.sifc_lex.specs.Kind.{Eof}
@@ -13,7 +11,7 @@ use Rattle.sifc_lex.specs.Reserved.{isStdLibFn}
 use Rattle.sifc_def.specs.declared.Err.{Err}
 use Rattle.sifc_def.specs.Ast.{Program}
 use Rattle.sifc_def.specs.Error.{continuable}
-use Rattle.sifc_def.specs.State.{Ctx, St, Out, done, fail, refuse, M, Void, go-on, _>>=_, _>>_, return, ok, nameOf, kindNow, panicAt, arrive, consume, list, raise, addErrorWPos, addError, throw, throwPast, expect, optional, matchIdent, orThrow, ident, push, count, setNodes, keep, without}
+use Rattle.sifc_def.specs.State.{Ctx, St, Out, done, fail, refuse, M, Void, go-on, _>>=_, _>>_, return, nameOf, kindNow, panicAt, arrive, consume, list, raise, addErrorWPos, addError, throw, throwPast, expect, optional, matchIdent, orThrow, ident, push, count, setNodes, keep, without}
 use Rattle.sifc_def.specs.Symbols.{isSym, findAt, find, putAt, retrieve, store, setLevel, initScope, closeScope, setCheck}
 use Rattle.sifc_def.specs.Expr.{Rec, fuel, looseness, isUnary, isLiteral, operators, levels, assignVar, assignToken, assignArray, assignNothing, assignTo, separator, paramList, single, callCounted, callDeclared, callName, isNamed, callNamed, literal, known, checkName, identExpr, assignExpr, unaryExpr, groupExpr, atExpr, primaryExpr, callPart, dot, index, postfix, fnCallExpr}
 use Rattle.sifc_def.specs.Stmt.{bind, withReturn, identNode, param, identPair, declareVar, arrayNodes, endIf, commaList, arrayDecl, tableItem, itemList, tableDecl, initial, varDecl, fnDecl, elifStmt, elseBlock, branches, ifStmt, forStmt, retStmt, exprStmt, stmt, decl, decls, block}

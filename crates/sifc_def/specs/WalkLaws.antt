@@ -1,24 +1,23 @@
 -- The walk as a whole: the counted calls are good at every depth, a walk never fails, and what it leaves is in bounds and one tree.
-use Prim.Native.Nat.{ℕ, zero, suc, _+_, _-_, _*_, _≤_, _<_}
-use mathlib.Core.List.{List, [], _∷_, _++_}
+use Prim.Native.Nat.{ℕ, zero, suc, _+_, _-_, _*_, _≤_}
+use mathlib.Core.List.{List, [], _++_}
 use mathlib.Core.Option.{Option, none, some}
 use mathlib.Core.Bool.{Bool, true, false}
-use mathlib.Core.Logic.{_⊎_}
-use mathlib.Core.Path.{_≡_, refl, sym, ap, _∙_, subst}
+use mathlib.Core.Path.{_≡_}
 use native.Mathlib.Omega.{arith}
-use lib.Dec.{T, eqb}
-use lib.ListN.{length, length-append, drop}
+use lib.Dec.{eqb}
+use lib.ListN.{length, length-append}
 use lib.Seq.{drop-at}
 use Rattle.sifc_lex.specs.Base.{if_then_else_}
 use Rattle.sifc_lex.specs.Kind.{Eof, LexPanic}
 use Rattle.sifc_def.specs.declared.Err.{Err}
 use Rattle.sifc_def.specs.Ast.{Program}
 use Rattle.sifc_def.specs.Error.{continuable}
-use Rattle.sifc_def.specs.State.{Node, node, Ctx, St, Out, done, fail, refuse, M, Void, go-on, arrive, setNodes, keep}
+use Rattle.sifc_def.specs.State.{Node, Ctx, St, Out, done, fail, refuse, M, Void, go-on, arrive, setNodes, keep}
 use Rattle.sifc_def.specs.Stmt.{decl}
-use Rattle.sifc_def.specs.Walk.{End, end, start, walkers, giveUp, settled, topDecl, endRead, program, walk}
-use Rattle.sifc_def.specs.OutcomeLaws.{Holds, by-test, is-done, is-fail, is-refused, branch, call, last}
-use Rattle.sifc_def.specs.GroveLaws.{Fit, Grows, Kept, grows-none, grows-as, grows-then, grows-over}
+use Rattle.sifc_def.specs.Walk.{End, start, walkers, giveUp, settled, topDecl, endRead, program, walk}
+use Rattle.sifc_def.specs.OutcomeLaws.{Holds, by-test, is-done, is-refused, branch, call}
+use Rattle.sifc_def.specs.GroveLaws.{Grows, Kept, grows-none, grows-as, grows-then, grows-over}
 use Rattle.sifc_def.specs.StepLaws.{Toks, Well, Each, kindAt, well-nodes, pushes}
 use Rattle.sifc_def.specs.ExprLaws.{assign-reads, unary-reads, fn-call-reads}
 use Rattle.sifc_def.specs.StmtLaws.{Does, Broke, Decl, Good, moved-on, decl-does, block-does}
