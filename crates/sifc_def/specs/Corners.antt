@@ -10,11 +10,10 @@ use Rattle.sifc_err.specs.declared.parse_err.ParseErrTy.the-variants.{TknMismat
 use Rattle.sifc_lex.specs.Kind.{LeftParen, RightParen, Semicolon, Eq, Ident, Str, Val, Var, Eof, LexPanic}
 use Rattle.sifc_lex.specs.Lex.{token}
 use Rattle.sifc_def.specs.declared.Early.the-variants.{Never, By}
-use Rattle.sifc_def.specs.declared.Texting.the-variants.{Wrote, Refused}
 use Rattle.sifc_def.specs.Ast.{Program, ExprStmt, VarDecl, FnCallExpr, PrimaryExpr}
 use Rattle.sifc_def.specs.State.{node}
 use Rattle.sifc_def.specs.Ascii.{ascii}
-use Rattle.sifc_def.specs.Case.{Case, reads, says, writes, answers, listed, Short, no, ok, early, ran, said}
+use Rattle.sifc_def.specs.Case.{Case, reads, says, answers, listed, Short, no, ok, early, ran, said}
 
 -- with room enough
 abbrev ample : List ℕ → Short → Case
@@ -128,17 +127,6 @@ corners =
     ∷ says 6 20 10 (ascii "var a;a[0]=1;") (no NodesFull)
     ∷ says 4 20 10 (ascii "(1+2).3;") (no (SourceFault 4 5))
     ∷ says 3 20 10 (ascii "(1+2).3;") (no NodesFull)
-    -- canonical text: its buffer, the flag, the parentheses, what is left out, the inserted return
-    ∷ writes 24 "var a=(1+2)*3;" (Wrote 24) "var a = ( 1 + 2 ) * 3 ;\n"
-    ∷ writes 23 "var a=(1+2)*3;" (Refused TextFull) ""
-    ∷ writes 9 "a;" (Refused Flagged) ""
-    ∷ writes 9 "" (Wrote 0) ""
-    ∷ writes 40 "(1*2)%3; 1*(2%3);" (Wrote 28) "( 1 * 2 ) % 3 ;\n1 * 2 % 3 ;\n"
-    ∷ writes 9 "5 _" (Refused Flagged) ""
-    ∷ writes 200 "fn f(a,b,){ if a {return b;} elif !(-b) {f(1,2);} }" (Wrote 77) "fn f ( a , b ) { if a { return b ; } elif ! - b { f ( 1 , 2 ) ; } return ; }\n"
-    ∷ writes 200 "var x=[1,2,]; x[0]=@x[(1+2)-(3-4)]%2*3; for i,j in x { print(i,); }" (Wrote 97) "var x = [ 1 , 2 ] ;\nx [ 0 ] = x [ 1 + 2 - ( 3 - 4 ) ] % 2 * 3 ;\nfor i , j in x { print ( i ) ; }\n"
-    ∷ writes 200 "var t=[[a=>\"s\",a=>1]]; t.(b)=1; -(t.b); !(1<2)==(t=1); if 1 {} else {} elif 2 {}" (Refused Flagged) ""
-    ∷ writes 200 "var t=[[a=>\"s\",a=>1]]; var u=[]; -(t.b); !(1<2)==(t=1); (t)=2; if 1 {} else {} elif 2 {}" (Wrote 126) "var t = [[ a => \"s\" , a => 1 ]] ;\nvar u = [ ] ;\n- ( t . b ) ;\n! ( 1 < 2 ) == ( t = 1 ) ;\nt = 2 ;\nif 1 { } else { } elif 2 { }\n"
     ∷ []
 
 pub cornered : map ran corners ≡ map said corners

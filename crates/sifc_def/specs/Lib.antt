@@ -23,3 +23,6 @@ pub mod ReadLaws
 pub mod Case
 pub mod Cases
 pub mod Corners
+pub mod Typed
+pub mod Round
+pub mod Canon
