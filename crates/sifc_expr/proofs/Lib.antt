@@ -1,0 +1,4 @@
+pub mod Steps
+pub mod Small
+pub mod Loops
+pub mod Names

@@ -1,0 +1,3 @@
+pub mod Abs
+pub mod Small
+pub mod Name

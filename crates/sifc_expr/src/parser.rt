@@ -1,0 +1,677 @@
+// The cycle of the expressions: assign_expr down to group_expr and back, with the remaining depth
+// as falling number. `depth` is how many more of the counted calls may be active.
+use crate::name::assign_to;
+use crate::name::call_named;
+use crate::name::ident_expr;
+use crate::step::access;
+use crate::step::add_error;
+use crate::step::consume;
+use crate::step::expect;
+use crate::step::is_literal;
+use crate::step::is_unary;
+use crate::step::kind_at;
+use crate::step::literal;
+use crate::step::looseness;
+use crate::step::push_node;
+use crate::step::separator;
+use crate::step::set_check;
+use crate::step::throw_past;
+use crate::step::top;
+use crate::step::with_count;
+use crate::walk::Limits;
+use crate::walk::Parsed;
+use crate::walk::Target;
+use crate::walk::Walk;
+use sifc_def::Why;
+use sifc_err::Refusal;
+ghost use mathlib.Core.Path.{_≡_};
+ghost use Prim.Native.Nat.{_≤_, _<_};
+ghost use Rattle.sifc_def.specs.Expr.{fuel, levels, paramList, groupExpr, primaryExpr, callPart, dot, index};
+ghost use Rattle.sifc_def.specs.Walk.{walkers};
+ghost use Rattle.sifc_expr.specs.Abs.{inp, mem, Ready, Does, Counts, countOf};
+ghost use Rattle.sifc_expr.specs.Small.{nodeOf};
+
+const LEFT_PAREN: u32 = 1;
+
+const RIGHT_PAREN: u32 = 2;
+
+const LEFT_BRACKET: u32 = 5;
+
+const RIGHT_BRACKET: u32 = 6;
+
+const EQ: u32 = 8;
+
+const PERIOD: u32 = 11;
+
+const AT: u32 = 21;
+
+const IDENT: u32 = 31;
+
+const EOF: u32 = 47;
+
+// Head words: kind + 64 × children.
+const TABLE_ACCESS: u32 = 143;
+
+const ARRAY_ACCESS: u32 = 146;
+
+const BINARY_EXPR: u32 = 150;
+
+const UNARY_EXPR: u32 = 87;
+
+// FN_PARAM_MAX_LEN
+const FN_PARAM_MAX_LEN: usize = 64;
+
+// The message "unexpected end of file" of InvalidTkn.
+const END_OF_FILE: u32 = 2;
+
+// An expression.
+pub fn expr(
+    script: &[u8],
+    offs: &[u32],
+    words: &[u32],
+    symbols: &mut [u32],
+    head: &mut [u32],
+    load: &mut [u32],
+    lim: Limits,
+    w: Walk,
+    depth: usize,
+) -> Parsed
+    requires { ⌜ Ready (inp (now script) (now offs) (now words) lim) (mem (now symbols) (now head) (now load)) w ⌝ }
+    ensures { λ r. ⌜ Does 1 (λ c. walkers c depth .assign) (inp (now (script .entry)) (now (offs .entry)) (now (words .entry)) lim) (mem (now (symbols .entry)) (now (head .entry)) (now (load .entry))) w r (mem (now (symbols .exit)) (now (head .exit)) (now (load .exit))) ⌝ }
+{
+    assign_expr(script, offs, words, symbols, head, load, lim, w, depth)
+}
+
+// Assignment, whose target must be a name or an array access.
+fn assign_expr(
+    script: &[u8],
+    offs: &[u32],
+    words: &[u32],
+    symbols: &mut [u32],
+    head: &mut [u32],
+    load: &mut [u32],
+    lim: Limits,
+    w: Walk,
+    depth: usize,
+) -> Parsed
+    requires { ⌜ Ready (inp (now script) (now offs) (now words) lim) (mem (now symbols) (now head) (now load)) w ⌝ }
+    ensures { λ r. ⌜ Does 1 (λ c. walkers c depth .assign) (inp (now (script .entry)) (now (offs .entry)) (now (words .entry)) lim) (mem (now (symbols .entry)) (now (head .entry)) (now (load .entry))) w r (mem (now (symbols .exit)) (now (head .exit)) (now (load .exit))) ⌝ }
+{
+    if depth == 0 {
+        return Parsed::Refused(Refusal::TooDeep);
+    }
+    let below = depth - 1;
+    let lhs = or_expr(script, offs, words, symbols, head, load, lim, w, below);
+    let Parsed::Done(x) = lhs else {
+        return lhs;
+    };
+    let target = top(head, load, x.nodes);
+    let op = x.at;
+    if kind_at(words, op) != EQ {
+        return Parsed::Done(x);
+    }
+    let passed = consume(offs, words, lim, x);
+    let Parsed::Done(y) = passed else {
+        return passed;
+    };
+    let rhs = assign_expr(script, offs, words, symbols, head, load, lim, y, below);
+    let Parsed::Done(z) = rhs else {
+        return rhs;
+    };
+    assign_to(script, offs, words, symbols, head, load, lim, z, target, x.nodes, op)
+}
+
+// `||`.
+fn or_expr(
+    script: &[u8],
+    offs: &[u32],
+    words: &[u32],
+    symbols: &mut [u32],
+    head: &mut [u32],
+    load: &mut [u32],
+    lim: Limits,
+    w: Walk,
+    depth: usize,
+) -> Parsed
+    requires { ⌜ Ready (inp (now script) (now offs) (now words) lim) (mem (now symbols) (now head) (now load)) w ⌝ }
+    ensures { λ r. ⌜ Does 1 (λ c. levels c 7 (walkers c depth .unary)) (inp (now (script .entry)) (now (offs .entry)) (now (words .entry)) lim) (mem (now (symbols .entry)) (now (head .entry)) (now (load .entry))) w r (mem (now (symbols .exit)) (now (head .exit)) (now (load .exit))) ⌝ }
+{
+    let lhs = and_expr(script, offs, words, symbols, head, load, lim, w, depth);
+    let Parsed::Done(first) = lhs else {
+        return lhs;
+    };
+    let mut x = first;
+    loop {
+        let op = x.at;
+        if looseness(kind_at(words, op)) != 7 {
+            return Parsed::Done(x);
+        }
+        let passed = consume(offs, words, lim, x);
+        let Parsed::Done(next) = passed else {
+            return passed;
+        };
+        let rhs = and_expr(script, offs, words, symbols, head, load, lim, next, depth);
+        let Parsed::Done(y) = rhs else {
+            return rhs;
+        };
+        let made = push_node(head, load, y, BINARY_EXPR, op as u32);
+        let Parsed::Done(z) = made else {
+            return made;
+        };
+        x = z;
+    }
+}
+
+// `&&`.
+fn and_expr(
+    script: &[u8],
+    offs: &[u32],
+    words: &[u32],
+    symbols: &mut [u32],
+    head: &mut [u32],
+    load: &mut [u32],
+    lim: Limits,
+    w: Walk,
+    depth: usize,
+) -> Parsed
+    requires { ⌜ Ready (inp (now script) (now offs) (now words) lim) (mem (now symbols) (now head) (now load)) w ⌝ }
+    ensures { λ r. ⌜ Does 1 (λ c. levels c 6 (walkers c depth .unary)) (inp (now (script .entry)) (now (offs .entry)) (now (words .entry)) lim) (mem (now (symbols .entry)) (now (head .entry)) (now (load .entry))) w r (mem (now (symbols .exit)) (now (head .exit)) (now (load .exit))) ⌝ }
+{
+    let lhs = equality_expr(script, offs, words, symbols, head, load, lim, w, depth);
+    let Parsed::Done(first) = lhs else {
+        return lhs;
+    };
+    let mut x = first;
+    loop {
+        let op = x.at;
+        if looseness(kind_at(words, op)) != 6 {
+            return Parsed::Done(x);
+        }
+        let passed = consume(offs, words, lim, x);
+        let Parsed::Done(next) = passed else {
+            return passed;
+        };
+        let rhs = equality_expr(script, offs, words, symbols, head, load, lim, next, depth);
+        let Parsed::Done(y) = rhs else {
+            return rhs;
+        };
+        let made = push_node(head, load, y, BINARY_EXPR, op as u32);
+        let Parsed::Done(z) = made else {
+            return made;
+        };
+        x = z;
+    }
+}
+
+// `!=` and `==`.
+fn equality_expr(
+    script: &[u8],
+    offs: &[u32],
+    words: &[u32],
+    symbols: &mut [u32],
+    head: &mut [u32],
+    load: &mut [u32],
+    lim: Limits,
+    w: Walk,
+    depth: usize,
+) -> Parsed
+    requires { ⌜ Ready (inp (now script) (now offs) (now words) lim) (mem (now symbols) (now head) (now load)) w ⌝ }
+    ensures { λ r. ⌜ Does 1 (λ c. levels c 5 (walkers c depth .unary)) (inp (now (script .entry)) (now (offs .entry)) (now (words .entry)) lim) (mem (now (symbols .entry)) (now (head .entry)) (now (load .entry))) w r (mem (now (symbols .exit)) (now (head .exit)) (now (load .exit))) ⌝ }
+{
+    let lhs = compr_expr(script, offs, words, symbols, head, load, lim, w, depth);
+    let Parsed::Done(first) = lhs else {
+        return lhs;
+    };
+    let mut x = first;
+    loop {
+        let op = x.at;
+        if looseness(kind_at(words, op)) != 5 {
+            return Parsed::Done(x);
+        }
+        let passed = consume(offs, words, lim, x);
+        let Parsed::Done(next) = passed else {
+            return passed;
+        };
+        let rhs = compr_expr(script, offs, words, symbols, head, load, lim, next, depth);
+        let Parsed::Done(y) = rhs else {
+            return rhs;
+        };
+        let made = push_node(head, load, y, BINARY_EXPR, op as u32);
+        let Parsed::Done(z) = made else {
+            return made;
+        };
+        x = z;
+    }
+}
+
+// `<`, `<=`, `>` and `>=`.
+fn compr_expr(
+    script: &[u8],
+    offs: &[u32],
+    words: &[u32],
+    symbols: &mut [u32],
+    head: &mut [u32],
+    load: &mut [u32],
+    lim: Limits,
+    w: Walk,
+    depth: usize,
+) -> Parsed
+    requires { ⌜ Ready (inp (now script) (now offs) (now words) lim) (mem (now symbols) (now head) (now load)) w ⌝ }
+    ensures { λ r. ⌜ Does 1 (λ c. levels c 4 (walkers c depth .unary)) (inp (now (script .entry)) (now (offs .entry)) (now (words .entry)) lim) (mem (now (symbols .entry)) (now (head .entry)) (now (load .entry))) w r (mem (now (symbols .exit)) (now (head .exit)) (now (load .exit))) ⌝ }
+{
+    let lhs = add_or_sub_expr(script, offs, words, symbols, head, load, lim, w, depth);
+    let Parsed::Done(first) = lhs else {
+        return lhs;
+    };
+    let mut x = first;
+    loop {
+        let op = x.at;
+        if looseness(kind_at(words, op)) != 4 {
+            return Parsed::Done(x);
+        }
+        let passed = consume(offs, words, lim, x);
+        let Parsed::Done(next) = passed else {
+            return passed;
+        };
+        let rhs = add_or_sub_expr(script, offs, words, symbols, head, load, lim, next, depth);
+        let Parsed::Done(y) = rhs else {
+            return rhs;
+        };
+        let made = push_node(head, load, y, BINARY_EXPR, op as u32);
+        let Parsed::Done(z) = made else {
+            return made;
+        };
+        x = z;
+    }
+}
+
+// `+` and `-`.
+fn add_or_sub_expr(
+    script: &[u8],
+    offs: &[u32],
+    words: &[u32],
+    symbols: &mut [u32],
+    head: &mut [u32],
+    load: &mut [u32],
+    lim: Limits,
+    w: Walk,
+    depth: usize,
+) -> Parsed
+    requires { ⌜ Ready (inp (now script) (now offs) (now words) lim) (mem (now symbols) (now head) (now load)) w ⌝ }
+    ensures { λ r. ⌜ Does 1 (λ c. levels c 3 (walkers c depth .unary)) (inp (now (script .entry)) (now (offs .entry)) (now (words .entry)) lim) (mem (now (symbols .entry)) (now (head .entry)) (now (load .entry))) w r (mem (now (symbols .exit)) (now (head .exit)) (now (load .exit))) ⌝ }
+{
+    let lhs = mul_or_div_expr(script, offs, words, symbols, head, load, lim, w, depth);
+    let Parsed::Done(first) = lhs else {
+        return lhs;
+    };
+    let mut x = first;
+    loop {
+        let op = x.at;
+        if looseness(kind_at(words, op)) != 3 {
+            return Parsed::Done(x);
+        }
+        let passed = consume(offs, words, lim, x);
+        let Parsed::Done(next) = passed else {
+            return passed;
+        };
+        let rhs = mul_or_div_expr(script, offs, words, symbols, head, load, lim, next, depth);
+        let Parsed::Done(y) = rhs else {
+            return rhs;
+        };
+        let made = push_node(head, load, y, BINARY_EXPR, op as u32);
+        let Parsed::Done(z) = made else {
+            return made;
+        };
+        x = z;
+    }
+}
+
+// `*` and `/`.
+fn mul_or_div_expr(
+    script: &[u8],
+    offs: &[u32],
+    words: &[u32],
+    symbols: &mut [u32],
+    head: &mut [u32],
+    load: &mut [u32],
+    lim: Limits,
+    w: Walk,
+    depth: usize,
+) -> Parsed
+    requires { ⌜ Ready (inp (now script) (now offs) (now words) lim) (mem (now symbols) (now head) (now load)) w ⌝ }
+    ensures { λ r. ⌜ Does 1 (λ c. levels c 2 (walkers c depth .unary)) (inp (now (script .entry)) (now (offs .entry)) (now (words .entry)) lim) (mem (now (symbols .entry)) (now (head .entry)) (now (load .entry))) w r (mem (now (symbols .exit)) (now (head .exit)) (now (load .exit))) ⌝ }
+{
+    let lhs = mod_expr(script, offs, words, symbols, head, load, lim, w, depth);
+    let Parsed::Done(first) = lhs else {
+        return lhs;
+    };
+    let mut x = first;
+    loop {
+        let op = x.at;
+        if looseness(kind_at(words, op)) != 2 {
+            return Parsed::Done(x);
+        }
+        let passed = consume(offs, words, lim, x);
+        let Parsed::Done(next) = passed else {
+            return passed;
+        };
+        let rhs = mod_expr(script, offs, words, symbols, head, load, lim, next, depth);
+        let Parsed::Done(y) = rhs else {
+            return rhs;
+        };
+        let made = push_node(head, load, y, BINARY_EXPR, op as u32);
+        let Parsed::Done(z) = made else {
+            return made;
+        };
+        x = z;
+    }
+}
+
+// `%`.
+fn mod_expr(
+    script: &[u8],
+    offs: &[u32],
+    words: &[u32],
+    symbols: &mut [u32],
+    head: &mut [u32],
+    load: &mut [u32],
+    lim: Limits,
+    w: Walk,
+    depth: usize,
+) -> Parsed
+    requires { ⌜ Ready (inp (now script) (now offs) (now words) lim) (mem (now symbols) (now head) (now load)) w ⌝ }
+    ensures { λ r. ⌜ Does 1 (λ c. levels c 1 (walkers c depth .unary)) (inp (now (script .entry)) (now (offs .entry)) (now (words .entry)) lim) (mem (now (symbols .entry)) (now (head .entry)) (now (load .entry))) w r (mem (now (symbols .exit)) (now (head .exit)) (now (load .exit))) ⌝ }
+{
+    let lhs = unary_expr(script, offs, words, symbols, head, load, lim, w, depth);
+    let Parsed::Done(first) = lhs else {
+        return lhs;
+    };
+    let mut x = first;
+    loop {
+        let op = x.at;
+        if looseness(kind_at(words, op)) != 1 {
+            return Parsed::Done(x);
+        }
+        let passed = consume(offs, words, lim, x);
+        let Parsed::Done(next) = passed else {
+            return passed;
+        };
+        let rhs = unary_expr(script, offs, words, symbols, head, load, lim, next, depth);
+        let Parsed::Done(y) = rhs else {
+            return rhs;
+        };
+        let made = push_node(head, load, y, BINARY_EXPR, op as u32);
+        let Parsed::Done(z) = made else {
+            return made;
+        };
+        x = z;
+    }
+}
+
+// `!` and `-`.
+fn unary_expr(
+    script: &[u8],
+    offs: &[u32],
+    words: &[u32],
+    symbols: &mut [u32],
+    head: &mut [u32],
+    load: &mut [u32],
+    lim: Limits,
+    w: Walk,
+    depth: usize,
+) -> Parsed
+    requires { ⌜ Ready (inp (now script) (now offs) (now words) lim) (mem (now symbols) (now head) (now load)) w ⌝ }
+    ensures { λ r. ⌜ Does 1 (λ c. walkers c depth .unary) (inp (now (script .entry)) (now (offs .entry)) (now (words .entry)) lim) (mem (now (symbols .entry)) (now (head .entry)) (now (load .entry))) w r (mem (now (symbols .exit)) (now (head .exit)) (now (load .exit))) ⌝ }
+{
+    if depth == 0 {
+        return Parsed::Refused(Refusal::TooDeep);
+    }
+    let below = depth - 1;
+    let at = w.at;
+    if !is_unary(kind_at(words, at)) {
+        return fn_call_expr(script, offs, words, symbols, head, load, lim, w, below);
+    }
+    let passed = consume(offs, words, lim, w);
+    let Parsed::Done(x) = passed else {
+        return passed;
+    };
+    let rhs = unary_expr(script, offs, words, symbols, head, load, lim, x, below);
+    let Parsed::Done(y) = rhs else {
+        return rhs;
+    };
+    push_node(head, load, y, UNARY_EXPR, at as u32)
+}
+
+// A primary expression, and one suffix if there is one: a call, `.` or `[`.
+fn fn_call_expr(
+    script: &[u8],
+    offs: &[u32],
+    words: &[u32],
+    symbols: &mut [u32],
+    head: &mut [u32],
+    load: &mut [u32],
+    lim: Limits,
+    w: Walk,
+    depth: usize,
+) -> Parsed
+    requires { ⌜ Ready (inp (now script) (now offs) (now words) lim) (mem (now symbols) (now head) (now load)) w ⌝ }
+    ensures { λ r. ⌜ Does 1 (λ c. walkers c depth .call) (inp (now (script .entry)) (now (offs .entry)) (now (words .entry)) lim) (mem (now (symbols .entry)) (now (head .entry)) (now (load .entry))) w r (mem (now (symbols .exit)) (now (head .exit)) (now (load .exit))) ⌝ }
+{
+    if depth == 0 {
+        return Parsed::Refused(Refusal::TooDeep);
+    }
+    let below = depth - 1;
+    let first = primary_expr(script, offs, words, symbols, head, load, lim, w, below);
+    let Parsed::Done(x) = first else {
+        return first;
+    };
+    let target = top(head, load, x.nodes);
+    let k = kind_at(words, x.at);
+    if k == LEFT_PAREN {
+        return call_suffix(script, offs, words, symbols, head, load, lim, x, below, target);
+    }
+    if k == PERIOD {
+        return dot_suffix(script, offs, words, symbols, head, load, lim, x, below, target);
+    }
+    if k == LEFT_BRACKET {
+        return index_suffix(script, offs, words, symbols, head, load, lim, x, below, target);
+    }
+    Parsed::Done(x)
+}
+
+// A call's arguments, then its name: panic 3 and the name's check come after `)`.
+fn call_suffix(
+    script: &[u8],
+    offs: &[u32],
+    words: &[u32],
+    symbols: &mut [u32],
+    head: &mut [u32],
+    load: &mut [u32],
+    lim: Limits,
+    w: Walk,
+    depth: usize,
+    target: Target,
+) -> Parsed
+    requires { ⌜ Ready (inp (now script) (now offs) (now words) lim) (mem (now symbols) (now head) (now load)) w ⌝ }
+    ensures { λ r. ⌜ Does 0 (λ c. callPart c (walkers c depth) (nodeOf target) (w .at)) (inp (now (script .entry)) (now (offs .entry)) (now (words .entry)) lim) (mem (now (symbols .entry)) (now (head .entry)) (now (load .entry))) w r (mem (now (symbols .exit)) (now (head .exit)) (now (load .exit))) ⌝ }
+{
+    let sign = w.at;
+    let passed = consume(offs, words, lim, w);
+    let Parsed::Done(x) = passed else {
+        return passed;
+    };
+    let items = param_list(script, offs, words, symbols, head, load, lim, x, depth);
+    let Parsed::Done(y) = items else {
+        return items;
+    };
+    let closed = expect(offs, words, lim, y, RIGHT_PAREN);
+    let Parsed::Done(z) = closed else {
+        return closed;
+    };
+    call_named(script, offs, words, symbols, head, load, lim, z, target, sign, y.count)
+}
+
+// A table access. Names are not checked in the expression after `.`, and are checked after it.
+fn dot_suffix(
+    script: &[u8],
+    offs: &[u32],
+    words: &[u32],
+    symbols: &mut [u32],
+    head: &mut [u32],
+    load: &mut [u32],
+    lim: Limits,
+    w: Walk,
+    depth: usize,
+    target: Target,
+) -> Parsed
+    requires { ⌜ Ready (inp (now script) (now offs) (now words) lim) (mem (now symbols) (now head) (now load)) w ⌝ }
+    ensures { λ r. ⌜ Does 0 (λ c. dot c (walkers c depth) (nodeOf target) (w .at)) (inp (now (script .entry)) (now (offs .entry)) (now (words .entry)) lim) (mem (now (symbols .entry)) (now (head .entry)) (now (load .entry))) w r (mem (now (symbols .exit)) (now (head .exit)) (now (load .exit))) ⌝ }
+{
+    let sign = w.at;
+    let passed = consume(offs, words, lim, w);
+    let Parsed::Done(x) = passed else {
+        return passed;
+    };
+    let off = set_check(x, false);
+    let field = assign_expr(script, offs, words, symbols, head, load, lim, off, depth);
+    let Parsed::Done(y) = field else {
+        return field;
+    };
+    let on = set_check(y, true);
+    access(offs, head, load, on, target, TABLE_ACCESS, 4, sign)
+}
+
+// An array access.
+fn index_suffix(
+    script: &[u8],
+    offs: &[u32],
+    words: &[u32],
+    symbols: &mut [u32],
+    head: &mut [u32],
+    load: &mut [u32],
+    lim: Limits,
+    w: Walk,
+    depth: usize,
+    target: Target,
+) -> Parsed
+    requires { ⌜ Ready (inp (now script) (now offs) (now words) lim) (mem (now symbols) (now head) (now load)) w ⌝ }
+    ensures { λ r. ⌜ Does 0 (λ c. index c (walkers c depth) (nodeOf target) (w .at)) (inp (now (script .entry)) (now (offs .entry)) (now (words .entry)) lim) (mem (now (symbols .entry)) (now (head .entry)) (now (load .entry))) w r (mem (now (symbols .exit)) (now (head .exit)) (now (load .exit))) ⌝ }
+{
+    let sign = w.at;
+    let passed = consume(offs, words, lim, w);
+    let Parsed::Done(x) = passed else {
+        return passed;
+    };
+    let inner = assign_expr(script, offs, words, symbols, head, load, lim, x, depth);
+    let Parsed::Done(y) = inner else {
+        return inner;
+    };
+    let closed = expect(offs, words, lim, y, RIGHT_BRACKET);
+    let Parsed::Done(z) = closed else {
+        return closed;
+    };
+    access(offs, head, load, z, target, ARRAY_ACCESS, 5, sign)
+}
+
+// The arguments of a call: Done's count is how many there are.
+fn param_list(
+    script: &[u8],
+    offs: &[u32],
+    words: &[u32],
+    symbols: &mut [u32],
+    head: &mut [u32],
+    load: &mut [u32],
+    lim: Limits,
+    w: Walk,
+    depth: usize,
+) -> Parsed
+    requires { ⌜ Ready (inp (now script) (now offs) (now words) lim) (mem (now symbols) (now head) (now load)) w ⌝ }
+    ensures { λ r. ⌜ Counts 0 (λ c. paramList c (walkers c depth .assign) (fuel c) 0) (inp (now (script .entry)) (now (offs .entry)) (now (words .entry)) lim) (mem (now (symbols .entry)) (now (head .entry)) (now (load .entry))) w r (mem (now (symbols .exit)) (now (head .exit)) (now (load .exit))) × (countOf r ≤ 64) ⌝ }
+{
+    let mut x = w;
+    let mut n: usize = 0;
+    loop {
+        let k = kind_at(words, x.at);
+        if k == RIGHT_PAREN {
+            return Parsed::Done(with_count(x, n));
+        }
+        if n >= FN_PARAM_MAX_LEN {
+            return add_error(lim, x, Why::FnParmCntExceeded(FN_PARAM_MAX_LEN));
+        }
+        if k == EOF {
+            return add_error(lim, x, Why::InvalidTknMsg(END_OF_FILE));
+        }
+        let item = assign_expr(script, offs, words, symbols, head, load, lim, x, depth);
+        let Parsed::Done(y) = item else {
+            return item;
+        };
+        let comma = separator(offs, words, lim, y);
+        let Parsed::Done(z) = comma else {
+            return comma;
+        };
+        x = z;
+        n = n + 1;
+    }
+}
+
+// A literal, a name, a group or what follows `@`.
+fn primary_expr(
+    script: &[u8],
+    offs: &[u32],
+    words: &[u32],
+    symbols: &mut [u32],
+    head: &mut [u32],
+    load: &mut [u32],
+    lim: Limits,
+    w: Walk,
+    depth: usize,
+) -> Parsed
+    requires { ⌜ Ready (inp (now script) (now offs) (now words) lim) (mem (now symbols) (now head) (now load)) w ⌝ }
+    ensures { λ r. ⌜ Does 1 (λ c. primaryExpr c (walkers c depth)) (inp (now (script .entry)) (now (offs .entry)) (now (words .entry)) lim) (mem (now (symbols .entry)) (now (head .entry)) (now (load .entry))) w r (mem (now (symbols .exit)) (now (head .exit)) (now (load .exit))) ⌝ }
+{
+    let at = w.at;
+    let k = kind_at(words, at);
+    if is_literal(k) {
+        return literal(offs, words, head, load, lim, w);
+    }
+    if k == IDENT {
+        return ident_expr(script, offs, words, symbols, head, load, lim, w);
+    }
+    if k == LEFT_PAREN {
+        return group_expr(script, offs, words, symbols, head, load, lim, w, depth);
+    }
+    if k != AT {
+        return throw_past(offs, words, lim, w, Why::InvalidTkn(at));
+    }
+    let passed = consume(offs, words, lim, w);
+    let Parsed::Done(x) = passed else {
+        return passed;
+    };
+    fn_call_expr(script, offs, words, symbols, head, load, lim, x, depth)
+}
+
+// An expression in parentheses.
+fn group_expr(
+    script: &[u8],
+    offs: &[u32],
+    words: &[u32],
+    symbols: &mut [u32],
+    head: &mut [u32],
+    load: &mut [u32],
+    lim: Limits,
+    w: Walk,
+    depth: usize,
+) -> Parsed
+    requires { ⌜ Ready (inp (now script) (now offs) (now words) lim) (mem (now symbols) (now head) (now load)) w ⌝ }
+    ensures { λ r. ⌜ Does 1 (λ c. groupExpr c (walkers c depth)) (inp (now (script .entry)) (now (offs .entry)) (now (words .entry)) lim) (mem (now (symbols .entry)) (now (head .entry)) (now (load .entry))) w r (mem (now (symbols .exit)) (now (head .exit)) (now (load .exit))) ⌝ }
+{
+    let passed = consume(offs, words, lim, w);
+    let Parsed::Done(x) = passed else {
+        return passed;
+    };
+    let inner = assign_expr(script, offs, words, symbols, head, load, lim, x, depth);
+    let Parsed::Done(y) = inner else {
+        return inner;
+    };
+    expect(offs, words, lim, y, RIGHT_PAREN)
+}
