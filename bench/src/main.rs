@@ -1,156 +1,23 @@
-//! Times lexing: the Rust of docs/src, the proved tokens call, and its plain twin, on scripts as
-//! suppliers write them, in one run and one process. `bench --write DIR` writes those scripts.
+//! Times the calls: the Rust of docs/src, the proved calls, and their plain twins, on scripts as
+//! suppliers write them, in one run and one process. `bench` times lexing, `bench --reading` reading;
+//! `bench --write DIR` writes the scripts.
 
+mod inputs;
+mod lexing;
+mod reading;
 mod timing;
 
-use compare::host;
-use compare::scripts::supplier::{script, Shape};
-use reference::lex::Lexer;
-use reference::token::TokenTy;
-use std::hint::black_box;
 use std::process::ExitCode;
-use timing::median;
-
-/// The greatest sizes of the scripts in bytes.
-const SIZES: [usize; 3] = [1_024, 8_192, 65_535];
-
-/// Our side is to be at least this many times as fast as the Rust.
-const GOAL: f64 = 20.0;
-
-/// The jobs that are timed, in the order of the table.
-const RUST: usize = 0;
-const LEFT: usize = 1;
-const CLEARED: usize = 2;
-const TWIN: usize = 3;
-
-/// What the table's columns are.
-const HEADING: &str = "\
-Lexing, in MB/s (1 MB = 1,000,000 bytes), and how many times as fast as the Rust; medians.
-Rust: `Lexer::new` and `lex` until Eof. Both arrays have one element more than the script has bytes.
-left: our call, arrays as the call before left them. cleared: our call, arrays set to 0 before each
-call, which is timed too. twin: the same call in plain Rust, arrays as left.
-";
-
-/// A script to be timed, under its name.
-struct Input {
-    name: String,
-    script: Vec<u8>,
-}
-
-/// The two arrays of a call.
-struct Arrays {
-    offs: Vec<u32>,
-    words: Vec<u32>,
-}
 
 fn main() -> ExitCode {
     let words: Vec<String> = std::env::args().skip(1).collect();
     match words.iter().map(String::as_str).collect::<Vec<_>>()[..] {
-        [] => time_all(),
-        ["--write", folder] => write_all(folder),
+        [] => lexing::time_all(),
+        ["--reading"] => reading::time_all(),
+        ["--write", folder] => inputs::write_all(folder),
         _ => {
-            eprintln!("usage: bench [--write DIR]");
+            eprintln!("usage: bench [--reading | --write DIR]");
             ExitCode::from(2)
         }
-    }
-}
-
-fn inputs() -> impl Iterator<Item = Input> {
-    SIZES.into_iter().flat_map(|bytes| {
-        Shape::ALL.map(|shape| Input {
-            name: format!("{shape:?}-{}K", bytes.div_ceil(1_024)),
-            script: script(shape, bytes, 6),
-        })
-    })
-}
-
-fn write_all(folder: &str) -> ExitCode {
-    for Input { name, script } in inputs() {
-        let file = format!("{folder}/{name}.sif");
-        std::fs::write(&file, script)
-            .unwrap_or_else(|error| panic!("{file} cannot be written: {error}"));
-        println!("{file}");
-    }
-    ExitCode::SUCCESS
-}
-
-/// Prints the table, and says whether its least ratio reaches the goal.
-fn time_all() -> ExitCode {
-    println!("{HEADING}Our side: {}.\n", host::OURS);
-    print!("{:<16}{:>7}{:>7}{:>8}", "script", "bytes", "lines", "tokens");
-    println!("{:>9}{:>9}{:>7}{:>9}{:>7}{:>9}{:>7}", "Rust", "left", "", "cleared", "", "twin", "");
-    let least = reference::run(|| inputs().map(|input| time(&input)).fold(f64::INFINITY, f64::min));
-    println!("\nbench: least ratio {least:.1}, goal {GOAL}");
-    if least < GOAL {
-        return ExitCode::FAILURE;
-    }
-    ExitCode::SUCCESS
-}
-
-/// Times a script, prints its line, and answers the lesser ratio of our call.
-fn time(Input { name, script }: &Input) -> f64 {
-    let lines = script.iter().filter(|&&byte| byte == b'\n').count();
-    print!("{name:<16}{:>7}{lines:>7}{:>8}", script.len(), token_count(script));
-    let rounds = rounds(script);
-    let rate = |job: usize| median(&rounds, |seconds| script.len() as f64 / seconds[job] / 1e6);
-    let ratio = |job: usize| median(&rounds, |seconds| seconds[RUST] / seconds[job]);
-    print!("{:>9.1}", rate(RUST));
-    for job in [LEFT, CLEARED, TWIN] {
-        print!("{:>9.1}{:>7.1}", rate(job), ratio(job));
-    }
-    println!();
-    ratio(LEFT).min(ratio(CLEARED))
-}
-
-/// The number of tokens, in which all sides must agree before they are timed.
-fn token_count(script: &[u8]) -> usize {
-    let count = lex_by_rust(script);
-    let mut arrays = Arrays::new(script);
-    assert_eq!(lex_by_ours(script, &mut arrays), count);
-    assert_eq!(lex_by_twin(script, &mut arrays), count);
-    count
-}
-
-/// Times the jobs of the table on a script.
-fn rounds(script: &[u8]) -> Vec<[f64; 4]> {
-    let [mut left, mut cleared, mut twin] = [(); 3].map(|()| Arrays::new(script));
-    timing::rounds([
-        &mut || lex_by_rust(black_box(script)),
-        &mut || lex_by_ours(black_box(script), &mut left),
-        &mut || lex_by_ours(black_box(script), cleared.clear()),
-        &mut || lex_by_twin(black_box(script), &mut twin),
-    ])
-}
-
-/// The number of tokens, Eof included, as the Rust lexes them.
-fn lex_by_rust(script: &[u8]) -> usize {
-    let mut lexer = Lexer::new(script);
-    let mut count = 1;
-    while black_box(lexer.lex()).ty != TokenTy::Eof {
-        count += 1;
-    }
-    count
-}
-
-fn lex_by_ours(script: &[u8], arrays: &mut Arrays) -> usize {
-    host::tokens(script, &mut arrays.offs, &mut arrays.words).count as usize
-}
-
-fn lex_by_twin(script: &[u8], Arrays { offs, words }: &mut Arrays) -> usize {
-    let (mut count, mut kind, mut offset) = (0, 0, 0);
-    twin::tokens(script, offs, words, &mut count, &mut kind, &mut offset);
-    count as usize
-}
-
-impl Arrays {
-    fn new(script: &[u8]) -> Arrays {
-        let array = vec![0; script.len() + 1];
-        Arrays { offs: array.clone(), words: array }
-    }
-
-    fn clear(&mut self) -> &mut Arrays {
-        self.offs.fill(0);
-        self.words.fill(0);
-        self
     }
 }

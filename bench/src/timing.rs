@@ -35,6 +35,13 @@ impl Timed<'_> {
     }
 }
 
+/// The seconds that a job takes, run once.
+pub fn once(job: impl FnOnce() -> usize) -> f64 {
+    let start = Instant::now();
+    black_box(job());
+    start.elapsed().as_secs_f64()
+}
+
 /// The seconds that one run of each job takes, a line for each round.
 pub fn rounds<const N: usize>(jobs: [&mut dyn FnMut() -> usize; N]) -> Vec<[f64; N]> {
     let mut jobs = jobs.map(Timed::new);

@@ -1,6 +1,8 @@
 //! The groups of scripts that a run goes through, in the short and in the long form.
 
-use crate::host::OURS;
+mod reading;
+
+use crate::host::{OURS, TWIN_READING};
 use crate::report::{Report, Tally};
 use crate::scripts::random::Random;
 use crate::scripts::short::{self, ARMS, FEWER};
@@ -16,6 +18,7 @@ pub struct Form {
     pub soups: usize,
     pub damaged: usize,
     pub damaged_large: usize,
+    pub reading: reading::Form,
 }
 
 pub const SHORT: Form = Form {
@@ -25,6 +28,7 @@ pub const SHORT: Form = Form {
     soups: 40_000,
     damaged: 20_000,
     damaged_large: 40,
+    reading: reading::SHORT,
 };
 
 pub const LONG: Form = Form {
@@ -34,18 +38,33 @@ pub const LONG: Form = Form {
     soups: 1_000_000,
     damaged: 500_000,
     damaged_large: 2_000,
+    reading: reading::LONG,
 };
 
 /// The sizes of damaged scripts.
 const DAMAGED_BYTES: usize = 900;
 const DAMAGED_LARGE_BYTES: usize = 65_000;
 
-/// Runs all groups; true if nothing failed.
+/// Runs the groups of all calls that the library has; true if nothing failed.
 pub fn run(form: &Form) -> bool {
     println!("our side: {OURS}");
     let mut report = Report::default();
-    short_scripts(&mut report, form);
-    random_scripts(&mut report, form);
+    tokens(&mut report, form);
+    report.finish()
+}
+
+/// Runs the groups of the reading call on the plain twin, which the library does not have yet.
+pub fn run_twin(form: &Form) -> bool {
+    println!("our side: the plain twin");
+    let mut report = Report::default();
+    reading::run(&mut report, &form.reading, TWIN_READING);
+    report.finish()
+}
+
+/// The groups of the tokens call.
+fn tokens(report: &mut Report, form: &Form) {
+    short_scripts(report, form);
+    random_scripts(report, form);
     report.group("greatest length, just under and over it", |tally| {
         limits::lengths(|script| tally.add(script, check_script(script)));
     });
@@ -55,7 +74,6 @@ pub fn run(form: &Form) -> bool {
     report.group("arrays of every small length, and long ones", |tally| {
         limits::SMALL.iter().for_each(|script| tally.add(script, check_all_rooms(script)));
     });
-    report.finish()
 }
 
 fn short_scripts(report: &mut Report, form: &Form) {
@@ -72,27 +90,30 @@ fn short_scripts(report: &mut Report, form: &Form) {
 }
 
 fn random_scripts(report: &mut Report, form: &Form) {
-    report.group("token soup", |tally| repeat(tally, form.soups, 1, soup::soup));
-    report.group("damaged scripts", |tally| {
-        repeat(tally, form.damaged, 2, |random| damaged::damaged(random, DAMAGED_BYTES));
-    });
-    report.group("damaged large scripts", |tally| {
-        repeat(tally, form.damaged_large, 3, |random| {
-            damaged::damaged(random, DAMAGED_LARGE_BYTES)
-        });
+    let mut group = |name: &str, count: usize, seed: u64, make: Maker| {
+        report.group(name, |tally| repeat(tally, count, seed, make, check_script));
+    };
+    group("token soup", form.soups, 1, &soup::soup);
+    group("damaged scripts", form.damaged, 2, &|random| damaged::damaged(random, DAMAGED_BYTES));
+    group("damaged large scripts", form.damaged_large, 3, &|random| {
+        damaged::damaged(random, DAMAGED_LARGE_BYTES)
     });
 }
+
+/// What makes a random script.
+type Maker<'a> = &'a dyn Fn(&mut Random) -> Vec<u8>;
 
 /// Makes and checks a number of scripts from one seed.
 fn repeat(
     tally: &mut Tally,
     count: usize,
     seed: u64,
-    mut make: impl FnMut(&mut Random) -> Vec<u8>,
+    make: Maker,
+    check: impl Fn(&[u8]) -> Result<&'static str, String>,
 ) {
     let mut random = Random::new(seed);
     for _ in 0..count {
         let script = make(&mut random);
-        tally.add(&script, check_script(&script));
+        tally.add(&script, check(&script));
     }
 }

@@ -3,6 +3,17 @@
 #[cfg(feature = "stand-in")]
 use twin::tokens as call;
 
+pub use twin::{Answer as ReadingAnswer, Arrays, Early};
+
+/// A reading call: a script and the arrays that it is lent. The static library has none yet.
+pub type ReadingCall = fn(&[u8], Arrays<'_>) -> ReadingAnswer;
+
+/// The reading call of the plain twin.
+pub const TWIN_READING: ReadingCall = twin::reading;
+
+/// What stands where no error ended the reading.
+pub const NO_ERROR: Early = Early { place: 0, reason: 0 };
+
 /// What answers the calls, for reports.
 pub const OURS: &str = if cfg!(feature = "stand-in") {
     "the plain twin, in the place of the static library"

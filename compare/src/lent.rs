@@ -71,3 +71,10 @@ impl Lent {
 fn junk(at: usize, salt: u32) -> u32 {
     (at as u32).wrapping_mul(0x9E37_79B9).wrapping_add(salt) | 1
 }
+
+/// Values of which none is the word, for a test that alters it.
+#[cfg(test)]
+pub fn altered(word: u32) -> impl Iterator<Item = u32> {
+    let others = [word ^ 1, word.wrapping_add(64), word ^ (1 << 31), 0];
+    others.into_iter().filter(move |&other| other != word)
+}

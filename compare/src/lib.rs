@@ -1,12 +1,14 @@
 //! The comparison: the proved calls and the Rust of docs/src on the same scripts.
 //!
-//! `scripts` makes the scripts, `host` calls the static library, and `tokens` judges its answers by
-//! what `reference` says. `groups` runs all of this; `list` keeps a sample of the Rust's answers.
+//! `scripts` makes the scripts, `host` calls the static library, and `tokens` and `reading` judge its
+//! answers by what `reference` says. `groups` runs all of this; `list` keeps a sample of the Rust's
+//! answers.
 
 pub mod groups;
 pub mod host;
 mod lent;
 pub mod list;
+pub mod reading;
 mod report;
 pub mod scripts;
 pub mod tokens;

@@ -1,5 +1,6 @@
-//! `compare` runs the short form, `compare --long` the long one; `compare --write-list DIR` writes
-//! the fixed list, and `compare --check-list DIR` says whether it is still what the Rust says.
+//! `compare` runs the short form, `compare --long` the long one; with `--twin` after either, not the
+//! library's calls are compared but the reading call of the plain twin. `compare --write-list DIR`
+//! writes the fixed list, and `compare --check-list DIR` says whether it is still what the Rust says.
 
 use compare::{groups, list};
 use std::env::args;
@@ -12,6 +13,8 @@ fn main() -> ExitCode {
     let good = reference::run(|| match words[..] {
         [] => Some(groups::run(&groups::SHORT)),
         ["--long"] => Some(groups::run(&groups::LONG)),
+        ["--twin"] => Some(groups::run_twin(&groups::SHORT)),
+        ["--long", "--twin"] => Some(groups::run_twin(&groups::LONG)),
         ["--write-list", folder] => Some(list::write(Path::new(folder))),
         ["--check-list", folder] => Some(list::check(Path::new(folder))),
         _ => None,
@@ -20,7 +23,7 @@ fn main() -> ExitCode {
         Some(true) => ExitCode::SUCCESS,
         Some(false) => ExitCode::FAILURE,
         None => {
-            eprintln!("usage: compare [--long | --write-list DIR | --check-list DIR]");
+            eprintln!("usage: compare [[--long] [--twin] | --write-list DIR | --check-list DIR]");
             ExitCode::from(2)
         }
     }

@@ -17,10 +17,10 @@ pub struct Rooms {
 
 /// A script, and what the Rust says of it.
 pub struct Case<'a> {
-    script: &'a [u8],
+    pub script: &'a [u8],
     newlines: Vec<usize>,
-    entry: Option<Answer>,
-    rust: Lexed,
+    pub entry: Option<Answer>,
+    pub rust: Lexed,
 }
 
 /// What document 01 asks of a call.
@@ -75,14 +75,17 @@ impl Case<'_> {
 
     /// Makes the call with arrays of these lengths, and judges it.
     pub fn check(&self, rooms: Rooms) -> Result<(), String> {
-        let salt = self
-            .script
-            .iter()
-            .fold(rooms.offs as u32, |salt, &byte| salt.rotate_left(5) ^ u32::from(byte));
+        let salt = self.salt(rooms.offs);
         let mut offs = Lent::new(rooms.offs, salt);
         let mut words = Lent::new(rooms.words, !salt);
         let answer = host::tokens(self.script, offs.elements_mut(), words.elements_mut());
         self.judge(answer, &offs, &words).map_err(|difference| format!("{rooms:?}: {difference}"))
+    }
+
+    /// A number that script and room fix, to vary the junk in lent arrays.
+    pub fn salt(&self, room: usize) -> u32 {
+        let bytes = self.script.iter();
+        bytes.fold(room as u32, |salt, &byte| salt.rotate_left(5) ^ u32::from(byte))
     }
 
     /// Judges an answer and the arrays after the call.
@@ -124,7 +127,13 @@ impl Case<'_> {
         }
     }
 
-    fn judge_tokens(&self, tokens: &[Token], offs: &[u32], words: &[u32]) -> Result<(), String> {
+    /// The Rust's tokens beside ours, which stand at the beginning of the arrays.
+    pub fn judge_tokens(
+        &self,
+        tokens: &[Token],
+        offs: &[u32],
+        words: &[u32],
+    ) -> Result<(), String> {
         for (at, token) in tokens.iter().enumerate() {
             self.judge_token(offs[at] as usize, words[at], token)
                 .map_err(|difference| format!("token {at}: {difference}"))?;
@@ -206,7 +215,8 @@ fn value_bits(text: &[u8]) -> Option<u64> {
     Some(value.to_bits())
 }
 
-fn same<T: PartialEq + Debug>(what: &str, ours: T, wanted: T) -> Result<(), String> {
+/// Whether two values are the same.
+pub fn same<T: PartialEq + Debug>(what: &str, ours: T, wanted: T) -> Result<(), String> {
     if ours == wanted {
         return Ok(());
     }

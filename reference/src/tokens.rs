@@ -27,6 +27,15 @@ pub struct Token {
     pub val: Option<f64>,
 }
 
+impl Lexed {
+    /// The index of the token at a place.
+    pub fn at(&self, line: usize, pos: usize) -> Result<usize, String> {
+        self.tokens
+            .binary_search_by_key(&(line, pos), |token| (token.line, token.pos))
+            .map_err(|_| format!("the Rust has no token at line {line}, column {pos}"))
+    }
+}
+
 #[derive(Clone, Debug, PartialEq)]
 pub enum Ending {
     /// Eof came, and a further call of `lex` gave the same Eof again.
@@ -38,10 +47,6 @@ pub enum Ending {
     /// A panic that document 01 does not know.
     OtherPanic(PanicPlace),
 }
-
-/// The lines of lex.rs that panic, each with its kind: the `unwrap` in the arm of `/`, and the
-/// subtraction in `advance`, which only `lex_num` reaches with an empty buffer.
-const PANIC_LINES: [(u32, u32); 2] = [(133, 1), (364, 2)];
 
 /// The tokens of a script of ASCII bytes.
 pub fn tokens(script: &[u8]) -> Lexed {
@@ -81,9 +86,8 @@ fn as_data(token: &token::Token, after: usize, lines: &Lines) -> Token {
 
 /// The ending by a panic at `place`, in a call of `lex` that found the lexer at the offset `before`.
 fn after_panic(script: &[u8], before: usize, place: PanicPlace) -> Ending {
-    let in_lexer = place.file.ends_with("sifc_parse/src/lex.rs");
-    match PANIC_LINES.iter().find(|(line, _)| in_lexer && *line == place.line) {
-        Some(&(_, kind)) => Ending::Fault { kind, offset: before + begin(&script[before..]) },
+    match place.fault_kind() {
+        Some(kind) => Ending::Fault { kind, offset: before + begin(&script[before..]) },
         None => Ending::OtherPanic(place),
     }
 }
@@ -110,22 +114,11 @@ fn is_skipped(bytes: &[u8]) -> bool {
 mod tests {
     use super::*;
 
-    const LEX_RS: &str = include_str!("../../docs/src/sifc_parse/src/lex.rs");
-
     fn fault(script: &str) -> Option<(u32, usize)> {
         match tokens(script.as_bytes()).ending {
             Ending::Fault { kind, offset } => Some((kind, offset)),
             _ => None,
         }
-    }
-
-    #[test]
-    fn the_panicking_lines_are_those_of_the_source() {
-        let line = |number: u32| LEX_RS.lines().nth(number as usize - 1).unwrap().trim();
-        let [(comment, _), (advance, _)] = PANIC_LINES;
-        assert_eq!(line(comment - 1), "Some(ch) if ch == '/' => {");
-        assert_eq!(line(comment), "while self.curr.unwrap() != '\\n' {");
-        assert_eq!(line(advance), "if self.line_pos == self.buffer.len() - 1 || on_new_line {");
     }
 
     #[test]

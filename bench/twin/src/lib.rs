@@ -1,23 +1,53 @@
-//! The plain twin: the tokens call written in ordinary Rust, with nothing proved. The benchmark times
-//! it beside the proved one, and the comparison can be run on it (its feature `stand-in`).
+//! The plain twin: the tokens call and the reading call written in ordinary Rust, with nothing proved.
+//! The benchmark times it beside the proved calls, and the comparison can be run on it. The files are
+//! named after those of the Rust. All calls work in the arrays that they are lent.
+
+mod ast;
+mod expr;
+mod lex;
+mod parse_err;
+mod parser;
+mod reserved;
+mod symtab;
+mod token;
+
+pub use parse_err::Early;
+
+use ast::Tree;
+use lex::lex_tokens;
+use parse_err::{Errors, Refusal};
+use parser::Parser;
+use symtab::SymTab;
+use token::Tokens;
 
 /// The longest script that is read.
 const MAX_SCRIPT: usize = 65_535;
 
-const IDENT: u32 = 31;
-const STR: u32 = 32;
-const VAL: u32 = 33;
-const EOF: u32 = 47;
-
-/// A part of the script, from the byte at `at` to before the one at `end`.
-enum Item {
-    Token { kind: u32, at: usize, end: usize },
-    Eof { at: usize },
-    Fault { kind: u32, at: usize },
+/// What a reading call is lent: two arrays for the tokens, two for the tree, the symbol words, and
+/// two for the errors.
+pub struct Arrays<'a> {
+    pub offs: &'a mut [u32],
+    pub words: &'a mut [u32],
+    pub heads: &'a mut [u32],
+    pub loads: &'a mut [u32],
+    pub symbols: &'a mut [u32],
+    pub places: &'a mut [u32],
+    pub reasons: &'a mut [u32],
 }
 
-/// A refusal's number, kind and offset.
-struct Refusal(u32, u32, usize);
+/// What a reading call answers: the refusal's number, kind and offset, or zeros; how many tokens,
+/// nodes and errors there are; has_err; and the error that ended the reading.
+#[derive(Clone, Copy, Debug, PartialEq)]
+pub struct Answer {
+    pub number: u32,
+    pub kind: u32,
+    pub offset: u32,
+    pub tokens: u32,
+    pub nodes: u32,
+    pub errors: u32,
+    pub flag: bool,
+    pub early: Early,
+}
 
 /// The tokens call with the arguments of `sif_tokens` in include/sif.h.
 pub fn tokens(
@@ -28,188 +58,100 @@ pub fn tokens(
     kind: &mut u32,
     offset: &mut u32,
 ) -> u32 {
-    let result = check_entry(script, offs, words).and_then(|()| fill(script, offs, words));
+    let even = offs.len() == words.len();
+    let result = check_entry(script, even).and_then(|()| fill(script, offs, words));
     let (tokens, Refusal(number, fault, place)) = match result {
-        Ok(tokens) => (tokens, Refusal(0, 0, 0)),
+        Ok(tokens) => (tokens, Refusal::plain(0)),
         Err(refusal) => (0, refusal),
     };
     (*count, *kind, *offset) = (tokens as u32, fault, place as u32);
     number
 }
 
+/// The reading call.
+pub fn reading(script: &[u8], mut arrays: Arrays) -> Answer {
+    if let Err(refusal) = check_entry(script, arrays.are_even()) {
+        return refused(refusal);
+    }
+    arrays.symbols.fill(0);
+    let result = read(script, &mut arrays);
+    let answer = result.unwrap_or_else(refused);
+    arrays.clear_past(answer);
+    answer
+}
+
 /// Refusals 1 to 3, which touch nothing.
-fn check_entry(script: &[u8], offs: &[u32], words: &[u32]) -> Result<(), Refusal> {
+fn check_entry(script: &[u8], even: bool) -> Result<(), Refusal> {
     if script.len() > MAX_SCRIPT {
-        return Err(Refusal(1, 0, 0));
+        return Err(Refusal::plain(1));
     }
     if !script.is_ascii() {
         let first = script.iter().position(|byte| !byte.is_ascii());
         return Err(Refusal(2, 0, first.unwrap_or(0)));
     }
-    if offs.len() != words.len() {
-        return Err(Refusal(3, 0, 0));
+    if !even {
+        return Err(Refusal::plain(3));
     }
     Ok(())
 }
 
 /// Writes the tokens and clears the rest of the arrays, or all of them where it refuses.
 fn fill(script: &[u8], offs: &mut [u32], words: &mut [u32]) -> Result<usize, Refusal> {
-    let result = push_all(script, offs, words);
+    let result = lex_tokens(script, offs, words).and_then(|lexed| match lexed.fault {
+        0 => Ok(lexed.count),
+        kind => Err(Refusal(5, kind, offs[lexed.count - 1] as usize)),
+    });
     let used = *result.as_ref().unwrap_or(&0);
     offs[used..].fill(0);
     words[used..].fill(0);
     result
 }
 
-/// Writes the tokens up to Eof, and answers how many they are.
-fn push_all(script: &[u8], offs: &mut [u32], words: &mut [u32]) -> Result<usize, Refusal> {
-    let mut from = 0;
-    for used in 0..offs.len() {
-        let (kind, at, end) = match next(script, from) {
-            Item::Token { kind, at, end } => (kind, at, end),
-            Item::Eof { at } => (EOF, at, at),
-            Item::Fault { kind, at } => return Err(Refusal(5, kind, at)),
-        };
-        offs[used] = at as u32;
-        words[used] = kind + 64 * (end - at) as u32;
-        from = end;
-        if kind == EOF {
-            return Ok(used + 1);
-        }
-    }
-    Err(Refusal(4, 0, 0))
+/// The token list and the walk. Past what the answer counts, anything may be left in the arrays.
+fn read(script: &[u8], arrays: &mut Arrays) -> Result<Answer, Refusal> {
+    let lexed = lex_tokens(script, arrays.offs, arrays.words)?;
+    let (offs, words) = (&arrays.offs[..lexed.count], &arrays.words[..lexed.count]);
+    let tokens = Tokens { script, offs, words };
+    let tree = Tree { heads: &mut *arrays.heads, loads: &mut *arrays.loads, count: 0 };
+    let (places, reasons) = (&mut *arrays.places, &mut *arrays.reasons);
+    let errors = Errors { places, reasons, count: 0 };
+    let sym_tab = SymTab::new(tokens, arrays.symbols);
+    let mut parser = Parser::new(tokens, lexed.fault, tree, sym_tab, errors);
+    let (flag, early) = parser.parse()?;
+    let early = parser.errors.place_all(tokens, early);
+    Ok(Answer {
+        tokens: lexed.count as u32,
+        nodes: parser.tree.count as u32,
+        errors: parser.errors.count as u32,
+        flag,
+        early,
+        ..refused(Refusal::plain(0))
+    })
 }
 
-/// What comes next in the script, from an offset on.
-fn next(script: &[u8], from: usize) -> Item {
-    let mut at = from;
-    while let Some(&byte) = script.get(at) {
-        match byte {
-            b'\t'..=b'\r' | b' ' => at += 1,
-            b'#' => at = line_end(script, at),
-            b'/' if script.get(at + 1) == Some(&b'/') => {
-                let end = line_end(script, at);
-                if end == script.len() {
-                    return Item::Fault { kind: 1, at };
-                }
-                at = end;
-            }
-            _ => return item(script, at, byte),
-        }
-    }
-    Item::Eof { at }
+/// The answer of a call that refuses.
+fn refused(Refusal(number, kind, offset): Refusal) -> Answer {
+    let early = Early { place: 0, reason: 0 };
+    let offset = offset as u32;
+    Answer { number, kind, offset, tokens: 0, nodes: 0, errors: 0, flag: false, early }
 }
 
-/// The offset of the next newline, or else the script's length.
-fn line_end(script: &[u8], from: usize) -> usize {
-    script[from..].iter().position(|&byte| byte == b'\n').map_or(script.len(), |n| from + n)
-}
-
-/// What begins with the byte at an offset, which neither white space nor a comment is.
-fn item(script: &[u8], at: usize, byte: u8) -> Item {
-    match byte {
-        b'"' => string(script, at),
-        b'0'..=b'9' => number(script, at),
-        b'a'..=b'z' | b'A'..=b'Z' => {
-            let end = at + run(&script[at..], |byte| byte.is_ascii_alphanumeric());
-            Item::Token { kind: word_kind(&script[at..end]), at, end }
-        }
-        _ => sign(script, at, byte),
+impl Arrays<'_> {
+    /// Whether the arrays of each pair have one length.
+    fn are_even(&self) -> bool {
+        self.offs.len() == self.words.len()
+            && self.heads.len() == self.loads.len()
+            && self.places.len() == self.reasons.len()
     }
-}
 
-/// How many of the first bytes are all of one class.
-fn run(bytes: &[u8], class: impl Fn(&u8) -> bool) -> usize {
-    bytes.iter().position(|byte| !class(byte)).unwrap_or(bytes.len())
-}
-
-fn string(script: &[u8], at: usize) -> Item {
-    match script[at + 1..].iter().position(|&byte| byte == b'"') {
-        Some(length) => Item::Token { kind: STR, at, end: at + length + 2 },
-        None => Item::Eof { at: script.len() },
-    }
-}
-
-fn number(script: &[u8], at: usize) -> Item {
-    let whole = at + run(&script[at..], u8::is_ascii_digit);
-    if script.get(whole) != Some(&b'.') {
-        return Item::Token { kind: VAL, at, end: whole };
-    }
-    let end = whole + 1 + run(&script[whole + 1..], u8::is_ascii_digit);
-    if end == script.len() {
-        return Item::Fault { kind: 2, at };
-    }
-    Item::Token { kind: VAL, at, end }
-}
-
-fn word_kind(word: &[u8]) -> u32 {
-    match word {
-        b"var" => 34,
-        b"fn" => 35,
-        b"return" => 36,
-        b"table" => 37,
-        b"array" => 38,
-        b"if" => 39,
-        b"elif" => 40,
-        b"else" => 41,
-        b"for" => 42,
-        b"in" => 43,
-        b"true" => 44,
-        b"false" => 45,
-        _ => IDENT,
-    }
-}
-
-/// A sign of two bytes if there is one, else of one, else an unknown character.
-fn sign(script: &[u8], at: usize, byte: u8) -> Item {
-    let pair = script.get(at + 1).map_or(0, |&second| pair_kind(byte, second));
-    if pair != 0 {
-        return Item::Token { kind: pair, at, end: at + 2 };
-    }
-    match sign_kind(byte) {
-        0 => Item::Eof { at },
-        kind => Item::Token { kind, at, end: at + 1 },
-    }
-}
-
-fn pair_kind(first: u8, second: u8) -> u32 {
-    match (first, second) {
-        (b'=', b'=') => 22,
-        (b'<', b'=') => 23,
-        (b'>', b'=') => 24,
-        (b'=', b'>') => 25,
-        (b'!', b'=') => 26,
-        (b'&', b'&') => 27,
-        (b'|', b'|') => 28,
-        (b'[', b'[') => 29,
-        (b']', b']') => 30,
-        _ => 0,
-    }
-}
-
-fn sign_kind(byte: u8) -> u32 {
-    match byte {
-        b'(' => 1,
-        b')' => 2,
-        b'{' => 3,
-        b'}' => 4,
-        b'[' => 5,
-        b']' => 6,
-        b';' => 7,
-        b'=' => 8,
-        b'<' => 9,
-        b'>' => 10,
-        b'.' => 11,
-        b',' => 12,
-        b'!' => 13,
-        b'+' => 14,
-        b'-' => 15,
-        b'*' => 16,
-        b'/' => 17,
-        b'%' => 18,
-        b'&' => 19,
-        b'|' => 20,
-        b'@' => 21,
-        _ => 0,
+    /// Clears all that an answer does not count.
+    fn clear_past(&mut self, answer: Answer) {
+        self.offs[answer.tokens as usize..].fill(0);
+        self.words[answer.tokens as usize..].fill(0);
+        self.heads[answer.nodes as usize..].fill(0);
+        self.loads[answer.nodes as usize..].fill(0);
+        self.symbols.fill(0);
+        self.places[answer.errors as usize..].fill(0);
+        self.reasons[answer.errors as usize..].fill(0);
     }
 }

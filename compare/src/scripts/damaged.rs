@@ -10,10 +10,15 @@ const SPECIAL: &[u8] = b"\"#/.\n=[]& |<>!_1a";
 pub fn damaged(random: &mut Random, bytes: usize) -> Vec<u8> {
     let shape = Shape::ALL[random.below(Shape::ALL.len())];
     let mut script = supplier::script(shape, bytes, random.number());
-    for _ in 0..random.between(1, 4) {
-        damage(&mut script, random);
-    }
+    damage_some(&mut script, random);
     script
+}
+
+/// Damages a script in one to four places.
+pub fn damage_some(script: &mut Vec<u8>, random: &mut Random) {
+    for _ in 0..random.between(1, 4) {
+        damage(script, random);
+    }
 }
 
 fn damage(script: &mut Vec<u8>, random: &mut Random) {

@@ -1,4 +1,5 @@
-//! Scripts at the limits: the greatest length and beyond, and bytes that are not ASCII.
+//! Scripts at the limits: the greatest length and beyond, bytes that are not ASCII, and the greatest
+//! number of parameters.
 
 use crate::tokens::MAX_SCRIPT;
 
@@ -63,6 +64,22 @@ pub fn not_ascii(mut visit: impl FnMut(&[u8])) {
     for at in [0, 1, MAX_SCRIPT / 2, MAX_SCRIPT - 2, MAX_SCRIPT - 1] {
         visit(&with_byte(&repeated(b"a;", b"", MAX_SCRIPT), at, 128));
         visit(&with_byte(&repeated(b"a;", b"", MAX_SCRIPT + 1), at, 255));
+    }
+}
+
+/// The most parameters or arguments.
+const MAX_PARAMS: usize = 64;
+
+/// Visits functions and calls of about the greatest number of parameters, whole and broken off.
+pub fn params(mut visit: impl FnMut(&[u8])) {
+    for (open, item) in [("fn f(", "a"), ("print(", "1"), ("fn f(a){} f(", "f(1)"), ("(1)(", "1")] {
+        for count in MAX_PARAMS - 1..=MAX_PARAMS + 2 {
+            let list = vec![item; count].join(",");
+            for end in ["", ",", ")", ",)", "){}", ",){}", ");", ",);q;", " 1", ",,", ",1.", "// c"]
+            {
+                visit(format!("{open}{list}{end}").as_bytes());
+            }
+        }
     }
 }
 

@@ -20,13 +20,36 @@ pub fn every(alphabet: &[u8], longest: usize, mut visit: impl FnMut(&[u8])) {
     }
 }
 
+/// Every sequence of up to `longest` words, a space after each, between a beginning and an end.
+pub fn every_phrase(
+    words: &[&str],
+    longest: usize,
+    [begin, end]: [&str; 2],
+    mut visit: impl FnMut(&[u8]),
+) {
+    for len in 0..=longest {
+        every_choice(words.len(), len, |choice| {
+            let phrase = choice.iter().flat_map(|&word| [words[word], " "]);
+            let script: String = [begin].into_iter().chain(phrase).chain([end]).collect();
+            visit(script.as_bytes());
+        });
+    }
+}
+
 /// Every script of one length, in the order of the alphabet.
 fn every_of_length(alphabet: &[u8], len: usize, visit: &mut impl FnMut(&[u8])) {
+    every_choice(alphabet.len(), len, |choice| {
+        let script: Vec<u8> = choice.iter().map(|&byte| alphabet[byte]).collect();
+        visit(&script);
+    });
+}
+
+/// Every sequence of `len` numbers below `options`, in order.
+fn every_choice(options: usize, len: usize, mut visit: impl FnMut(&[usize])) {
     let mut digits = vec![0; len];
     loop {
-        let script: Vec<u8> = digits.iter().map(|&digit: &usize| alphabet[digit]).collect();
-        visit(&script);
-        let Some(at) = digits.iter().rposition(|&digit| digit + 1 < alphabet.len()) else {
+        visit(&digits);
+        let Some(at) = digits.iter().rposition(|&digit| digit + 1 < options) else {
             return;
         };
         digits[at] += 1;

@@ -1,6 +1,7 @@
 //! The harness finds what is wrong: a right answer that is altered in any one place is a difference.
 
 use super::*;
+use crate::lent::altered;
 use crate::scripts::limits::SMALL;
 
 /// A call's answer and its two arrays after it, to be altered.
@@ -34,12 +35,6 @@ fn on_right_answers(mut test: impl FnMut(&Case, Call)) {
             test(&case, call);
         }
     }
-}
-
-/// Values of which none is the word.
-fn altered(word: u32) -> impl Iterator<Item = u32> {
-    let others = [word ^ 1, word.wrapping_add(64), word ^ (1 << 31), 0];
-    others.into_iter().filter(move |&other| other != word)
 }
 
 #[test]
