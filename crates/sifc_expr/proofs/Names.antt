@@ -397,7 +397,7 @@ module _ {hs ls : List ℕ} {w : Walk} {slot : ℕ} {r : Parsed} {hs′ ls′ : 
       let d : Pushes hs₁ ls₁ (fewer w) 211 0 r hs′ ls′ = subst (λ (y : Walk). Pushes hs₁ ls₁ y 211 0 r hs′ ls′) ex d′ in
       let some : w .nodes ≡ suc (w .nodes - 1) = omega arith in
       let ns : nodesOf (w .nodes - 1) hs₁ ls₁ ≡ without slot (nodesOf (w .nodes) hs ls) =
-          nodes-shifted (w .nodes - 1) slot hs ls hs₁ ls₁ (omega arith) (subst (λ (m : ℕ). Shifts hs slot m hs₁) some sh) (subst (λ (m : ℕ). Shifts ls slot m ls₁) some sl) ∙ ap (λ (m : ℕ). without slot (nodesOf m hs ls)) (sym some) in
+      nodes-shifted (w .nodes - 1) slot hs ls hs₁ ls₁ (omega arith) (subst (λ (m : ℕ). Shifts hs slot m hs₁) some sh) (subst (λ (m : ℕ). Shifts ls slot m ls₁) some sl) ∙ ap (λ (m : ℕ). without slot (nodesOf m hs ls)) (sym some) in
       record {
         does = λ I ys p.
             let q : Ready I (mem ys hs₁ ls₁) (fewer w) = record { stands = record { toks = p .stands .toks; here = p .stands .here; calm = p .stands .calm }; even = eh ∙ p .even ∙ sym el; used = omega (arith, p .used, eh); holds = p .holds } in

@@ -118,7 +118,19 @@ fn assign_expr(
     let Parsed::Done(z) = rhs else {
         return rhs;
     };
-    assign_to(script, offs, words, symbols, head, load, lim, z, target, x.nodes, op)
+    assign_to(
+        script,
+        offs,
+        words,
+        symbols,
+        head,
+        load,
+        lim,
+        z,
+        target,
+        x.nodes,
+        op,
+    )
 }
 
 // `||`.
@@ -468,13 +480,46 @@ fn fn_call_expr(
     let target = top(head, load, x.nodes);
     let k = kind_at(words, x.at);
     if k == LEFT_PAREN {
-        return call_suffix(script, offs, words, symbols, head, load, lim, x, below, target);
+        return call_suffix(
+            script,
+            offs,
+            words,
+            symbols,
+            head,
+            load,
+            lim,
+            x,
+            below,
+            target,
+        );
     }
     if k == PERIOD {
-        return dot_suffix(script, offs, words, symbols, head, load, lim, x, below, target);
+        return dot_suffix(
+            script,
+            offs,
+            words,
+            symbols,
+            head,
+            load,
+            lim,
+            x,
+            below,
+            target,
+        );
     }
     if k == LEFT_BRACKET {
-        return index_suffix(script, offs, words, symbols, head, load, lim, x, below, target);
+        return index_suffix(
+            script,
+            offs,
+            words,
+            symbols,
+            head,
+            load,
+            lim,
+            x,
+            below,
+            target,
+        );
     }
     Parsed::Done(x)
 }
@@ -508,7 +553,19 @@ fn call_suffix(
     let Parsed::Done(z) = closed else {
         return closed;
     };
-    call_named(script, offs, words, symbols, head, load, lim, z, target, sign, y.count)
+    call_named(
+        script,
+        offs,
+        words,
+        symbols,
+        head,
+        load,
+        lim,
+        z,
+        target,
+        sign,
+        y.count,
+    )
 }
 
 // A table access. Names are not checked in the expression after `.`, and are checked after it.

@@ -25,7 +25,7 @@ same-length-2 c = search needs
 
 -- src/name.rt:225:9
 returns : tie.Need-returns
-returns c = 
+returns c =
     let c-push-node = c .before .before .before .before in
     let c-if1 = c-push-node .before .before .before in
     mutate-past (c-if1 .if1 .taken) (c-push-node .push-node .ensures)
@@ -44,7 +44,7 @@ fewer-nodes-requires c κs = search needs
 
 -- src/name.rt:229:5
 push-node-requires-2 : tie.Need-push-node-requires-2
-push-node-requires-2 c κs = 
+push-node-requires-2 c κs =
     let c-shift-down2 = c .before .before .before .before .before in
     let c-shift-down = c-shift-down2 .before .before .before .before in
     let start = c-shift-down .before .before .before .before .before in
@@ -60,7 +60,7 @@ same-length-4 c = search needs
 
 -- src/name.rt:219:1
 returns-2 : tie.Need-returns-2
-returns-2 c = 
+returns-2 c =
     let c-push-node2 = c .before .before .before .before in
     let c-fewer-nodes = c-push-node2 .before in
     let c-shift-down2 = c-fewer-nodes .before .before .before .before .before in

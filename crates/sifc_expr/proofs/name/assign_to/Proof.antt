@@ -42,7 +42,7 @@ same-length-3 c = search needs
 -- src/name.rt:124:9
 returns : tie.Need-returns
 unfolding assignTo
-returns c = 
+returns c =
     let c-assign-token = c .before .before .before .before .before .before in
     let c-wide = c-assign-token .before .before .before .before in
     let c-if1 = c-wide .before in
@@ -69,7 +69,7 @@ same-length-5 c = search needs
 -- src/name.rt:127:9
 returns-2 : tie.Need-returns-2
 unfolding assignTo
-returns-2 c = 
+returns-2 c =
     let c-assign-array = c .before .before .before .before in
     let c-one-less = c-assign-array .before in
     let c-if2 = c-one-less .before .before .before in
@@ -86,7 +86,7 @@ add-error-w-pos-requires c κs = search needs
 -- src/name.rt:105:1
 returns-3 : tie.Need-returns-3
 unfolding assignTo assignNothing
-returns-3 c = 
+returns-3 c =
     let c-if2 = c .before in
     let c-if1 = c-if2 .before in
     let start = c-if1 .before .before .before .before .before .before .before .before in

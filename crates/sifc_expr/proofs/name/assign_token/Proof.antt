@@ -29,7 +29,7 @@ add-error-requires c κs = search needs
 -- src/name.rt:148:9
 returns : tie.Need-returns
 unfolding assignToken
-returns c = 
+returns c =
     let c-if1 = c .before in
     let c-token-kind = c-if1 .before in
     let start = c-token-kind .before .before .before .before .before .before .before in
@@ -42,7 +42,7 @@ retrieve-requires c κs = search needs
 
 -- src/name.rt:151:5
 assign-var-requires : tie.Need-assign-var-requires
-assign-var-requires c κs = 
+assign-var-requires c κs =
     let c-retrieve = c .before .before .before .before in
     let c-slice-known = c-retrieve .before .before .before .before .before .before in
     let start = c-slice-known .before .before .before .before in
@@ -63,7 +63,7 @@ same-length-3 c = search needs
 -- src/name.rt:133:1
 returns-2 : tie.Need-returns-2
 unfolding assignToken
-returns-2 c = 
+returns-2 c =
     let c-assign-var = c .before .before .before .before in
     let c-retrieve = c-assign-var .before .before .before .before .before in
     let c-if1 = c-retrieve .before .before in

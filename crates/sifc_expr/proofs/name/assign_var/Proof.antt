@@ -23,7 +23,7 @@ add-error-requires c κs = search needs
 
 -- src/name.rt:167:9
 returns : tie.Need-returns
-returns c = 
+returns c =
     let c-enum-told = c .before in
     assign-not (none-var (c-enum-told .enum-told .given .1)) (c .add-error .ensures)
 
@@ -37,14 +37,14 @@ add-error-requires-2 c κs = search needs
 
 -- src/name.rt:170:9
 returns-2 : tie.Need-returns-2
-returns-2 c = 
+returns-2 c =
     let c-match2 = c .before in
     let c-found = c-match2 .before .before in
     assign-not (no-var (c-found .found .given .1) (c-match2 .match2 .keys2)) (c .add-error2 .ensures)
 
 -- src/name.rt:173:61
 cast-push-node : tie.Need-cast-push-node
-cast-push-node c = 
+cast-push-node c =
     let c-what = c .before .before .before .before in
     let c-found = c-what .before .before .before in
     let start = c-found .before .before .before .before in
@@ -64,7 +64,7 @@ same-length-2 c = search needs
 
 -- src/name.rt:173:9
 returns-3 : tie.Need-returns-3
-returns-3 c = 
+returns-3 c =
     let c-push-node = c .before .before .before .before in
     let c-if1 = c-push-node .before .before .before in
     let c-what = c-if1 .before .before in
@@ -73,7 +73,7 @@ returns-3 c =
 
 -- src/name.rt:175:47
 cast-push-node-2 : tie.Need-cast-push-node-2
-cast-push-node-2 c = 
+cast-push-node-2 c =
     let c-what = c .before .before .before .before in
     let c-found = c-what .before .before .before in
     let start = c-found .before .before .before .before in
@@ -93,7 +93,7 @@ same-length-4 c = search needs
 
 -- src/name.rt:155:1
 returns-4 : tie.Need-returns-4
-returns-4 c = 
+returns-4 c =
     let c-push-node2 = c .before .before .before .before in
     let c-if1 = c-push-node2 .before .before .before in
     let c-what = c-if1 .before .before in

@@ -14,7 +14,7 @@ add-error-requires c κs = search needs
 
 -- src/name.rt:328:9
 returns : tie.Need-returns
-returns c = 
+returns c =
     let c-if1 = c .before in
     counted-wrong (c-if1 .if1 .taken) (c .add-error .ensures)
 
@@ -36,7 +36,7 @@ same-length-2 c = search needs
 
 -- src/name.rt:316:1
 returns-2 : tie.Need-returns-2
-returns-2 c = 
+returns-2 c =
     let c-push-node = c .before .before .before .before in
     let c-call-word = c-push-node .before in
     let c-if1 = c-call-word .before .before .before in

@@ -23,7 +23,7 @@ throw-past-requires c κs = search needs
 
 -- src/name.rt:305:9
 returns : tie.Need-returns
-returns c = 
+returns c =
     let c-enum-told = c .before in
     declared-none (c-enum-told .enum-told .given .1) (c .throw-past .ensures)
 
@@ -73,7 +73,7 @@ same-length-2 c = search needs
 
 -- src/name.rt:290:1
 returns-2 : tie.Need-returns-2
-returns-2 c = 
+returns-2 c =
     let c-push-node = c .before .before .before .before in
     let c-call-word = c-push-node .before in
     let c-enum-told2 = c-call-word .before .before .before in
@@ -90,7 +90,7 @@ same-length-4 c = search needs
 
 -- src/name.rt:290:1
 returns-3 : tie.Need-returns-3
-returns-3 c = 
+returns-3 c =
     let c-call-counted = c .before .before .before .before in
     let c-what = c-call-counted .before .before .before .before in
     let c-found = c-what .before .before .before in
@@ -106,7 +106,7 @@ same-length-6 c = search needs
 
 -- src/name.rt:290:1
 returns-4 : tie.Need-returns-4
-returns-4 c = 
+returns-4 c =
     let c-call-counted2 = c .before .before .before .before in
     let c-enum-told3 = c-call-counted2 .before .before .before in
     let c-found = c-enum-told3 .before .before .before in
@@ -122,7 +122,7 @@ same-length-8 c = search needs
 
 -- src/name.rt:290:1
 returns-5 : tie.Need-returns-5
-returns-5 c = 
+returns-5 c =
     let c-call-counted3 = c .before .before .before .before in
     let c-enum-told4 = c-call-counted3 .before .before .before in
     let c-found = c-enum-told4 .before .before .before in

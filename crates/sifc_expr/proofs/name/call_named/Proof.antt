@@ -43,7 +43,7 @@ wide-requires c κs = search needs
 -- src/name.rt:252:9
 returns : tie.Need-returns
 unfolding callNamed
-returns c = 
+returns c =
     let c-if1 = c .before .before in
     let c-is-named = c-if1 .before in
     let start = c-is-named .before .before .before .before .before .before .before in
@@ -89,7 +89,7 @@ same-length-3 c = search needs
 -- src/name.rt:257:9
 returns-2 : tie.Need-returns-2
 unfolding callNamed callName
-returns-2 c = 
+returns-2 c =
     let c-push-node = c .before .before .before .before in
     let c-call-word = c-push-node .before in
     let c-if2 = c-call-word .before .before .before in
@@ -123,7 +123,7 @@ same-length-6 c = search needs
 -- src/name.rt:234:1
 returns-3 : tie.Need-returns-3
 unfolding callNamed callName
-returns-3 c = 
+returns-3 c =
     let c-call-declared = c .before .before .before .before in
     let c-if2 = c-call-declared .before .before .before in
     let c-is-std-lib-fn = c-if2 .before in

@@ -31,7 +31,7 @@ same-length-2 c = search needs
 -- src/name.rt:96:9
 returns : tie.Need-returns
 unfolding identExpr
-returns c = 
+returns c =
     let c-literal = c .before .before .before .before in
     let c-if1 = c-literal .before .before .before in
     let start = c-if1 .before .before .before .before .before .before .before .before in
@@ -62,7 +62,7 @@ same-length-5 c = search needs
 -- src/name.rt:99:9
 returns-2 : tie.Need-returns-2
 unfolding identExpr
-returns-2 c = 
+returns-2 c =
     let c-literal2 = c .before .before .before .before in
     let c-if2 = c-literal2 .before .before .before in
     let c-sym-exists = c-if2 .before .before .before in
@@ -83,7 +83,7 @@ same-length-6 c = search needs
 -- src/name.rt:82:1
 returns-3 : tie.Need-returns-3
 unfolding identExpr
-returns-3 c = 
+returns-3 c =
     let c-if2 = c .before in
     let c-sym-exists = c-if2 .before .before .before in
     let c-if1 = c-sym-exists .before .before in

@@ -21,7 +21,7 @@ token-kind-requires c κs = search needs
 
 -- src/name.rt:272:9
 returns-2 : tie.Need-returns-2
-returns-2 c = 
+returns-2 c =
     let c-token-kind = c .before in
     let c-wide = c-token-kind .before in
     let c-if1 = c-wide .before in
@@ -29,7 +29,7 @@ returns-2 c =
 
 -- src/name.rt:263:1
 returns-3 : tie.Need-returns-3
-returns-3 c = 
+returns-3 c =
     let c-token-kind = c .before in
     let c-wide = c-token-kind .before in
     let c-if1 = c-wide .before in

@@ -23,61 +23,61 @@ add-loop c = omega (arith, (c .loop .inv .0) .within, c .loop .inv .1)
 
 -- src/name.rt:185:18
 add-a : tie.Need-add-a Inv-loop μ-loop
-add-a c = 
+add-a c =
     let c-loop = c .before in
     omega (arith, (c-loop .loop .inv .0) .within, c-loop .loop .inv .1)
 
 -- src/name.rt:185:16
 mul-a : tie.Need-mul-a Inv-loop μ-loop
-mul-a c = 
+mul-a c =
     let c-loop = c .before in
     omega (arith, (c-loop .loop .inv .0) .within, c-loop .loop .inv .1, c .loop-test)
 
 -- src/name.rt:185:16
 slice-read-a : tie.Need-slice-read-a Inv-loop μ-loop
-slice-read-a c = 
+slice-read-a c =
     let c-loop = c .before .before in
     omega (arith, (c-loop .loop .inv .0) .within, c-loop .loop .inv .1)
 
 -- src/name.rt:185:9
 mul-a-2 : tie.Need-mul-a-2 Inv-loop μ-loop
-mul-a-2 c = 
+mul-a-2 c =
     let c-loop = c .before .before in
     omega (arith, (c-loop .loop .inv .0) .within, c-loop .loop .inv .1)
 
 -- src/name.rt:185:9
 slice-write-a : tie.Need-slice-write-a Inv-loop μ-loop
-slice-write-a c = 
+slice-write-a c =
     let c-loop = c .before .before in
     omega (arith, (c-loop .loop .inv .0) .within, c-loop .loop .inv .1)
 
 -- src/name.rt:186:9
 add-i : tie.Need-add-i Inv-loop μ-loop
-add-i c = 
+add-i c =
     let c-loop = c .before .before in
     omega (arith, (c-loop .loop .inv .0) .within, c-loop .loop .inv .1)
 
 -- src/name.rt:184:5
 loop-less : tie.Need-loop-less Inv-loop μ-loop
-loop-less c = 
+loop-less c =
     let c-loop = c .before .before in
     omega (arith, (c-loop .loop .inv .0) .within)
 
 -- src/name.rt:184:5
 loop-again : tie.Need-loop-again Inv-loop μ-loop
-loop-again c = 
+loop-again c =
     let c-loop = c .before .before in
     (shifted-on (c-loop .loop .inv .0) (omega (arith, (c-loop .loop .inv .0) .within, c-loop .loop .inv .1)) (omega arith), simp length-set (c-loop .loop .inv .1))
 
 -- src/name.rt:179:1
 same-length : tie.Need-same-length Inv-loop μ-loop
-same-length c = 
+same-length c =
     let c-loop = c .before in
     (c-loop .loop .inv .0) .long
 
 -- src/name.rt:179:1
 returns : tie.Need-returns Inv-loop μ-loop
-returns c = 
+returns c =
     let c-loop = c .before in
     shifted (c-loop .loop .inv .0) (omega arith)
 

@@ -33,7 +33,7 @@ same-length c = search needs
 
 -- src/name.rt:76:9
 returns : tie.Need-returns
-returns c = 
+returns c =
     let c-name = c .before in
     let c-enum-told2 = c-name .before in
     let c-retrieve = c-enum-told2 .before .before .before .before in
@@ -45,7 +45,7 @@ same-length-2 c = search needs
 
 -- src/name.rt:62:1
 returns-2 : tie.Need-returns-2
-returns-2 c = 
+returns-2 c =
     let c-retrieve = c .before .before .before .before in
     exists-some (c-retrieve .retrieve .ensures) (c .enum-told .given .1)
 

@@ -13,7 +13,7 @@ kind-at-requires c κs = search needs
 
 -- src/name.rt:56:9
 returns : tie.Need-returns
-returns c = 
+returns c =
     let c-if1 = c .before in
     let start = c-if1 .before .before .before in
     c .kind-at .ensures ∙ token-kind-in _ _ _ (start .pre) (c-if1 .if1 .taken)

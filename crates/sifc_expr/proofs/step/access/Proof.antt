@@ -21,7 +21,7 @@ wide-requires c κs = search needs
 
 -- src/step.rt:297:9
 returns : tie.Need-returns
-returns c = 
+returns c =
     let c-if1 = c .before .before in
     access-faults (c-if1 .if1 .taken) (c .wide .ensures)
 
@@ -39,7 +39,7 @@ same-length-2 c = search needs
 
 -- src/step.rt:282:1
 returns-2 : tie.Need-returns-2
-returns-2 c = 
+returns-2 c =
     let c-push-node = c .before .before .before .before in
     let c-if1 = c-push-node .before .before .before in
     access-pushes (c-if1 .if1 .left) (c-push-node .push-node .ensures)

@@ -12,7 +12,7 @@ listed-requires c κs = search needs
 
 -- src/step.rt:210:1
 returns : tie.Need-returns
-returns c = 
+returns c =
     let c-if1 = c .before in
     let start = c-if1 .before .before .before in
     throw-listed _ _ (start .pre) (c-if1 .if1 .taken) (c .listed .ensures)

@@ -12,13 +12,13 @@ use Rattle.sifc_expr.proofs.step.wide.Reads as wide-reads
 
 -- src/step.rt:137:8
 kind-at-requires : tie.Need-kind-at-requires
-kind-at-requires c κs = 
+kind-at-requires c κs =
     let start = c .before .before in
     start .pre .here
 
 -- src/step.rt:138:9
 returns : tie.Need-returns
-returns c = 
+returns c =
     let c-kind-at = c .before in
     let start = c-kind-at .before .before .before in
     consume-stays (start .pre) (sym (c-kind-at .kind-at .ensures) ∙ c .if1 .taken)
@@ -29,7 +29,7 @@ add-next c = search needs
 
 -- src/step.rt:141:8
 kind-at-requires-2 : tie.Need-kind-at-requires-2
-kind-at-requires-2 c κs = 
+kind-at-requires-2 c κs =
     let c-kind-at = c .before in
     let start = c-kind-at .before .before .before in
     not-last (start .pre) (λ z. c .if1 .left (c-kind-at .kind-at .ensures ∙ z))
@@ -40,7 +40,7 @@ mul-wide c = search needs
 
 -- src/step.rt:142:24
 shared-slice-read-wide : tie.Need-shared-slice-read-wide
-shared-slice-read-wide c = 
+shared-slice-read-wide c =
     let c-if1 = c .before .before .before in
     let c-kind-at = c-if1 .before in
     let start = c-kind-at .before .before .before in
@@ -52,7 +52,7 @@ wide-requires c κs = search needs
 
 -- src/step.rt:143:9
 returns-2 : tie.Need-returns-2
-returns-2 c = 
+returns-2 c =
     let c-if2 = c .before .before in
     let c-kind-at2 = c-if2 .before in
     let c-if1 = c-kind-at2 .before in
@@ -62,7 +62,7 @@ returns-2 c =
 
 -- src/step.rt:132:1
 returns-3 : tie.Need-returns-3
-returns-3 c = 
+returns-3 c =
     let c-kind-at2 = c .before in
     let c-if1 = c-kind-at2 .before in
     let c-kind-at = c-if1 .before in

@@ -18,7 +18,7 @@ consume-requires c κs = search needs
 
 -- src/step.rt:163:1
 returns : tie.Need-returns
-returns c = 
+returns c =
     let c-if1 = c .before in
     let c-kind-at = c-if1 .before in
     let start = c-kind-at .before .before .before in
@@ -26,7 +26,7 @@ returns c =
 
 -- src/step.rt:163:1
 returns-2 : tie.Need-returns-2
-returns-2 c = 
+returns-2 c =
     let c-kind-at = c .before in
     let start = c-kind-at .before .before .before in
     expect-no (start .pre) _ (λ z. c .if1 .left (c-kind-at .kind-at .ensures ∙ z))

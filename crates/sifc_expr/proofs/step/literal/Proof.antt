@@ -16,7 +16,7 @@ use Rattle.sifc_expr.proofs.step.push_node.Reads as push-node-reads
 
 -- src/step.rt:258:57
 cast-push-node : tie.Need-cast-push-node
-cast-push-node c = 
+cast-push-node c =
     let start = c .before .before .before .before .before .before .before in
     omega (arith, start .pre .0 .here, start .pre .0 .toks .few)
 
@@ -39,15 +39,17 @@ same-length-2 c = search needs
 -- src/step.rt:260:9
 returns : tie.Need-returns
 unfolding literalOf
-returns c = 
+returns c =
     let c-push-node = c .before .before .before .before .before in
     let start = c-push-node .before .before .before .before .before .before .before .before in
-    record { does = λ s ys p ne. gives (λ E e. let p0 = begin 1 (λ x. literalOf x (start .args .w .at)) E e p in
-    halt 0 (λ x. push x 24 false 0 (start .args .w .at)) _ p0 refl (pushed (p0 .is) (c-push-node .push-node .ensures)) (c-push-node .push-node .ensures .sure) (c .match .keys2)) }
+    record {
+      does = λ s ys p ne. gives (λ E e. let p0 = begin 1 (λ x. literalOf x (start .args .w .at)) E e p in
+          halt 0 (λ x. push x 24 false 0 (start .args .w .at)) _ p0 refl (pushed (p0 .is) (c-push-node .push-node .ensures)) (c-push-node .push-node .ensures .sure) (c .match .keys2));
+    }
 
 -- src/step.rt:262:5
 consume-requires : tie.Need-consume-requires
-consume-requires c κs = 
+consume-requires c κs =
     let c-pushed = c .before in
     let c-push-node = c-pushed .before .before .before .before .before .before in
     let start = c-push-node .before .before .before .before .before .before .before .before in
@@ -64,13 +66,15 @@ same-length-4 c = search needs
 -- src/step.rt:247:1
 returns-2 : tie.Need-returns-2
 unfolding literalOf
-returns-2 c = 
+returns-2 c =
     let c-pushed = c .before .before in
     let c-push-node = c-pushed .before .before .before .before .before .before in
     let start = c-push-node .before .before .before .before .before .before .before .before in
-    record { does = λ s ys p ne. gives (λ E e. let p0 = begin 1 (λ x. literalOf x (start .args .w .at)) E e p in
-    let p1 = go 0 (λ x. push x 24 false 0 (start .args .w .at)) _ p0 refl (pushed (p0 .is) (c-push-node .push-node .ensures)) (kept-nodes (c-push-node .push-node .kept .0) (c-push-node .push-node .kept .1 .0)) (c-pushed .pushed .given .1) in
-    last 1 (λ x. consume x) p1 refl (omega arith) (pass (p1 .is) (c .consume .ensures) (λ z. ne (ap (kindAt (start .args .words .now)) (sym (there-at (c-push-node .push-node .ensures .there) (c-pushed .pushed .given .1))) ∙ z)))) }
+    record {
+      does = λ s ys p ne. gives (λ E e. let p0 = begin 1 (λ x. literalOf x (start .args .w .at)) E e p in
+          let p1 = go 0 (λ x. push x 24 false 0 (start .args .w .at)) _ p0 refl (pushed (p0 .is) (c-push-node .push-node .ensures)) (kept-nodes (c-push-node .push-node .kept .0) (c-push-node .push-node .kept .1 .0)) (c-pushed .pushed .given .1) in
+          last 1 (λ x. consume x) p1 refl (omega arith) (pass (p1 .is) (c .consume .ensures) (λ z. ne (ap (kindAt (start .args .words .now)) (sym (there-at (c-push-node .push-node .ensures .there) (c-pushed .pushed .given .1))) ∙ z))));
+    }
 
 pub literal-spec : {M : Type 1} → statement M
 literal-spec =

@@ -14,14 +14,14 @@ returns c = simp (eq-eqb _ _ (c .if1 .taken))
 -- src/step.rt:44:9
 returns-2 : tie.Need-returns-2
 unfolding looseness member if_then_else_
-returns-2 c = 
+returns-2 c =
     let c-if1 = c .before in
     simp (ne-eqb _ _ (c-if1 .if1 .left), eq-eqb _ _ (c .if2 .taken))
 
 -- src/step.rt:47:9
 returns-3 : tie.Need-returns-3
 unfolding looseness member if_then_else_
-returns-3 c = 
+returns-3 c =
     let c-if2 = c .before in
     let c-if1 = c-if2 .before in
     simp (ne-eqb _ _ (c-if1 .if1 .left), ne-eqb _ _ (c-if2 .if2 .left), eq-eqb _ _ (c .if3 .taken))
@@ -29,7 +29,7 @@ returns-3 c =
 -- src/step.rt:50:9
 returns-4 : tie.Need-returns-4
 unfolding looseness member if_then_else_
-returns-4 c = 
+returns-4 c =
     let c-if3 = c .before in
     let c-if2 = c-if3 .before in
     let c-if1 = c-if2 .before in
@@ -38,7 +38,7 @@ returns-4 c =
 -- src/step.rt:53:9
 returns-5 : tie.Need-returns-5
 unfolding looseness member if_then_else_
-returns-5 c = 
+returns-5 c =
     let c-if4 = c .before in
     let c-if3 = c-if4 .before in
     let c-if2 = c-if3 .before in
@@ -48,7 +48,7 @@ returns-5 c =
 -- src/step.rt:56:9
 returns-6 : tie.Need-returns-6
 unfolding looseness member if_then_else_
-returns-6 c = 
+returns-6 c =
     let c-if5 = c .before in
     let c-if4 = c-if5 .before in
     let c-if3 = c-if4 .before in
@@ -59,7 +59,7 @@ returns-6 c =
 -- src/step.rt:59:9
 returns-7 : tie.Need-returns-7
 unfolding looseness member if_then_else_
-returns-7 c = 
+returns-7 c =
     let c-if6 = c .before in
     let c-if5 = c-if6 .before in
     let c-if4 = c-if5 .before in
@@ -71,7 +71,7 @@ returns-7 c =
 -- src/step.rt:62:9
 returns-8 : tie.Need-returns-8
 unfolding looseness member if_then_else_
-returns-8 c = 
+returns-8 c =
     let c-if7 = c .before in
     let c-if6 = c-if7 .before in
     let c-if5 = c-if6 .before in
@@ -84,7 +84,7 @@ returns-8 c =
 -- src/step.rt:65:9
 returns-9 : tie.Need-returns-9
 unfolding looseness member if_then_else_
-returns-9 c = 
+returns-9 c =
     let c-if8 = c .before in
     let c-if7 = c-if8 .before in
     let c-if6 = c-if7 .before in
@@ -98,7 +98,7 @@ returns-9 c =
 -- src/step.rt:68:9
 returns-10 : tie.Need-returns-10
 unfolding looseness member if_then_else_
-returns-10 c = 
+returns-10 c =
     let c-if9 = c .before in
     let c-if8 = c-if9 .before in
     let c-if7 = c-if8 .before in
@@ -113,7 +113,7 @@ returns-10 c =
 -- src/step.rt:71:9
 returns-11 : tie.Need-returns-11
 unfolding looseness member if_then_else_
-returns-11 c = 
+returns-11 c =
     let c-if10 = c .before in
     let c-if9 = c-if10 .before in
     let c-if8 = c-if9 .before in
@@ -129,7 +129,7 @@ returns-11 c =
 -- src/step.rt:74:9
 returns-12 : tie.Need-returns-12
 unfolding looseness member if_then_else_
-returns-12 c = 
+returns-12 c =
     let c-if11 = c .before in
     let c-if10 = c-if11 .before in
     let c-if9 = c-if10 .before in
@@ -146,7 +146,7 @@ returns-12 c =
 -- src/step.rt:77:9
 returns-13 : tie.Need-returns-13
 unfolding looseness member if_then_else_
-returns-13 c = 
+returns-13 c =
     let c-if12 = c .before in
     let c-if11 = c-if12 .before in
     let c-if10 = c-if11 .before in
@@ -164,7 +164,7 @@ returns-13 c =
 -- src/step.rt:37:1
 returns-14 : tie.Need-returns-14
 unfolding looseness member if_then_else_
-returns-14 c = 
+returns-14 c =
     let c-if12 = c .before in
     let c-if11 = c-if12 .before in
     let c-if10 = c-if11 .before in

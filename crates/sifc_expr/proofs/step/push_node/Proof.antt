@@ -35,13 +35,13 @@ same-length-2 c = search needs
 
 -- src/step.rt:109:1
 returns : tie.Need-returns
-returns c = 
+returns c =
     let start = c .before in
     push-done _ _ _ _ _ (start .pre .0) (c .if1 .taken)
 
 -- src/step.rt:109:1
 returns-2 : tie.Need-returns-2
-returns-2 c = 
+returns-2 c =
     let start = c .before in
     push-full _ _ _ _ _ (start .pre .0) (c .if1 .left)
 

@@ -14,7 +14,7 @@ kind-at-requires c κs = search needs
 
 -- src/step.rt:188:9
 returns : tie.Need-returns
-returns c = 
+returns c =
     let c-kind-at = c .before in
     let start = c-kind-at .before .before .before in
     separate-not (start .pre) (sym (c-kind-at .kind-at .ensures) ∙ c .if1 .taken)
@@ -25,7 +25,7 @@ expect-requires c κs = search needs
 
 -- src/step.rt:182:1
 returns-2 : tie.Need-returns-2
-returns-2 c = 
+returns-2 c =
     let c-if1 = c .before in
     let c-kind-at = c-if1 .before in
     let start = c-kind-at .before .before .before in

@@ -14,7 +14,7 @@ listed-requires c κs = search needs
 
 -- src/step.rt:236:13
 consume-requires : tie.Need-consume-requires
-consume-requires c κs = 
+consume-requires c κs =
     let start = c .before .before .before .before .before .before in
     stands-more (start .pre .0) (c .listed .ensures)
 
@@ -24,7 +24,7 @@ enum-known-passed c = search needs
 
 -- src/step.rt:238:13
 returns : tie.Need-returns
-returns c = 
+returns c =
     let c-consume = c .before in
     let c-listed = c-consume .before in
     let c-if1 = c-listed .before in
@@ -33,7 +33,7 @@ returns c =
 
 -- src/step.rt:230:1
 returns-2 : tie.Need-returns-2
-returns-2 c = 
+returns-2 c =
     let c-passed = c .before in
     let c-consume = c-passed .before .before in
     let c-listed = c-consume .before in
@@ -43,7 +43,7 @@ returns-2 c =
 
 -- src/step.rt:230:1
 returns-3 : tie.Need-returns-3
-returns-3 c = 
+returns-3 c =
     let start = c .before .before .before .before .before in
     past-full _ _ _ _ _ (start .pre .1) (c .if1 .left)
 

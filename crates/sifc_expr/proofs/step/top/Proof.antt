@@ -31,7 +31,7 @@ shared-slice-read-t11 c = search needs
 
 -- src/step.rt:266:1
 returns-2 : tie.Need-returns-2
-returns-2 c = 
+returns-2 c =
     let c-if1 = c .before .before in
     top-some _ _ _ (c-if1 .if1 .left)
 

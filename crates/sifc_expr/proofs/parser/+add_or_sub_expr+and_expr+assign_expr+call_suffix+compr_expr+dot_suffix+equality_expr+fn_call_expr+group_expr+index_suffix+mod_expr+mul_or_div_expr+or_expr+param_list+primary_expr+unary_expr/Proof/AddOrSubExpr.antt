@@ -28,7 +28,7 @@ abbrev pub add-or-sub-expr-μ-loop : add-or-sub-expr-lts.MeasureT-loop
 add-or-sub-expr-μ-loop script offs words symbols₀ head₀ load₀ lim depth x₀ symbols head load x = length words - x .at
 
 pub add-or-sub-expr-mul-or-div-expr-requires : (t : ℕ) → add-or-sub-expr-lts.Need-mul-or-div-expr-requires (add-or-sub-expr-calls t) (add-or-sub-expr-at t) add-or-sub-expr.Post add-or-sub-expr-Inv-loop add-or-sub-expr-μ-loop
-add-or-sub-expr-mul-or-div-expr-requires t c κs = 
+add-or-sub-expr-mul-or-div-expr-requires t c κs =
     let start = c .before .before .before .before .before .before .before .before .before in
     (omega (arith, start .pre .0), start .pre .1)
 
@@ -36,29 +36,29 @@ pub add-or-sub-expr-enum-known-lhs : (t : ℕ) → add-or-sub-expr-lts.Need-enum
 add-or-sub-expr-enum-known-lhs t c = search needs
 
 pub add-or-sub-expr-same-length : (t : ℕ) → add-or-sub-expr-lts.Need-same-length (add-or-sub-expr-calls t) (add-or-sub-expr-at t) add-or-sub-expr.Post add-or-sub-expr-Inv-loop add-or-sub-expr-μ-loop
-add-or-sub-expr-same-length t c = 
+add-or-sub-expr-same-length t c =
     let c-mul-or-div-expr = c .before .before .before .before .before .before .before in
     c-mul-or-div-expr .mul-or-div-expr .kept .1 .1 .1 .0
 
 pub add-or-sub-expr-same-length-2 : (t : ℕ) → add-or-sub-expr-lts.Need-same-length-2 (add-or-sub-expr-calls t) (add-or-sub-expr-at t) add-or-sub-expr.Post add-or-sub-expr-Inv-loop add-or-sub-expr-μ-loop
-add-or-sub-expr-same-length-2 t c = 
+add-or-sub-expr-same-length-2 t c =
     let c-mul-or-div-expr = c .before .before .before .before .before .before .before in
     c-mul-or-div-expr .mul-or-div-expr .kept .1 .1 .1 .1 .0
 
 pub add-or-sub-expr-same-length-3 : (t : ℕ) → add-or-sub-expr-lts.Need-same-length-3 (add-or-sub-expr-calls t) (add-or-sub-expr-at t) add-or-sub-expr.Post add-or-sub-expr-Inv-loop add-or-sub-expr-μ-loop
-add-or-sub-expr-same-length-3 t c = 
+add-or-sub-expr-same-length-3 t c =
     let c-mul-or-div-expr = c .before .before .before .before .before .before .before in
     c-mul-or-div-expr .mul-or-div-expr .kept .1 .1 .1 .1 .1 .0
 
 pub add-or-sub-expr-returns : (t : ℕ) → add-or-sub-expr-lts.Need-returns (add-or-sub-expr-calls t) (add-or-sub-expr-at t) add-or-sub-expr.Post add-or-sub-expr-Inv-loop add-or-sub-expr-μ-loop
-add-or-sub-expr-returns t c = 
+add-or-sub-expr-returns t c =
     let c-mul-or-div-expr = c .before .before .before .before .before .before .before in
     let start = c-mul-or-div-expr .before .before .before .before .before .before .before .before .before .before in
     gives (λ E e. let p0 = by (begin 1 (λ x. levels x 3 (walkers x (start .args .depth) .unary)) E e (start .pre .1)) (level-step _ 2 _ _) in
     stop 1 (λ x. levels x 2 (walkers x (start .args .depth) .unary)) _ p0 refl (omega arith) (c-mul-or-div-expr .mul-or-div-expr .ensures) (c .match .keys2))
 
 pub add-or-sub-expr-loop-holds : (t : ℕ) → add-or-sub-expr-lts.Need-loop-holds (add-or-sub-expr-calls t) (add-or-sub-expr-at t) add-or-sub-expr.Post add-or-sub-expr-Inv-loop add-or-sub-expr-μ-loop
-add-or-sub-expr-loop-holds t c = 
+add-or-sub-expr-loop-holds t c =
     let c-lhs = c .before in
     let c-mul-or-div-expr = c-lhs .before .before .before .before .before .before .before .before in
     let start = c-mul-or-div-expr .before .before .before .before .before .before .before .before .before .before in
@@ -75,26 +75,26 @@ pub add-or-sub-expr-looseness-requires : (t : ℕ) → add-or-sub-expr-lts.Need-
 add-or-sub-expr-looseness-requires t c κs = search needs
 
 pub add-or-sub-expr-same-length-4 : (t : ℕ) → add-or-sub-expr-lts.Need-same-length-4 (add-or-sub-expr-calls t) (add-or-sub-expr-at t) add-or-sub-expr.Post add-or-sub-expr-Inv-loop add-or-sub-expr-μ-loop
-add-or-sub-expr-same-length-4 t c = 
+add-or-sub-expr-same-length-4 t c =
     let c-loop = c .before .before .before in
     let c-mul-or-div-expr = c-loop .before .before .before .before .before .before .before .before .before .before in
     c-loop .loop .inv .kept .symbols ∙ c-mul-or-div-expr .mul-or-div-expr .kept .1 .1 .1 .0
 
 pub add-or-sub-expr-same-length-5 : (t : ℕ) → add-or-sub-expr-lts.Need-same-length-5 (add-or-sub-expr-calls t) (add-or-sub-expr-at t) add-or-sub-expr.Post add-or-sub-expr-Inv-loop add-or-sub-expr-μ-loop
-add-or-sub-expr-same-length-5 t c = 
+add-or-sub-expr-same-length-5 t c =
     let c-loop = c .before .before .before in
     let c-mul-or-div-expr = c-loop .before .before .before .before .before .before .before .before .before .before in
     c-loop .loop .inv .kept .head ∙ c-mul-or-div-expr .mul-or-div-expr .kept .1 .1 .1 .1 .0
 
 pub add-or-sub-expr-same-length-6 : (t : ℕ) → add-or-sub-expr-lts.Need-same-length-6 (add-or-sub-expr-calls t) (add-or-sub-expr-at t) add-or-sub-expr.Post add-or-sub-expr-Inv-loop add-or-sub-expr-μ-loop
-add-or-sub-expr-same-length-6 t c = 
+add-or-sub-expr-same-length-6 t c =
     let c-loop = c .before .before .before in
     let c-mul-or-div-expr = c-loop .before .before .before .before .before .before .before .before .before .before in
     c-loop .loop .inv .kept .load ∙ c-mul-or-div-expr .mul-or-div-expr .kept .1 .1 .1 .1 .1 .0
 
 pub add-or-sub-expr-returns-2 : (t : ℕ) → add-or-sub-expr-lts.Need-returns-2 (add-or-sub-expr-calls t) (add-or-sub-expr-at t) add-or-sub-expr.Post add-or-sub-expr-Inv-loop add-or-sub-expr-μ-loop
 unfolding operators
-add-or-sub-expr-returns-2 t c = 
+add-or-sub-expr-returns-2 t c =
     let c-looseness = c .before in
     let c-kind-at = c-looseness .before in
     let c-loop = c-kind-at .before in
@@ -108,7 +108,7 @@ add-or-sub-expr-returns-2 t c =
     fin (no _ _ p3 (test (λ k. eqb (looseness k) 3) p3 (ne-eqb _ _ (λ z. c .if1 .taken (c-looseness .looseness .ensures ∙ ap looseness (c-kind-at .kind-at .ensures) ∙ z))))))
 
 pub add-or-sub-expr-consume-requires : (t : ℕ) → add-or-sub-expr-lts.Need-consume-requires (add-or-sub-expr-calls t) (add-or-sub-expr-at t) add-or-sub-expr.Post add-or-sub-expr-Inv-loop add-or-sub-expr-μ-loop
-add-or-sub-expr-consume-requires t c κs = 
+add-or-sub-expr-consume-requires t c κs =
     let c-loop = c .before .before .before in
     (c-loop .loop .inv) .is .stands
 
@@ -116,26 +116,26 @@ pub add-or-sub-expr-enum-known-passed : (t : ℕ) → add-or-sub-expr-lts.Need-e
 add-or-sub-expr-enum-known-passed t c = search needs
 
 pub add-or-sub-expr-same-length-7 : (t : ℕ) → add-or-sub-expr-lts.Need-same-length-7 (add-or-sub-expr-calls t) (add-or-sub-expr-at t) add-or-sub-expr.Post add-or-sub-expr-Inv-loop add-or-sub-expr-μ-loop
-add-or-sub-expr-same-length-7 t c = 
+add-or-sub-expr-same-length-7 t c =
     let c-loop = c .before .before .before .before .before in
     let c-mul-or-div-expr = c-loop .before .before .before .before .before .before .before .before .before .before in
     c-loop .loop .inv .kept .symbols ∙ c-mul-or-div-expr .mul-or-div-expr .kept .1 .1 .1 .0
 
 pub add-or-sub-expr-same-length-8 : (t : ℕ) → add-or-sub-expr-lts.Need-same-length-8 (add-or-sub-expr-calls t) (add-or-sub-expr-at t) add-or-sub-expr.Post add-or-sub-expr-Inv-loop add-or-sub-expr-μ-loop
-add-or-sub-expr-same-length-8 t c = 
+add-or-sub-expr-same-length-8 t c =
     let c-loop = c .before .before .before .before .before in
     let c-mul-or-div-expr = c-loop .before .before .before .before .before .before .before .before .before .before in
     c-loop .loop .inv .kept .head ∙ c-mul-or-div-expr .mul-or-div-expr .kept .1 .1 .1 .1 .0
 
 pub add-or-sub-expr-same-length-9 : (t : ℕ) → add-or-sub-expr-lts.Need-same-length-9 (add-or-sub-expr-calls t) (add-or-sub-expr-at t) add-or-sub-expr.Post add-or-sub-expr-Inv-loop add-or-sub-expr-μ-loop
-add-or-sub-expr-same-length-9 t c = 
+add-or-sub-expr-same-length-9 t c =
     let c-loop = c .before .before .before .before .before in
     let c-mul-or-div-expr = c-loop .before .before .before .before .before .before .before .before .before .before in
     c-loop .loop .inv .kept .load ∙ c-mul-or-div-expr .mul-or-div-expr .kept .1 .1 .1 .1 .1 .0
 
 pub add-or-sub-expr-returns-3 : (t : ℕ) → add-or-sub-expr-lts.Need-returns-3 (add-or-sub-expr-calls t) (add-or-sub-expr-at t) add-or-sub-expr.Post add-or-sub-expr-Inv-loop add-or-sub-expr-μ-loop
 unfolding operators
-add-or-sub-expr-returns-3 t c = 
+add-or-sub-expr-returns-3 t c =
     let c-consume = c .before in
     let c-if1 = c-consume .before in
     let c-looseness = c-if1 .before in
@@ -153,7 +153,7 @@ add-or-sub-expr-returns-3 t c =
 
 pub add-or-sub-expr-mul-or-div-expr-requires-2 : (t : ℕ) → add-or-sub-expr-lts.Need-mul-or-div-expr-requires-2 (add-or-sub-expr-calls t) (add-or-sub-expr-at t) add-or-sub-expr.Post add-or-sub-expr-Inv-loop add-or-sub-expr-μ-loop
 unfolding operators
-add-or-sub-expr-mul-or-div-expr-requires-2 t c κs = 
+add-or-sub-expr-mul-or-div-expr-requires-2 t c κs =
     let c-passed = c .before .before .before .before in
     let c-consume = c-passed .before .before in
     let c-if1 = c-consume .before in
@@ -177,21 +177,21 @@ pub add-or-sub-expr-enum-known-rhs : (t : ℕ) → add-or-sub-expr-lts.Need-enum
 add-or-sub-expr-enum-known-rhs t c = search needs
 
 pub add-or-sub-expr-same-length-10 : (t : ℕ) → add-or-sub-expr-lts.Need-same-length-10 (add-or-sub-expr-calls t) (add-or-sub-expr-at t) add-or-sub-expr.Post add-or-sub-expr-Inv-loop add-or-sub-expr-μ-loop
-add-or-sub-expr-same-length-10 t c = 
+add-or-sub-expr-same-length-10 t c =
     let c-mul-or-div-expr2 = c .before .before .before .before .before .before .before in
     let c-loop = c-mul-or-div-expr2 .before .before .before .before .before .before .before .before .before .before .before in
     let c-mul-or-div-expr = c-loop .before .before .before .before .before .before .before .before .before .before in
     c-mul-or-div-expr2 .mul-or-div-expr2 .kept .1 .1 .1 .0 ∙ c-loop .loop .inv .kept .symbols ∙ c-mul-or-div-expr .mul-or-div-expr .kept .1 .1 .1 .0
 
 pub add-or-sub-expr-same-length-11 : (t : ℕ) → add-or-sub-expr-lts.Need-same-length-11 (add-or-sub-expr-calls t) (add-or-sub-expr-at t) add-or-sub-expr.Post add-or-sub-expr-Inv-loop add-or-sub-expr-μ-loop
-add-or-sub-expr-same-length-11 t c = 
+add-or-sub-expr-same-length-11 t c =
     let c-mul-or-div-expr2 = c .before .before .before .before .before .before .before in
     let c-loop = c-mul-or-div-expr2 .before .before .before .before .before .before .before .before .before .before .before in
     let c-mul-or-div-expr = c-loop .before .before .before .before .before .before .before .before .before .before in
     c-mul-or-div-expr2 .mul-or-div-expr2 .kept .1 .1 .1 .1 .0 ∙ c-loop .loop .inv .kept .head ∙ c-mul-or-div-expr .mul-or-div-expr .kept .1 .1 .1 .1 .0
 
 pub add-or-sub-expr-same-length-12 : (t : ℕ) → add-or-sub-expr-lts.Need-same-length-12 (add-or-sub-expr-calls t) (add-or-sub-expr-at t) add-or-sub-expr.Post add-or-sub-expr-Inv-loop add-or-sub-expr-μ-loop
-add-or-sub-expr-same-length-12 t c = 
+add-or-sub-expr-same-length-12 t c =
     let c-mul-or-div-expr2 = c .before .before .before .before .before .before .before in
     let c-loop = c-mul-or-div-expr2 .before .before .before .before .before .before .before .before .before .before .before in
     let c-mul-or-div-expr = c-loop .before .before .before .before .before .before .before .before .before .before in
@@ -199,7 +199,7 @@ add-or-sub-expr-same-length-12 t c =
 
 pub add-or-sub-expr-returns-4 : (t : ℕ) → add-or-sub-expr-lts.Need-returns-4 (add-or-sub-expr-calls t) (add-or-sub-expr-at t) add-or-sub-expr.Post add-or-sub-expr-Inv-loop add-or-sub-expr-μ-loop
 unfolding operators
-add-or-sub-expr-returns-4 t c = 
+add-or-sub-expr-returns-4 t c =
     let c-mul-or-div-expr2 = c .before .before .before .before .before .before .before in
     let c-passed = c-mul-or-div-expr2 .before .before .before .before .before in
     let c-consume = c-passed .before .before in
@@ -219,13 +219,13 @@ add-or-sub-expr-returns-4 t c =
     stop 1 (λ x. levels x 2 (walkers x (start .args .depth) .unary)) _ p5 refl (omega arith) (c-mul-or-div-expr2 .mul-or-div-expr2 .ensures) (c .match3 .keys2))
 
 pub add-or-sub-expr-cast-push-node : (t : ℕ) → add-or-sub-expr-lts.Need-cast-push-node (add-or-sub-expr-calls t) (add-or-sub-expr-at t) add-or-sub-expr.Post add-or-sub-expr-Inv-loop add-or-sub-expr-μ-loop
-add-or-sub-expr-cast-push-node t c = 
+add-or-sub-expr-cast-push-node t c =
     let c-loop = c .before .before .before .before .before .before .before .before .before .before .before .before .before .before .before .before .before .before .before .before .before .before in
     omega (arith, (c-loop .loop .inv) .is .stands .here, (c-loop .loop .inv) .is .stands .toks .few)
 
 pub add-or-sub-expr-push-node-requires : (t : ℕ) → add-or-sub-expr-lts.Need-push-node-requires (add-or-sub-expr-calls t) (add-or-sub-expr-at t) add-or-sub-expr.Post add-or-sub-expr-Inv-loop add-or-sub-expr-μ-loop
 unfolding operators
-add-or-sub-expr-push-node-requires t c κs = 
+add-or-sub-expr-push-node-requires t c κs =
     let c-rhs = c .before .before .before in
     let c-mul-or-div-expr2 = c-rhs .before .before .before .before .before .before .before .before in
     let c-passed = c-mul-or-div-expr2 .before .before .before .before .before in
@@ -252,14 +252,14 @@ pub add-or-sub-expr-enum-known-made : (t : ℕ) → add-or-sub-expr-lts.Need-enu
 add-or-sub-expr-enum-known-made t c = search needs
 
 pub add-or-sub-expr-same-length-13 : (t : ℕ) → add-or-sub-expr-lts.Need-same-length-13 (add-or-sub-expr-calls t) (add-or-sub-expr-at t) add-or-sub-expr.Post add-or-sub-expr-Inv-loop add-or-sub-expr-μ-loop
-add-or-sub-expr-same-length-13 t c = 
+add-or-sub-expr-same-length-13 t c =
     let c-mul-or-div-expr2 = c .before .before .before .before .before .before .before .before .before .before .before .before .before .before .before .before .before in
     let c-loop = c-mul-or-div-expr2 .before .before .before .before .before .before .before .before .before .before .before in
     let c-mul-or-div-expr = c-loop .before .before .before .before .before .before .before .before .before .before in
     c-mul-or-div-expr2 .mul-or-div-expr2 .kept .1 .1 .1 .0 ∙ c-loop .loop .inv .kept .symbols ∙ c-mul-or-div-expr .mul-or-div-expr .kept .1 .1 .1 .0
 
 pub add-or-sub-expr-same-length-14 : (t : ℕ) → add-or-sub-expr-lts.Need-same-length-14 (add-or-sub-expr-calls t) (add-or-sub-expr-at t) add-or-sub-expr.Post add-or-sub-expr-Inv-loop add-or-sub-expr-μ-loop
-add-or-sub-expr-same-length-14 t c = 
+add-or-sub-expr-same-length-14 t c =
     let c-push-node = c .before .before .before .before .before in
     let c-mul-or-div-expr2 = c-push-node .before .before .before .before .before .before .before .before .before .before .before .before in
     let c-loop = c-mul-or-div-expr2 .before .before .before .before .before .before .before .before .before .before .before in
@@ -267,7 +267,7 @@ add-or-sub-expr-same-length-14 t c =
     c-push-node .push-node .kept .0 ∙ c-mul-or-div-expr2 .mul-or-div-expr2 .kept .1 .1 .1 .1 .0 ∙ c-loop .loop .inv .kept .head ∙ c-mul-or-div-expr .mul-or-div-expr .kept .1 .1 .1 .1 .0
 
 pub add-or-sub-expr-same-length-15 : (t : ℕ) → add-or-sub-expr-lts.Need-same-length-15 (add-or-sub-expr-calls t) (add-or-sub-expr-at t) add-or-sub-expr.Post add-or-sub-expr-Inv-loop add-or-sub-expr-μ-loop
-add-or-sub-expr-same-length-15 t c = 
+add-or-sub-expr-same-length-15 t c =
     let c-push-node = c .before .before .before .before .before in
     let c-mul-or-div-expr2 = c-push-node .before .before .before .before .before .before .before .before .before .before .before .before in
     let c-loop = c-mul-or-div-expr2 .before .before .before .before .before .before .before .before .before .before .before in
@@ -276,7 +276,7 @@ add-or-sub-expr-same-length-15 t c =
 
 pub add-or-sub-expr-returns-5 : (t : ℕ) → add-or-sub-expr-lts.Need-returns-5 (add-or-sub-expr-calls t) (add-or-sub-expr-at t) add-or-sub-expr.Post add-or-sub-expr-Inv-loop add-or-sub-expr-μ-loop
 unfolding operators
-add-or-sub-expr-returns-5 t c = 
+add-or-sub-expr-returns-5 t c =
     let c-push-node = c .before .before .before .before .before in
     let c-rhs = c-push-node .before .before .before .before in
     let c-mul-or-div-expr2 = c-rhs .before .before .before .before .before .before .before .before in
@@ -300,7 +300,7 @@ add-or-sub-expr-returns-5 t c =
 
 pub add-or-sub-expr-loop-less : (t : ℕ) → add-or-sub-expr-lts.Need-loop-less (add-or-sub-expr-calls t) (add-or-sub-expr-at t) add-or-sub-expr.Post add-or-sub-expr-Inv-loop add-or-sub-expr-μ-loop
 unfolding operators
-add-or-sub-expr-loop-less t c = 
+add-or-sub-expr-loop-less t c =
     let c-made = c .before in
     let c-push-node = c-made .before .before .before .before .before .before in
     let c-rhs = c-push-node .before .before .before .before in
@@ -328,7 +328,7 @@ add-or-sub-expr-loop-less t c =
 
 pub add-or-sub-expr-loop-again : (t : ℕ) → add-or-sub-expr-lts.Need-loop-again (add-or-sub-expr-calls t) (add-or-sub-expr-at t) add-or-sub-expr.Post add-or-sub-expr-Inv-loop add-or-sub-expr-μ-loop
 unfolding operators
-add-or-sub-expr-loop-again t c = 
+add-or-sub-expr-loop-again t c =
     let c-made = c .before in
     let c-push-node = c-made .before .before .before .before .before .before in
     let c-rhs = c-push-node .before .before .before .before in

@@ -28,7 +28,7 @@ abbrev pub and-expr-μ-loop : and-expr-lts.MeasureT-loop
 and-expr-μ-loop script offs words symbols₀ head₀ load₀ lim depth x₀ symbols head load x = length words - x .at
 
 pub and-expr-equality-expr-requires : (t : ℕ) → and-expr-lts.Need-equality-expr-requires (and-expr-calls t) (and-expr-at t) and-expr.Post and-expr-Inv-loop and-expr-μ-loop
-and-expr-equality-expr-requires t c κs = 
+and-expr-equality-expr-requires t c κs =
     let start = c .before .before .before .before .before .before .before .before .before in
     (omega (arith, start .pre .0), start .pre .1)
 
@@ -36,29 +36,29 @@ pub and-expr-enum-known-lhs : (t : ℕ) → and-expr-lts.Need-enum-known-lhs (an
 and-expr-enum-known-lhs t c = search needs
 
 pub and-expr-same-length : (t : ℕ) → and-expr-lts.Need-same-length (and-expr-calls t) (and-expr-at t) and-expr.Post and-expr-Inv-loop and-expr-μ-loop
-and-expr-same-length t c = 
+and-expr-same-length t c =
     let c-equality-expr = c .before .before .before .before .before .before .before in
     c-equality-expr .equality-expr .kept .1 .1 .1 .0
 
 pub and-expr-same-length-2 : (t : ℕ) → and-expr-lts.Need-same-length-2 (and-expr-calls t) (and-expr-at t) and-expr.Post and-expr-Inv-loop and-expr-μ-loop
-and-expr-same-length-2 t c = 
+and-expr-same-length-2 t c =
     let c-equality-expr = c .before .before .before .before .before .before .before in
     c-equality-expr .equality-expr .kept .1 .1 .1 .1 .0
 
 pub and-expr-same-length-3 : (t : ℕ) → and-expr-lts.Need-same-length-3 (and-expr-calls t) (and-expr-at t) and-expr.Post and-expr-Inv-loop and-expr-μ-loop
-and-expr-same-length-3 t c = 
+and-expr-same-length-3 t c =
     let c-equality-expr = c .before .before .before .before .before .before .before in
     c-equality-expr .equality-expr .kept .1 .1 .1 .1 .1 .0
 
 pub and-expr-returns : (t : ℕ) → and-expr-lts.Need-returns (and-expr-calls t) (and-expr-at t) and-expr.Post and-expr-Inv-loop and-expr-μ-loop
-and-expr-returns t c = 
+and-expr-returns t c =
     let c-equality-expr = c .before .before .before .before .before .before .before in
     let start = c-equality-expr .before .before .before .before .before .before .before .before .before .before in
     gives (λ E e. let p0 = by (begin 1 (λ x. levels x 6 (walkers x (start .args .depth) .unary)) E e (start .pre .1)) (level-step _ 5 _ _) in
     stop 1 (λ x. levels x 5 (walkers x (start .args .depth) .unary)) _ p0 refl (omega arith) (c-equality-expr .equality-expr .ensures) (c .match .keys2))
 
 pub and-expr-loop-holds : (t : ℕ) → and-expr-lts.Need-loop-holds (and-expr-calls t) (and-expr-at t) and-expr.Post and-expr-Inv-loop and-expr-μ-loop
-and-expr-loop-holds t c = 
+and-expr-loop-holds t c =
     let c-lhs = c .before in
     let c-equality-expr = c-lhs .before .before .before .before .before .before .before .before in
     let start = c-equality-expr .before .before .before .before .before .before .before .before .before .before in
@@ -75,26 +75,26 @@ pub and-expr-looseness-requires : (t : ℕ) → and-expr-lts.Need-looseness-requ
 and-expr-looseness-requires t c κs = search needs
 
 pub and-expr-same-length-4 : (t : ℕ) → and-expr-lts.Need-same-length-4 (and-expr-calls t) (and-expr-at t) and-expr.Post and-expr-Inv-loop and-expr-μ-loop
-and-expr-same-length-4 t c = 
+and-expr-same-length-4 t c =
     let c-loop = c .before .before .before in
     let c-equality-expr = c-loop .before .before .before .before .before .before .before .before .before .before in
     c-loop .loop .inv .kept .symbols ∙ c-equality-expr .equality-expr .kept .1 .1 .1 .0
 
 pub and-expr-same-length-5 : (t : ℕ) → and-expr-lts.Need-same-length-5 (and-expr-calls t) (and-expr-at t) and-expr.Post and-expr-Inv-loop and-expr-μ-loop
-and-expr-same-length-5 t c = 
+and-expr-same-length-5 t c =
     let c-loop = c .before .before .before in
     let c-equality-expr = c-loop .before .before .before .before .before .before .before .before .before .before in
     c-loop .loop .inv .kept .head ∙ c-equality-expr .equality-expr .kept .1 .1 .1 .1 .0
 
 pub and-expr-same-length-6 : (t : ℕ) → and-expr-lts.Need-same-length-6 (and-expr-calls t) (and-expr-at t) and-expr.Post and-expr-Inv-loop and-expr-μ-loop
-and-expr-same-length-6 t c = 
+and-expr-same-length-6 t c =
     let c-loop = c .before .before .before in
     let c-equality-expr = c-loop .before .before .before .before .before .before .before .before .before .before in
     c-loop .loop .inv .kept .load ∙ c-equality-expr .equality-expr .kept .1 .1 .1 .1 .1 .0
 
 pub and-expr-returns-2 : (t : ℕ) → and-expr-lts.Need-returns-2 (and-expr-calls t) (and-expr-at t) and-expr.Post and-expr-Inv-loop and-expr-μ-loop
 unfolding operators
-and-expr-returns-2 t c = 
+and-expr-returns-2 t c =
     let c-looseness = c .before in
     let c-kind-at = c-looseness .before in
     let c-loop = c-kind-at .before in
@@ -108,7 +108,7 @@ and-expr-returns-2 t c =
     fin (no _ _ p3 (test (λ k. eqb (looseness k) 6) p3 (ne-eqb _ _ (λ z. c .if1 .taken (c-looseness .looseness .ensures ∙ ap looseness (c-kind-at .kind-at .ensures) ∙ z))))))
 
 pub and-expr-consume-requires : (t : ℕ) → and-expr-lts.Need-consume-requires (and-expr-calls t) (and-expr-at t) and-expr.Post and-expr-Inv-loop and-expr-μ-loop
-and-expr-consume-requires t c κs = 
+and-expr-consume-requires t c κs =
     let c-loop = c .before .before .before in
     (c-loop .loop .inv) .is .stands
 
@@ -116,26 +116,26 @@ pub and-expr-enum-known-passed : (t : ℕ) → and-expr-lts.Need-enum-known-pass
 and-expr-enum-known-passed t c = search needs
 
 pub and-expr-same-length-7 : (t : ℕ) → and-expr-lts.Need-same-length-7 (and-expr-calls t) (and-expr-at t) and-expr.Post and-expr-Inv-loop and-expr-μ-loop
-and-expr-same-length-7 t c = 
+and-expr-same-length-7 t c =
     let c-loop = c .before .before .before .before .before in
     let c-equality-expr = c-loop .before .before .before .before .before .before .before .before .before .before in
     c-loop .loop .inv .kept .symbols ∙ c-equality-expr .equality-expr .kept .1 .1 .1 .0
 
 pub and-expr-same-length-8 : (t : ℕ) → and-expr-lts.Need-same-length-8 (and-expr-calls t) (and-expr-at t) and-expr.Post and-expr-Inv-loop and-expr-μ-loop
-and-expr-same-length-8 t c = 
+and-expr-same-length-8 t c =
     let c-loop = c .before .before .before .before .before in
     let c-equality-expr = c-loop .before .before .before .before .before .before .before .before .before .before in
     c-loop .loop .inv .kept .head ∙ c-equality-expr .equality-expr .kept .1 .1 .1 .1 .0
 
 pub and-expr-same-length-9 : (t : ℕ) → and-expr-lts.Need-same-length-9 (and-expr-calls t) (and-expr-at t) and-expr.Post and-expr-Inv-loop and-expr-μ-loop
-and-expr-same-length-9 t c = 
+and-expr-same-length-9 t c =
     let c-loop = c .before .before .before .before .before in
     let c-equality-expr = c-loop .before .before .before .before .before .before .before .before .before .before in
     c-loop .loop .inv .kept .load ∙ c-equality-expr .equality-expr .kept .1 .1 .1 .1 .1 .0
 
 pub and-expr-returns-3 : (t : ℕ) → and-expr-lts.Need-returns-3 (and-expr-calls t) (and-expr-at t) and-expr.Post and-expr-Inv-loop and-expr-μ-loop
 unfolding operators
-and-expr-returns-3 t c = 
+and-expr-returns-3 t c =
     let c-consume = c .before in
     let c-if1 = c-consume .before in
     let c-looseness = c-if1 .before in
@@ -153,7 +153,7 @@ and-expr-returns-3 t c =
 
 pub and-expr-equality-expr-requires-2 : (t : ℕ) → and-expr-lts.Need-equality-expr-requires-2 (and-expr-calls t) (and-expr-at t) and-expr.Post and-expr-Inv-loop and-expr-μ-loop
 unfolding operators
-and-expr-equality-expr-requires-2 t c κs = 
+and-expr-equality-expr-requires-2 t c κs =
     let c-passed = c .before .before .before .before in
     let c-consume = c-passed .before .before in
     let c-if1 = c-consume .before in
@@ -177,21 +177,21 @@ pub and-expr-enum-known-rhs : (t : ℕ) → and-expr-lts.Need-enum-known-rhs (an
 and-expr-enum-known-rhs t c = search needs
 
 pub and-expr-same-length-10 : (t : ℕ) → and-expr-lts.Need-same-length-10 (and-expr-calls t) (and-expr-at t) and-expr.Post and-expr-Inv-loop and-expr-μ-loop
-and-expr-same-length-10 t c = 
+and-expr-same-length-10 t c =
     let c-equality-expr2 = c .before .before .before .before .before .before .before in
     let c-loop = c-equality-expr2 .before .before .before .before .before .before .before .before .before .before .before in
     let c-equality-expr = c-loop .before .before .before .before .before .before .before .before .before .before in
     c-equality-expr2 .equality-expr2 .kept .1 .1 .1 .0 ∙ c-loop .loop .inv .kept .symbols ∙ c-equality-expr .equality-expr .kept .1 .1 .1 .0
 
 pub and-expr-same-length-11 : (t : ℕ) → and-expr-lts.Need-same-length-11 (and-expr-calls t) (and-expr-at t) and-expr.Post and-expr-Inv-loop and-expr-μ-loop
-and-expr-same-length-11 t c = 
+and-expr-same-length-11 t c =
     let c-equality-expr2 = c .before .before .before .before .before .before .before in
     let c-loop = c-equality-expr2 .before .before .before .before .before .before .before .before .before .before .before in
     let c-equality-expr = c-loop .before .before .before .before .before .before .before .before .before .before in
     c-equality-expr2 .equality-expr2 .kept .1 .1 .1 .1 .0 ∙ c-loop .loop .inv .kept .head ∙ c-equality-expr .equality-expr .kept .1 .1 .1 .1 .0
 
 pub and-expr-same-length-12 : (t : ℕ) → and-expr-lts.Need-same-length-12 (and-expr-calls t) (and-expr-at t) and-expr.Post and-expr-Inv-loop and-expr-μ-loop
-and-expr-same-length-12 t c = 
+and-expr-same-length-12 t c =
     let c-equality-expr2 = c .before .before .before .before .before .before .before in
     let c-loop = c-equality-expr2 .before .before .before .before .before .before .before .before .before .before .before in
     let c-equality-expr = c-loop .before .before .before .before .before .before .before .before .before .before in
@@ -199,7 +199,7 @@ and-expr-same-length-12 t c =
 
 pub and-expr-returns-4 : (t : ℕ) → and-expr-lts.Need-returns-4 (and-expr-calls t) (and-expr-at t) and-expr.Post and-expr-Inv-loop and-expr-μ-loop
 unfolding operators
-and-expr-returns-4 t c = 
+and-expr-returns-4 t c =
     let c-equality-expr2 = c .before .before .before .before .before .before .before in
     let c-passed = c-equality-expr2 .before .before .before .before .before in
     let c-consume = c-passed .before .before in
@@ -219,13 +219,13 @@ and-expr-returns-4 t c =
     stop 1 (λ x. levels x 5 (walkers x (start .args .depth) .unary)) _ p5 refl (omega arith) (c-equality-expr2 .equality-expr2 .ensures) (c .match3 .keys2))
 
 pub and-expr-cast-push-node : (t : ℕ) → and-expr-lts.Need-cast-push-node (and-expr-calls t) (and-expr-at t) and-expr.Post and-expr-Inv-loop and-expr-μ-loop
-and-expr-cast-push-node t c = 
+and-expr-cast-push-node t c =
     let c-loop = c .before .before .before .before .before .before .before .before .before .before .before .before .before .before .before .before .before .before .before .before .before .before in
     omega (arith, (c-loop .loop .inv) .is .stands .here, (c-loop .loop .inv) .is .stands .toks .few)
 
 pub and-expr-push-node-requires : (t : ℕ) → and-expr-lts.Need-push-node-requires (and-expr-calls t) (and-expr-at t) and-expr.Post and-expr-Inv-loop and-expr-μ-loop
 unfolding operators
-and-expr-push-node-requires t c κs = 
+and-expr-push-node-requires t c κs =
     let c-rhs = c .before .before .before in
     let c-equality-expr2 = c-rhs .before .before .before .before .before .before .before .before in
     let c-passed = c-equality-expr2 .before .before .before .before .before in
@@ -252,14 +252,14 @@ pub and-expr-enum-known-made : (t : ℕ) → and-expr-lts.Need-enum-known-made (
 and-expr-enum-known-made t c = search needs
 
 pub and-expr-same-length-13 : (t : ℕ) → and-expr-lts.Need-same-length-13 (and-expr-calls t) (and-expr-at t) and-expr.Post and-expr-Inv-loop and-expr-μ-loop
-and-expr-same-length-13 t c = 
+and-expr-same-length-13 t c =
     let c-equality-expr2 = c .before .before .before .before .before .before .before .before .before .before .before .before .before .before .before .before .before in
     let c-loop = c-equality-expr2 .before .before .before .before .before .before .before .before .before .before .before in
     let c-equality-expr = c-loop .before .before .before .before .before .before .before .before .before .before in
     c-equality-expr2 .equality-expr2 .kept .1 .1 .1 .0 ∙ c-loop .loop .inv .kept .symbols ∙ c-equality-expr .equality-expr .kept .1 .1 .1 .0
 
 pub and-expr-same-length-14 : (t : ℕ) → and-expr-lts.Need-same-length-14 (and-expr-calls t) (and-expr-at t) and-expr.Post and-expr-Inv-loop and-expr-μ-loop
-and-expr-same-length-14 t c = 
+and-expr-same-length-14 t c =
     let c-push-node = c .before .before .before .before .before in
     let c-equality-expr2 = c-push-node .before .before .before .before .before .before .before .before .before .before .before .before in
     let c-loop = c-equality-expr2 .before .before .before .before .before .before .before .before .before .before .before in
@@ -267,7 +267,7 @@ and-expr-same-length-14 t c =
     c-push-node .push-node .kept .0 ∙ c-equality-expr2 .equality-expr2 .kept .1 .1 .1 .1 .0 ∙ c-loop .loop .inv .kept .head ∙ c-equality-expr .equality-expr .kept .1 .1 .1 .1 .0
 
 pub and-expr-same-length-15 : (t : ℕ) → and-expr-lts.Need-same-length-15 (and-expr-calls t) (and-expr-at t) and-expr.Post and-expr-Inv-loop and-expr-μ-loop
-and-expr-same-length-15 t c = 
+and-expr-same-length-15 t c =
     let c-push-node = c .before .before .before .before .before in
     let c-equality-expr2 = c-push-node .before .before .before .before .before .before .before .before .before .before .before .before in
     let c-loop = c-equality-expr2 .before .before .before .before .before .before .before .before .before .before .before in
@@ -276,7 +276,7 @@ and-expr-same-length-15 t c =
 
 pub and-expr-returns-5 : (t : ℕ) → and-expr-lts.Need-returns-5 (and-expr-calls t) (and-expr-at t) and-expr.Post and-expr-Inv-loop and-expr-μ-loop
 unfolding operators
-and-expr-returns-5 t c = 
+and-expr-returns-5 t c =
     let c-push-node = c .before .before .before .before .before in
     let c-rhs = c-push-node .before .before .before .before in
     let c-equality-expr2 = c-rhs .before .before .before .before .before .before .before .before in
@@ -300,7 +300,7 @@ and-expr-returns-5 t c =
 
 pub and-expr-loop-less : (t : ℕ) → and-expr-lts.Need-loop-less (and-expr-calls t) (and-expr-at t) and-expr.Post and-expr-Inv-loop and-expr-μ-loop
 unfolding operators
-and-expr-loop-less t c = 
+and-expr-loop-less t c =
     let c-made = c .before in
     let c-push-node = c-made .before .before .before .before .before .before in
     let c-rhs = c-push-node .before .before .before .before in
@@ -328,7 +328,7 @@ and-expr-loop-less t c =
 
 pub and-expr-loop-again : (t : ℕ) → and-expr-lts.Need-loop-again (and-expr-calls t) (and-expr-at t) and-expr.Post and-expr-Inv-loop and-expr-μ-loop
 unfolding operators
-and-expr-loop-again t c = 
+and-expr-loop-again t c =
     let c-made = c .before in
     let c-push-node = c-made .before .before .before .before .before .before in
     let c-rhs = c-push-node .before .before .before .before in

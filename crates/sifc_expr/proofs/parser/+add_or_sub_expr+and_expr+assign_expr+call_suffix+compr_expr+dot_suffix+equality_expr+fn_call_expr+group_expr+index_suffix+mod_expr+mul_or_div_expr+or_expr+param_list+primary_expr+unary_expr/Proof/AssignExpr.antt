@@ -28,7 +28,7 @@ pub assign-expr-sub-below : (t : ℕ) → assign-expr-lts.Need-sub-below (assign
 assign-expr-sub-below t c = omega (arith, c .if1 .left)
 
 pub assign-expr-or-expr-requires : (t : ℕ) → assign-expr-lts.Need-or-expr-requires (assign-expr-calls t) (assign-expr-at t) assign-expr.Post
-assign-expr-or-expr-requires t c κs = 
+assign-expr-or-expr-requires t c κs =
     let c-if1 = c .before .before .before in
     let start = c-if1 .before .before .before .before .before .before .before in
     (omega (arith, start .pre .0, c-if1 .if1 .left), start .pre .1)
@@ -37,23 +37,23 @@ pub assign-expr-enum-known-lhs : (t : ℕ) → assign-expr-lts.Need-enum-known-l
 assign-expr-enum-known-lhs t c = search needs
 
 pub assign-expr-same-length : (t : ℕ) → assign-expr-lts.Need-same-length (assign-expr-calls t) (assign-expr-at t) assign-expr.Post
-assign-expr-same-length t c = 
+assign-expr-same-length t c =
     let c-or-expr = c .before .before .before .before .before .before .before in
     c-or-expr .or-expr .kept .1 .1 .1 .0
 
 pub assign-expr-same-length-2 : (t : ℕ) → assign-expr-lts.Need-same-length-2 (assign-expr-calls t) (assign-expr-at t) assign-expr.Post
-assign-expr-same-length-2 t c = 
+assign-expr-same-length-2 t c =
     let c-or-expr = c .before .before .before .before .before .before .before in
     c-or-expr .or-expr .kept .1 .1 .1 .1 .0
 
 pub assign-expr-same-length-3 : (t : ℕ) → assign-expr-lts.Need-same-length-3 (assign-expr-calls t) (assign-expr-at t) assign-expr.Post
-assign-expr-same-length-3 t c = 
+assign-expr-same-length-3 t c =
     let c-or-expr = c .before .before .before .before .before .before .before in
     c-or-expr .or-expr .kept .1 .1 .1 .1 .1 .0
 
 pub assign-expr-returns-2 : (t : ℕ) → assign-expr-lts.Need-returns-2 (assign-expr-calls t) (assign-expr-at t) assign-expr.Post
 unfolding assignExpr
-assign-expr-returns-2 t c = 
+assign-expr-returns-2 t c =
     let c-or-expr = c .before .before .before .before .before .before .before in
     let c-if1 = c-or-expr .before .before .before .before in
     let start = c-if1 .before .before .before .before .before .before .before in
@@ -62,7 +62,7 @@ assign-expr-returns-2 t c =
 
 pub assign-expr-top-requires : (t : ℕ) → assign-expr-lts.Need-top-requires (assign-expr-calls t) (assign-expr-at t) assign-expr.Post
 unfolding assignExpr
-assign-expr-top-requires t c κs = 
+assign-expr-top-requires t c κs =
     let c-lhs = c .before .before .before in
     let c-or-expr = c-lhs .before .before .before .before .before .before .before .before in
     let c-if1 = c-or-expr .before .before .before .before in
@@ -75,7 +75,7 @@ assign-expr-top-requires t c κs =
 
 pub assign-expr-kind-at-requires : (t : ℕ) → assign-expr-lts.Need-kind-at-requires (assign-expr-calls t) (assign-expr-at t) assign-expr.Post
 unfolding assignExpr
-assign-expr-kind-at-requires t c κs = 
+assign-expr-kind-at-requires t c κs =
     let c-lhs = c .before .before .before .before in
     let c-or-expr = c-lhs .before .before .before .before .before .before .before .before in
     let c-if1 = c-or-expr .before .before .before .before in
@@ -87,23 +87,23 @@ assign-expr-kind-at-requires t c κs =
     p1 .is .stands .here
 
 pub assign-expr-same-length-4 : (t : ℕ) → assign-expr-lts.Need-same-length-4 (assign-expr-calls t) (assign-expr-at t) assign-expr.Post
-assign-expr-same-length-4 t c = 
+assign-expr-same-length-4 t c =
     let c-or-expr = c .before .before .before .before .before .before .before .before .before .before .before .before .before .before in
     c-or-expr .or-expr .kept .1 .1 .1 .0
 
 pub assign-expr-same-length-5 : (t : ℕ) → assign-expr-lts.Need-same-length-5 (assign-expr-calls t) (assign-expr-at t) assign-expr.Post
-assign-expr-same-length-5 t c = 
+assign-expr-same-length-5 t c =
     let c-or-expr = c .before .before .before .before .before .before .before .before .before .before .before .before .before .before in
     c-or-expr .or-expr .kept .1 .1 .1 .1 .0
 
 pub assign-expr-same-length-6 : (t : ℕ) → assign-expr-lts.Need-same-length-6 (assign-expr-calls t) (assign-expr-at t) assign-expr.Post
-assign-expr-same-length-6 t c = 
+assign-expr-same-length-6 t c =
     let c-or-expr = c .before .before .before .before .before .before .before .before .before .before .before .before .before .before in
     c-or-expr .or-expr .kept .1 .1 .1 .1 .1 .0
 
 pub assign-expr-returns-3 : (t : ℕ) → assign-expr-lts.Need-returns-3 (assign-expr-calls t) (assign-expr-at t) assign-expr.Post
 unfolding assignExpr
-assign-expr-returns-3 t c = 
+assign-expr-returns-3 t c =
     let c-kind-at = c .before in
     let c-top = c-kind-at .before in
     let c-lhs = c-top .before .before .before .before in
@@ -117,7 +117,7 @@ assign-expr-returns-3 t c =
 
 pub assign-expr-consume-requires : (t : ℕ) → assign-expr-lts.Need-consume-requires (assign-expr-calls t) (assign-expr-at t) assign-expr.Post
 unfolding assignExpr
-assign-expr-consume-requires t c κs = 
+assign-expr-consume-requires t c κs =
     let c-lhs = c .before .before .before .before .before .before in
     let c-or-expr = c-lhs .before .before .before .before .before .before .before .before in
     let c-if1 = c-or-expr .before .before .before .before in
@@ -132,23 +132,23 @@ pub assign-expr-enum-known-passed : (t : ℕ) → assign-expr-lts.Need-enum-know
 assign-expr-enum-known-passed t c = search needs
 
 pub assign-expr-same-length-7 : (t : ℕ) → assign-expr-lts.Need-same-length-7 (assign-expr-calls t) (assign-expr-at t) assign-expr.Post
-assign-expr-same-length-7 t c = 
+assign-expr-same-length-7 t c =
     let c-or-expr = c .before .before .before .before .before .before .before .before .before .before .before .before .before .before .before .before in
     c-or-expr .or-expr .kept .1 .1 .1 .0
 
 pub assign-expr-same-length-8 : (t : ℕ) → assign-expr-lts.Need-same-length-8 (assign-expr-calls t) (assign-expr-at t) assign-expr.Post
-assign-expr-same-length-8 t c = 
+assign-expr-same-length-8 t c =
     let c-or-expr = c .before .before .before .before .before .before .before .before .before .before .before .before .before .before .before .before in
     c-or-expr .or-expr .kept .1 .1 .1 .1 .0
 
 pub assign-expr-same-length-9 : (t : ℕ) → assign-expr-lts.Need-same-length-9 (assign-expr-calls t) (assign-expr-at t) assign-expr.Post
-assign-expr-same-length-9 t c = 
+assign-expr-same-length-9 t c =
     let c-or-expr = c .before .before .before .before .before .before .before .before .before .before .before .before .before .before .before .before in
     c-or-expr .or-expr .kept .1 .1 .1 .1 .1 .0
 
 pub assign-expr-returns-4 : (t : ℕ) → assign-expr-lts.Need-returns-4 (assign-expr-calls t) (assign-expr-at t) assign-expr.Post
 unfolding assignExpr
-assign-expr-returns-4 t c = 
+assign-expr-returns-4 t c =
     let c-consume = c .before in
     let c-if2 = c-consume .before in
     let c-kind-at = c-if2 .before in
@@ -165,7 +165,7 @@ assign-expr-returns-4 t c =
 
 pub assign-expr-assign-expr-requires : (t : ℕ) → assign-expr-lts.Need-assign-expr-requires (assign-expr-calls t) (assign-expr-at t) assign-expr.Post
 unfolding assignExpr
-assign-expr-assign-expr-requires t c κs = 
+assign-expr-assign-expr-requires t c κs =
     let c-passed = c .before .before .before .before in
     let c-consume = c-passed .before .before in
     let c-if2 = c-consume .before in
@@ -188,26 +188,26 @@ pub assign-expr-enum-known-rhs : (t : ℕ) → assign-expr-lts.Need-enum-known-r
 assign-expr-enum-known-rhs t c = search needs
 
 pub assign-expr-same-length-10 : (t : ℕ) → assign-expr-lts.Need-same-length-10 (assign-expr-calls t) (assign-expr-at t) assign-expr.Post
-assign-expr-same-length-10 t c = 
+assign-expr-same-length-10 t c =
     let c-assign-expr = c .before .before .before .before .before .before .before in
     let c-or-expr = c-assign-expr .before .before .before .before .before .before .before .before .before .before .before .before .before .before .before .before .before .before .before .before .before .before in
     c-assign-expr .assign-expr .kept .1 .1 .1 .0 ∙ c-or-expr .or-expr .kept .1 .1 .1 .0
 
 pub assign-expr-same-length-11 : (t : ℕ) → assign-expr-lts.Need-same-length-11 (assign-expr-calls t) (assign-expr-at t) assign-expr.Post
-assign-expr-same-length-11 t c = 
+assign-expr-same-length-11 t c =
     let c-assign-expr = c .before .before .before .before .before .before .before in
     let c-or-expr = c-assign-expr .before .before .before .before .before .before .before .before .before .before .before .before .before .before .before .before .before .before .before .before .before .before in
     c-assign-expr .assign-expr .kept .1 .1 .1 .1 .0 ∙ c-or-expr .or-expr .kept .1 .1 .1 .1 .0
 
 pub assign-expr-same-length-12 : (t : ℕ) → assign-expr-lts.Need-same-length-12 (assign-expr-calls t) (assign-expr-at t) assign-expr.Post
-assign-expr-same-length-12 t c = 
+assign-expr-same-length-12 t c =
     let c-assign-expr = c .before .before .before .before .before .before .before in
     let c-or-expr = c-assign-expr .before .before .before .before .before .before .before .before .before .before .before .before .before .before .before .before .before .before .before .before .before .before in
     c-assign-expr .assign-expr .kept .1 .1 .1 .1 .1 .0 ∙ c-or-expr .or-expr .kept .1 .1 .1 .1 .1 .0
 
 pub assign-expr-returns-5 : (t : ℕ) → assign-expr-lts.Need-returns-5 (assign-expr-calls t) (assign-expr-at t) assign-expr.Post
 unfolding assignExpr
-assign-expr-returns-5 t c = 
+assign-expr-returns-5 t c =
     let c-assign-expr = c .before .before .before .before .before .before .before in
     let c-passed = c-assign-expr .before .before .before .before .before in
     let c-consume = c-passed .before .before in
@@ -227,7 +227,7 @@ assign-expr-returns-5 t c =
 
 pub assign-expr-assign-to-requires : (t : ℕ) → assign-expr-lts.Need-assign-to-requires (assign-expr-calls t) (assign-expr-at t) assign-expr.Post
 unfolding assignExpr
-assign-expr-assign-to-requires t c κs = 
+assign-expr-assign-to-requires t c κs =
     let c-rhs = c .before .before .before .before in
     let c-assign-expr = c-rhs .before .before .before .before .before .before .before .before in
     let c-passed = c-assign-expr .before .before .before .before .before in
@@ -250,21 +250,21 @@ assign-expr-assign-to-requires t c κs =
     p5 .is
 
 pub assign-expr-same-length-13 : (t : ℕ) → assign-expr-lts.Need-same-length-13 (assign-expr-calls t) (assign-expr-at t) assign-expr.Post
-assign-expr-same-length-13 t c = 
+assign-expr-same-length-13 t c =
     let c-assign-to = c .before .before .before .before .before .before in
     let c-assign-expr = c-assign-to .before .before .before .before .before .before .before .before .before .before .before .before .before in
     let c-or-expr = c-assign-expr .before .before .before .before .before .before .before .before .before .before .before .before .before .before .before .before .before .before .before .before .before .before in
     c-assign-to .assign-to .kept .1 .1 .1 .0 ∙ c-assign-expr .assign-expr .kept .1 .1 .1 .0 ∙ c-or-expr .or-expr .kept .1 .1 .1 .0
 
 pub assign-expr-same-length-14 : (t : ℕ) → assign-expr-lts.Need-same-length-14 (assign-expr-calls t) (assign-expr-at t) assign-expr.Post
-assign-expr-same-length-14 t c = 
+assign-expr-same-length-14 t c =
     let c-assign-to = c .before .before .before .before .before .before in
     let c-assign-expr = c-assign-to .before .before .before .before .before .before .before .before .before .before .before .before .before in
     let c-or-expr = c-assign-expr .before .before .before .before .before .before .before .before .before .before .before .before .before .before .before .before .before .before .before .before .before .before in
     c-assign-to .assign-to .kept .1 .1 .1 .1 .0 ∙ c-assign-expr .assign-expr .kept .1 .1 .1 .1 .0 ∙ c-or-expr .or-expr .kept .1 .1 .1 .1 .0
 
 pub assign-expr-same-length-15 : (t : ℕ) → assign-expr-lts.Need-same-length-15 (assign-expr-calls t) (assign-expr-at t) assign-expr.Post
-assign-expr-same-length-15 t c = 
+assign-expr-same-length-15 t c =
     let c-assign-to = c .before .before .before .before .before .before in
     let c-assign-expr = c-assign-to .before .before .before .before .before .before .before .before .before .before .before .before .before in
     let c-or-expr = c-assign-expr .before .before .before .before .before .before .before .before .before .before .before .before .before .before .before .before .before .before .before .before .before .before in
@@ -272,7 +272,7 @@ assign-expr-same-length-15 t c =
 
 pub assign-expr-returns-6 : (t : ℕ) → assign-expr-lts.Need-returns-6 (assign-expr-calls t) (assign-expr-at t) assign-expr.Post
 unfolding assignExpr
-assign-expr-returns-6 t c = 
+assign-expr-returns-6 t c =
     let c-assign-to = c .before .before .before .before .before .before in
     let c-rhs = c-assign-to .before .before .before .before .before in
     let c-assign-expr = c-rhs .before .before .before .before .before .before .before .before in

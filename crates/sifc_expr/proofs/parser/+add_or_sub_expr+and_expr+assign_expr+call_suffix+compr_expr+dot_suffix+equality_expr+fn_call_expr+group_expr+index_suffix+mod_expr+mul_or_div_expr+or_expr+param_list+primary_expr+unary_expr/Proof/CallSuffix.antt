@@ -22,7 +22,7 @@ use Rattle.sifc_expr.proofs.Loops.{assign-step, unary-step, call-step, 
 use Rattle.sifc_expr.proofs.parser.+add_or_sub_expr+and_expr+assign_expr+call_suffix+compr_expr+dot_suffix+equality_expr+fn_call_expr+group_expr+index_suffix+mod_expr+mul_or_div_expr+or_expr+param_list+primary_expr+unary_expr.Proof.Base.{call-suffix-at, call-suffix-calls}
 
 pub call-suffix-consume-requires : (t : ℕ) → call-suffix-lts.Need-consume-requires (call-suffix-calls t) (call-suffix-at t) call-suffix.Post
-call-suffix-consume-requires t c κs = 
+call-suffix-consume-requires t c κs =
     let start = c .before .before .before .before .before .before in
     start .pre .1 .stands
 
@@ -31,7 +31,7 @@ call-suffix-enum-known-passed t c = search needs
 
 pub call-suffix-returns : (t : ℕ) → call-suffix-lts.Need-returns (call-suffix-calls t) (call-suffix-at t) call-suffix.Post
 unfolding callPart
-call-suffix-returns t c = 
+call-suffix-returns t c =
     let c-consume = c .before in
     let start = c-consume .before .before .before .before .before .before .before in
     gives (λ E e. let p0 = begin 0 (λ x. callPart x (walkers x (start .args .depth)) (nodeOf (start .args .target)) (start .args .w .at)) E e (start .pre .1) in
@@ -39,7 +39,7 @@ call-suffix-returns t c =
 
 pub call-suffix-param-list-requires : (t : ℕ) → call-suffix-lts.Need-param-list-requires (call-suffix-calls t) (call-suffix-at t) call-suffix.Post
 unfolding callPart
-call-suffix-param-list-requires t c κs = 
+call-suffix-param-list-requires t c κs =
     let c-passed = c .before .before .before .before in
     let c-consume = c-passed .before .before in
     let start = c-consume .before .before .before .before .before .before .before in
@@ -53,23 +53,23 @@ pub call-suffix-enum-known-items : (t : ℕ) → call-suffix-lts.Need-enum-known
 call-suffix-enum-known-items t c = search needs
 
 pub call-suffix-same-length : (t : ℕ) → call-suffix-lts.Need-same-length (call-suffix-calls t) (call-suffix-at t) call-suffix.Post
-call-suffix-same-length t c = 
+call-suffix-same-length t c =
     let c-param-list = c .before .before .before .before .before .before .before in
     c-param-list .param-list .kept .1 .1 .1 .0
 
 pub call-suffix-same-length-2 : (t : ℕ) → call-suffix-lts.Need-same-length-2 (call-suffix-calls t) (call-suffix-at t) call-suffix.Post
-call-suffix-same-length-2 t c = 
+call-suffix-same-length-2 t c =
     let c-param-list = c .before .before .before .before .before .before .before in
     c-param-list .param-list .kept .1 .1 .1 .1 .0
 
 pub call-suffix-same-length-3 : (t : ℕ) → call-suffix-lts.Need-same-length-3 (call-suffix-calls t) (call-suffix-at t) call-suffix.Post
-call-suffix-same-length-3 t c = 
+call-suffix-same-length-3 t c =
     let c-param-list = c .before .before .before .before .before .before .before in
     c-param-list .param-list .kept .1 .1 .1 .1 .1 .0
 
 pub call-suffix-returns-2 : (t : ℕ) → call-suffix-lts.Need-returns-2 (call-suffix-calls t) (call-suffix-at t) call-suffix.Post
 unfolding callPart
-call-suffix-returns-2 t c = 
+call-suffix-returns-2 t c =
     let c-param-list = c .before .before .before .before .before .before .before in
     let c-passed = c-param-list .before .before .before .before .before in
     let c-consume = c-passed .before .before in
@@ -80,7 +80,7 @@ call-suffix-returns-2 t c =
 
 pub call-suffix-expect-requires : (t : ℕ) → call-suffix-lts.Need-expect-requires (call-suffix-calls t) (call-suffix-at t) call-suffix.Post
 unfolding callPart
-call-suffix-expect-requires t c κs = 
+call-suffix-expect-requires t c κs =
     let c-items = c .before in
     let c-param-list = c-items .before .before .before .before .before .before .before .before in
     let c-passed = c-param-list .before .before .before .before .before in
@@ -97,23 +97,23 @@ pub call-suffix-enum-known-closed : (t : ℕ) → call-suffix-lts.Need-enum-know
 call-suffix-enum-known-closed t c = search needs
 
 pub call-suffix-same-length-4 : (t : ℕ) → call-suffix-lts.Need-same-length-4 (call-suffix-calls t) (call-suffix-at t) call-suffix.Post
-call-suffix-same-length-4 t c = 
+call-suffix-same-length-4 t c =
     let c-param-list = c .before .before .before .before .before .before .before .before .before .before .before in
     c-param-list .param-list .kept .1 .1 .1 .0
 
 pub call-suffix-same-length-5 : (t : ℕ) → call-suffix-lts.Need-same-length-5 (call-suffix-calls t) (call-suffix-at t) call-suffix.Post
-call-suffix-same-length-5 t c = 
+call-suffix-same-length-5 t c =
     let c-param-list = c .before .before .before .before .before .before .before .before .before .before .before in
     c-param-list .param-list .kept .1 .1 .1 .1 .0
 
 pub call-suffix-same-length-6 : (t : ℕ) → call-suffix-lts.Need-same-length-6 (call-suffix-calls t) (call-suffix-at t) call-suffix.Post
-call-suffix-same-length-6 t c = 
+call-suffix-same-length-6 t c =
     let c-param-list = c .before .before .before .before .before .before .before .before .before .before .before in
     c-param-list .param-list .kept .1 .1 .1 .1 .1 .0
 
 pub call-suffix-returns-3 : (t : ℕ) → call-suffix-lts.Need-returns-3 (call-suffix-calls t) (call-suffix-at t) call-suffix.Post
 unfolding callPart
-call-suffix-returns-3 t c = 
+call-suffix-returns-3 t c =
     let c-expect = c .before in
     let c-items = c-expect .before .before in
     let c-param-list = c-items .before .before .before .before .before .before .before .before in
@@ -127,7 +127,7 @@ call-suffix-returns-3 t c =
 
 pub call-suffix-call-named-requires : (t : ℕ) → call-suffix-lts.Need-call-named-requires (call-suffix-calls t) (call-suffix-at t) call-suffix.Post
 unfolding callPart
-call-suffix-call-named-requires t c κs = 
+call-suffix-call-named-requires t c κs =
     let c-closed = c .before .before .before .before in
     let c-expect = c-closed .before .before in
     let c-items = c-expect .before .before in
@@ -144,26 +144,26 @@ call-suffix-call-named-requires t c κs =
     (p3 .is, start .pre .1 .stands .here, count-at (c-param-list .param-list .ensures .1) (c-items .items .given .1))
 
 pub call-suffix-same-length-7 : (t : ℕ) → call-suffix-lts.Need-same-length-7 (call-suffix-calls t) (call-suffix-at t) call-suffix.Post
-call-suffix-same-length-7 t c = 
+call-suffix-same-length-7 t c =
     let c-call-named = c .before .before .before .before .before .before in
     let c-param-list = c-call-named .before .before .before .before .before .before .before .before .before .before .before .before .before .before .before .before .before in
     c-call-named .call-named .kept .1 .1 .1 .0 ∙ c-param-list .param-list .kept .1 .1 .1 .0
 
 pub call-suffix-same-length-8 : (t : ℕ) → call-suffix-lts.Need-same-length-8 (call-suffix-calls t) (call-suffix-at t) call-suffix.Post
-call-suffix-same-length-8 t c = 
+call-suffix-same-length-8 t c =
     let c-call-named = c .before .before .before .before .before .before in
     let c-param-list = c-call-named .before .before .before .before .before .before .before .before .before .before .before .before .before .before .before .before .before in
     c-call-named .call-named .kept .1 .1 .1 .1 .0 ∙ c-param-list .param-list .kept .1 .1 .1 .1 .0
 
 pub call-suffix-same-length-9 : (t : ℕ) → call-suffix-lts.Need-same-length-9 (call-suffix-calls t) (call-suffix-at t) call-suffix.Post
-call-suffix-same-length-9 t c = 
+call-suffix-same-length-9 t c =
     let c-call-named = c .before .before .before .before .before .before in
     let c-param-list = c-call-named .before .before .before .before .before .before .before .before .before .before .before .before .before .before .before .before .before in
     c-call-named .call-named .kept .1 .1 .1 .1 .1 .0 ∙ c-param-list .param-list .kept .1 .1 .1 .1 .1 .0
 
 pub call-suffix-returns-4 : (t : ℕ) → call-suffix-lts.Need-returns-4 (call-suffix-calls t) (call-suffix-at t) call-suffix.Post
 unfolding callPart
-call-suffix-returns-4 t c = 
+call-suffix-returns-4 t c =
     let c-call-named = c .before .before .before .before .before .before in
     let c-closed = c-call-named .before .before .before .before .before in
     let c-expect = c-closed .before .before in

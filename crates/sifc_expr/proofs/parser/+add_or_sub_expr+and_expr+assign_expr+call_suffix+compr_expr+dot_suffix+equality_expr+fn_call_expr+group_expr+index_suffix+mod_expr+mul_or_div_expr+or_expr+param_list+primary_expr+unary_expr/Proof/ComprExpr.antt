@@ -28,7 +28,7 @@ abbrev pub compr-expr-μ-loop : compr-expr-lts.MeasureT-loop
 compr-expr-μ-loop script offs words symbols₀ head₀ load₀ lim depth x₀ symbols head load x = length words - x .at
 
 pub compr-expr-add-or-sub-expr-requires : (t : ℕ) → compr-expr-lts.Need-add-or-sub-expr-requires (compr-expr-calls t) (compr-expr-at t) compr-expr.Post compr-expr-Inv-loop compr-expr-μ-loop
-compr-expr-add-or-sub-expr-requires t c κs = 
+compr-expr-add-or-sub-expr-requires t c κs =
     let start = c .before .before .before .before .before .before .before .before .before in
     (omega (arith, start .pre .0), start .pre .1)
 
@@ -36,29 +36,29 @@ pub compr-expr-enum-known-lhs : (t : ℕ) → compr-expr-lts.Need-enum-known-lhs
 compr-expr-enum-known-lhs t c = search needs
 
 pub compr-expr-same-length : (t : ℕ) → compr-expr-lts.Need-same-length (compr-expr-calls t) (compr-expr-at t) compr-expr.Post compr-expr-Inv-loop compr-expr-μ-loop
-compr-expr-same-length t c = 
+compr-expr-same-length t c =
     let c-add-or-sub-expr = c .before .before .before .before .before .before .before in
     c-add-or-sub-expr .add-or-sub-expr .kept .1 .1 .1 .0
 
 pub compr-expr-same-length-2 : (t : ℕ) → compr-expr-lts.Need-same-length-2 (compr-expr-calls t) (compr-expr-at t) compr-expr.Post compr-expr-Inv-loop compr-expr-μ-loop
-compr-expr-same-length-2 t c = 
+compr-expr-same-length-2 t c =
     let c-add-or-sub-expr = c .before .before .before .before .before .before .before in
     c-add-or-sub-expr .add-or-sub-expr .kept .1 .1 .1 .1 .0
 
 pub compr-expr-same-length-3 : (t : ℕ) → compr-expr-lts.Need-same-length-3 (compr-expr-calls t) (compr-expr-at t) compr-expr.Post compr-expr-Inv-loop compr-expr-μ-loop
-compr-expr-same-length-3 t c = 
+compr-expr-same-length-3 t c =
     let c-add-or-sub-expr = c .before .before .before .before .before .before .before in
     c-add-or-sub-expr .add-or-sub-expr .kept .1 .1 .1 .1 .1 .0
 
 pub compr-expr-returns : (t : ℕ) → compr-expr-lts.Need-returns (compr-expr-calls t) (compr-expr-at t) compr-expr.Post compr-expr-Inv-loop compr-expr-μ-loop
-compr-expr-returns t c = 
+compr-expr-returns t c =
     let c-add-or-sub-expr = c .before .before .before .before .before .before .before in
     let start = c-add-or-sub-expr .before .before .before .before .before .before .before .before .before .before in
     gives (λ E e. let p0 = by (begin 1 (λ x. levels x 4 (walkers x (start .args .depth) .unary)) E e (start .pre .1)) (level-step _ 3 _ _) in
     stop 1 (λ x. levels x 3 (walkers x (start .args .depth) .unary)) _ p0 refl (omega arith) (c-add-or-sub-expr .add-or-sub-expr .ensures) (c .match .keys2))
 
 pub compr-expr-loop-holds : (t : ℕ) → compr-expr-lts.Need-loop-holds (compr-expr-calls t) (compr-expr-at t) compr-expr.Post compr-expr-Inv-loop compr-expr-μ-loop
-compr-expr-loop-holds t c = 
+compr-expr-loop-holds t c =
     let c-lhs = c .before in
     let c-add-or-sub-expr = c-lhs .before .before .before .before .before .before .before .before in
     let start = c-add-or-sub-expr .before .before .before .before .before .before .before .before .before .before in
@@ -75,26 +75,26 @@ pub compr-expr-looseness-requires : (t : ℕ) → compr-expr-lts.Need-looseness-
 compr-expr-looseness-requires t c κs = search needs
 
 pub compr-expr-same-length-4 : (t : ℕ) → compr-expr-lts.Need-same-length-4 (compr-expr-calls t) (compr-expr-at t) compr-expr.Post compr-expr-Inv-loop compr-expr-μ-loop
-compr-expr-same-length-4 t c = 
+compr-expr-same-length-4 t c =
     let c-loop = c .before .before .before in
     let c-add-or-sub-expr = c-loop .before .before .before .before .before .before .before .before .before .before in
     c-loop .loop .inv .kept .symbols ∙ c-add-or-sub-expr .add-or-sub-expr .kept .1 .1 .1 .0
 
 pub compr-expr-same-length-5 : (t : ℕ) → compr-expr-lts.Need-same-length-5 (compr-expr-calls t) (compr-expr-at t) compr-expr.Post compr-expr-Inv-loop compr-expr-μ-loop
-compr-expr-same-length-5 t c = 
+compr-expr-same-length-5 t c =
     let c-loop = c .before .before .before in
     let c-add-or-sub-expr = c-loop .before .before .before .before .before .before .before .before .before .before in
     c-loop .loop .inv .kept .head ∙ c-add-or-sub-expr .add-or-sub-expr .kept .1 .1 .1 .1 .0
 
 pub compr-expr-same-length-6 : (t : ℕ) → compr-expr-lts.Need-same-length-6 (compr-expr-calls t) (compr-expr-at t) compr-expr.Post compr-expr-Inv-loop compr-expr-μ-loop
-compr-expr-same-length-6 t c = 
+compr-expr-same-length-6 t c =
     let c-loop = c .before .before .before in
     let c-add-or-sub-expr = c-loop .before .before .before .before .before .before .before .before .before .before in
     c-loop .loop .inv .kept .load ∙ c-add-or-sub-expr .add-or-sub-expr .kept .1 .1 .1 .1 .1 .0
 
 pub compr-expr-returns-2 : (t : ℕ) → compr-expr-lts.Need-returns-2 (compr-expr-calls t) (compr-expr-at t) compr-expr.Post compr-expr-Inv-loop compr-expr-μ-loop
 unfolding operators
-compr-expr-returns-2 t c = 
+compr-expr-returns-2 t c =
     let c-looseness = c .before in
     let c-kind-at = c-looseness .before in
     let c-loop = c-kind-at .before in
@@ -108,7 +108,7 @@ compr-expr-returns-2 t c =
     fin (no _ _ p3 (test (λ k. eqb (looseness k) 4) p3 (ne-eqb _ _ (λ z. c .if1 .taken (c-looseness .looseness .ensures ∙ ap looseness (c-kind-at .kind-at .ensures) ∙ z))))))
 
 pub compr-expr-consume-requires : (t : ℕ) → compr-expr-lts.Need-consume-requires (compr-expr-calls t) (compr-expr-at t) compr-expr.Post compr-expr-Inv-loop compr-expr-μ-loop
-compr-expr-consume-requires t c κs = 
+compr-expr-consume-requires t c κs =
     let c-loop = c .before .before .before in
     (c-loop .loop .inv) .is .stands
 
@@ -116,26 +116,26 @@ pub compr-expr-enum-known-passed : (t : ℕ) → compr-expr-lts.Need-enum-known-
 compr-expr-enum-known-passed t c = search needs
 
 pub compr-expr-same-length-7 : (t : ℕ) → compr-expr-lts.Need-same-length-7 (compr-expr-calls t) (compr-expr-at t) compr-expr.Post compr-expr-Inv-loop compr-expr-μ-loop
-compr-expr-same-length-7 t c = 
+compr-expr-same-length-7 t c =
     let c-loop = c .before .before .before .before .before in
     let c-add-or-sub-expr = c-loop .before .before .before .before .before .before .before .before .before .before in
     c-loop .loop .inv .kept .symbols ∙ c-add-or-sub-expr .add-or-sub-expr .kept .1 .1 .1 .0
 
 pub compr-expr-same-length-8 : (t : ℕ) → compr-expr-lts.Need-same-length-8 (compr-expr-calls t) (compr-expr-at t) compr-expr.Post compr-expr-Inv-loop compr-expr-μ-loop
-compr-expr-same-length-8 t c = 
+compr-expr-same-length-8 t c =
     let c-loop = c .before .before .before .before .before in
     let c-add-or-sub-expr = c-loop .before .before .before .before .before .before .before .before .before .before in
     c-loop .loop .inv .kept .head ∙ c-add-or-sub-expr .add-or-sub-expr .kept .1 .1 .1 .1 .0
 
 pub compr-expr-same-length-9 : (t : ℕ) → compr-expr-lts.Need-same-length-9 (compr-expr-calls t) (compr-expr-at t) compr-expr.Post compr-expr-Inv-loop compr-expr-μ-loop
-compr-expr-same-length-9 t c = 
+compr-expr-same-length-9 t c =
     let c-loop = c .before .before .before .before .before in
     let c-add-or-sub-expr = c-loop .before .before .before .before .before .before .before .before .before .before in
     c-loop .loop .inv .kept .load ∙ c-add-or-sub-expr .add-or-sub-expr .kept .1 .1 .1 .1 .1 .0
 
 pub compr-expr-returns-3 : (t : ℕ) → compr-expr-lts.Need-returns-3 (compr-expr-calls t) (compr-expr-at t) compr-expr.Post compr-expr-Inv-loop compr-expr-μ-loop
 unfolding operators
-compr-expr-returns-3 t c = 
+compr-expr-returns-3 t c =
     let c-consume = c .before in
     let c-if1 = c-consume .before in
     let c-looseness = c-if1 .before in
@@ -153,7 +153,7 @@ compr-expr-returns-3 t c =
 
 pub compr-expr-add-or-sub-expr-requires-2 : (t : ℕ) → compr-expr-lts.Need-add-or-sub-expr-requires-2 (compr-expr-calls t) (compr-expr-at t) compr-expr.Post compr-expr-Inv-loop compr-expr-μ-loop
 unfolding operators
-compr-expr-add-or-sub-expr-requires-2 t c κs = 
+compr-expr-add-or-sub-expr-requires-2 t c κs =
     let c-passed = c .before .before .before .before in
     let c-consume = c-passed .before .before in
     let c-if1 = c-consume .before in
@@ -177,21 +177,21 @@ pub compr-expr-enum-known-rhs : (t : ℕ) → compr-expr-lts.Need-enum-known-rhs
 compr-expr-enum-known-rhs t c = search needs
 
 pub compr-expr-same-length-10 : (t : ℕ) → compr-expr-lts.Need-same-length-10 (compr-expr-calls t) (compr-expr-at t) compr-expr.Post compr-expr-Inv-loop compr-expr-μ-loop
-compr-expr-same-length-10 t c = 
+compr-expr-same-length-10 t c =
     let c-add-or-sub-expr2 = c .before .before .before .before .before .before .before in
     let c-loop = c-add-or-sub-expr2 .before .before .before .before .before .before .before .before .before .before .before in
     let c-add-or-sub-expr = c-loop .before .before .before .before .before .before .before .before .before .before in
     c-add-or-sub-expr2 .add-or-sub-expr2 .kept .1 .1 .1 .0 ∙ c-loop .loop .inv .kept .symbols ∙ c-add-or-sub-expr .add-or-sub-expr .kept .1 .1 .1 .0
 
 pub compr-expr-same-length-11 : (t : ℕ) → compr-expr-lts.Need-same-length-11 (compr-expr-calls t) (compr-expr-at t) compr-expr.Post compr-expr-Inv-loop compr-expr-μ-loop
-compr-expr-same-length-11 t c = 
+compr-expr-same-length-11 t c =
     let c-add-or-sub-expr2 = c .before .before .before .before .before .before .before in
     let c-loop = c-add-or-sub-expr2 .before .before .before .before .before .before .before .before .before .before .before in
     let c-add-or-sub-expr = c-loop .before .before .before .before .before .before .before .before .before .before in
     c-add-or-sub-expr2 .add-or-sub-expr2 .kept .1 .1 .1 .1 .0 ∙ c-loop .loop .inv .kept .head ∙ c-add-or-sub-expr .add-or-sub-expr .kept .1 .1 .1 .1 .0
 
 pub compr-expr-same-length-12 : (t : ℕ) → compr-expr-lts.Need-same-length-12 (compr-expr-calls t) (compr-expr-at t) compr-expr.Post compr-expr-Inv-loop compr-expr-μ-loop
-compr-expr-same-length-12 t c = 
+compr-expr-same-length-12 t c =
     let c-add-or-sub-expr2 = c .before .before .before .before .before .before .before in
     let c-loop = c-add-or-sub-expr2 .before .before .before .before .before .before .before .before .before .before .before in
     let c-add-or-sub-expr = c-loop .before .before .before .before .before .before .before .before .before .before in
@@ -199,7 +199,7 @@ compr-expr-same-length-12 t c =
 
 pub compr-expr-returns-4 : (t : ℕ) → compr-expr-lts.Need-returns-4 (compr-expr-calls t) (compr-expr-at t) compr-expr.Post compr-expr-Inv-loop compr-expr-μ-loop
 unfolding operators
-compr-expr-returns-4 t c = 
+compr-expr-returns-4 t c =
     let c-add-or-sub-expr2 = c .before .before .before .before .before .before .before in
     let c-passed = c-add-or-sub-expr2 .before .before .before .before .before in
     let c-consume = c-passed .before .before in
@@ -219,13 +219,13 @@ compr-expr-returns-4 t c =
     stop 1 (λ x. levels x 3 (walkers x (start .args .depth) .unary)) _ p5 refl (omega arith) (c-add-or-sub-expr2 .add-or-sub-expr2 .ensures) (c .match3 .keys2))
 
 pub compr-expr-cast-push-node : (t : ℕ) → compr-expr-lts.Need-cast-push-node (compr-expr-calls t) (compr-expr-at t) compr-expr.Post compr-expr-Inv-loop compr-expr-μ-loop
-compr-expr-cast-push-node t c = 
+compr-expr-cast-push-node t c =
     let c-loop = c .before .before .before .before .before .before .before .before .before .before .before .before .before .before .before .before .before .before .before .before .before .before in
     omega (arith, (c-loop .loop .inv) .is .stands .here, (c-loop .loop .inv) .is .stands .toks .few)
 
 pub compr-expr-push-node-requires : (t : ℕ) → compr-expr-lts.Need-push-node-requires (compr-expr-calls t) (compr-expr-at t) compr-expr.Post compr-expr-Inv-loop compr-expr-μ-loop
 unfolding operators
-compr-expr-push-node-requires t c κs = 
+compr-expr-push-node-requires t c κs =
     let c-rhs = c .before .before .before in
     let c-add-or-sub-expr2 = c-rhs .before .before .before .before .before .before .before .before in
     let c-passed = c-add-or-sub-expr2 .before .before .before .before .before in
@@ -252,14 +252,14 @@ pub compr-expr-enum-known-made : (t : ℕ) → compr-expr-lts.Need-enum-known-ma
 compr-expr-enum-known-made t c = search needs
 
 pub compr-expr-same-length-13 : (t : ℕ) → compr-expr-lts.Need-same-length-13 (compr-expr-calls t) (compr-expr-at t) compr-expr.Post compr-expr-Inv-loop compr-expr-μ-loop
-compr-expr-same-length-13 t c = 
+compr-expr-same-length-13 t c =
     let c-add-or-sub-expr2 = c .before .before .before .before .before .before .before .before .before .before .before .before .before .before .before .before .before in
     let c-loop = c-add-or-sub-expr2 .before .before .before .before .before .before .before .before .before .before .before in
     let c-add-or-sub-expr = c-loop .before .before .before .before .before .before .before .before .before .before in
     c-add-or-sub-expr2 .add-or-sub-expr2 .kept .1 .1 .1 .0 ∙ c-loop .loop .inv .kept .symbols ∙ c-add-or-sub-expr .add-or-sub-expr .kept .1 .1 .1 .0
 
 pub compr-expr-same-length-14 : (t : ℕ) → compr-expr-lts.Need-same-length-14 (compr-expr-calls t) (compr-expr-at t) compr-expr.Post compr-expr-Inv-loop compr-expr-μ-loop
-compr-expr-same-length-14 t c = 
+compr-expr-same-length-14 t c =
     let c-push-node = c .before .before .before .before .before in
     let c-add-or-sub-expr2 = c-push-node .before .before .before .before .before .before .before .before .before .before .before .before in
     let c-loop = c-add-or-sub-expr2 .before .before .before .before .before .before .before .before .before .before .before in
@@ -267,7 +267,7 @@ compr-expr-same-length-14 t c =
     c-push-node .push-node .kept .0 ∙ c-add-or-sub-expr2 .add-or-sub-expr2 .kept .1 .1 .1 .1 .0 ∙ c-loop .loop .inv .kept .head ∙ c-add-or-sub-expr .add-or-sub-expr .kept .1 .1 .1 .1 .0
 
 pub compr-expr-same-length-15 : (t : ℕ) → compr-expr-lts.Need-same-length-15 (compr-expr-calls t) (compr-expr-at t) compr-expr.Post compr-expr-Inv-loop compr-expr-μ-loop
-compr-expr-same-length-15 t c = 
+compr-expr-same-length-15 t c =
     let c-push-node = c .before .before .before .before .before in
     let c-add-or-sub-expr2 = c-push-node .before .before .before .before .before .before .before .before .before .before .before .before in
     let c-loop = c-add-or-sub-expr2 .before .before .before .before .before .before .before .before .before .before .before in
@@ -276,7 +276,7 @@ compr-expr-same-length-15 t c =
 
 pub compr-expr-returns-5 : (t : ℕ) → compr-expr-lts.Need-returns-5 (compr-expr-calls t) (compr-expr-at t) compr-expr.Post compr-expr-Inv-loop compr-expr-μ-loop
 unfolding operators
-compr-expr-returns-5 t c = 
+compr-expr-returns-5 t c =
     let c-push-node = c .before .before .before .before .before in
     let c-rhs = c-push-node .before .before .before .before in
     let c-add-or-sub-expr2 = c-rhs .before .before .before .before .before .before .before .before in
@@ -300,7 +300,7 @@ compr-expr-returns-5 t c =
 
 pub compr-expr-loop-less : (t : ℕ) → compr-expr-lts.Need-loop-less (compr-expr-calls t) (compr-expr-at t) compr-expr.Post compr-expr-Inv-loop compr-expr-μ-loop
 unfolding operators
-compr-expr-loop-less t c = 
+compr-expr-loop-less t c =
     let c-made = c .before in
     let c-push-node = c-made .before .before .before .before .before .before in
     let c-rhs = c-push-node .before .before .before .before in
@@ -328,7 +328,7 @@ compr-expr-loop-less t c =
 
 pub compr-expr-loop-again : (t : ℕ) → compr-expr-lts.Need-loop-again (compr-expr-calls t) (compr-expr-at t) compr-expr.Post compr-expr-Inv-loop compr-expr-μ-loop
 unfolding operators
-compr-expr-loop-again t c = 
+compr-expr-loop-again t c =
     let c-made = c .before in
     let c-push-node = c-made .before .before .before .before .before .before in
     let c-rhs = c-push-node .before .before .before .before in

@@ -22,7 +22,7 @@ use Rattle.sifc_expr.proofs.Loops.{assign-step, unary-step, call-step, 
 use Rattle.sifc_expr.proofs.parser.+add_or_sub_expr+and_expr+assign_expr+call_suffix+compr_expr+dot_suffix+equality_expr+fn_call_expr+group_expr+index_suffix+mod_expr+mul_or_div_expr+or_expr+param_list+primary_expr+unary_expr.Proof.Base.{dot-suffix-at, dot-suffix-calls}
 
 pub dot-suffix-consume-requires : (t : ℕ) → dot-suffix-lts.Need-consume-requires (dot-suffix-calls t) (dot-suffix-at t) dot-suffix.Post
-dot-suffix-consume-requires t c κs = 
+dot-suffix-consume-requires t c κs =
     let start = c .before .before .before .before .before .before in
     start .pre .1 .stands
 
@@ -31,7 +31,7 @@ dot-suffix-enum-known-passed t c = search needs
 
 pub dot-suffix-returns : (t : ℕ) → dot-suffix-lts.Need-returns (dot-suffix-calls t) (dot-suffix-at t) dot-suffix.Post
 unfolding dot
-dot-suffix-returns t c = 
+dot-suffix-returns t c =
     let c-consume = c .before in
     let start = c-consume .before .before .before .before .before .before .before in
     gives (λ E e. let p0 = begin 0 (λ x. dot x (walkers x (start .args .depth)) (nodeOf (start .args .target)) (start .args .w .at)) E e (start .pre .1) in
@@ -42,7 +42,7 @@ dot-suffix-set-check-requires t c κs = search needs
 
 pub dot-suffix-assign-expr-requires : (t : ℕ) → dot-suffix-lts.Need-assign-expr-requires (dot-suffix-calls t) (dot-suffix-at t) dot-suffix.Post
 unfolding dot
-dot-suffix-assign-expr-requires t c κs = 
+dot-suffix-assign-expr-requires t c κs =
     let c-set-check = c .before .before .before in
     let c-passed = c-set-check .before .before in
     let c-consume = c-passed .before .before in
@@ -58,23 +58,23 @@ pub dot-suffix-enum-known-field : (t : ℕ) → dot-suffix-lts.Need-enum-known-f
 dot-suffix-enum-known-field t c = search needs
 
 pub dot-suffix-same-length : (t : ℕ) → dot-suffix-lts.Need-same-length (dot-suffix-calls t) (dot-suffix-at t) dot-suffix.Post
-dot-suffix-same-length t c = 
+dot-suffix-same-length t c =
     let c-assign-expr = c .before .before .before .before .before .before .before in
     c-assign-expr .assign-expr .kept .1 .1 .1 .0
 
 pub dot-suffix-same-length-2 : (t : ℕ) → dot-suffix-lts.Need-same-length-2 (dot-suffix-calls t) (dot-suffix-at t) dot-suffix.Post
-dot-suffix-same-length-2 t c = 
+dot-suffix-same-length-2 t c =
     let c-assign-expr = c .before .before .before .before .before .before .before in
     c-assign-expr .assign-expr .kept .1 .1 .1 .1 .0
 
 pub dot-suffix-same-length-3 : (t : ℕ) → dot-suffix-lts.Need-same-length-3 (dot-suffix-calls t) (dot-suffix-at t) dot-suffix.Post
-dot-suffix-same-length-3 t c = 
+dot-suffix-same-length-3 t c =
     let c-assign-expr = c .before .before .before .before .before .before .before in
     c-assign-expr .assign-expr .kept .1 .1 .1 .1 .1 .0
 
 pub dot-suffix-returns-2 : (t : ℕ) → dot-suffix-lts.Need-returns-2 (dot-suffix-calls t) (dot-suffix-at t) dot-suffix.Post
 unfolding dot
-dot-suffix-returns-2 t c = 
+dot-suffix-returns-2 t c =
     let c-assign-expr = c .before .before .before .before .before .before .before in
     let c-set-check = c-assign-expr .before .before .before .before in
     let c-passed = c-set-check .before .before in
@@ -90,7 +90,7 @@ dot-suffix-set-check-requires-2 t c κs = search needs
 
 pub dot-suffix-access-requires : (t : ℕ) → dot-suffix-lts.Need-access-requires (dot-suffix-calls t) (dot-suffix-at t) dot-suffix.Post
 unfolding dot
-dot-suffix-access-requires t c κs = 
+dot-suffix-access-requires t c κs =
     let c-set-check2 = c .before .before in
     let c-field = c-set-check2 .before .before in
     let c-assign-expr = c-field .before .before .before .before .before .before .before .before in
@@ -108,25 +108,25 @@ dot-suffix-access-requires t c κs =
     (omega (arith, start .pre .1 .stands .here, start .pre .1 .stands .toks .even), p4 .is .even, p4 .is .used)
 
 pub dot-suffix-same-length-4 : (t : ℕ) → dot-suffix-lts.Need-same-length-4 (dot-suffix-calls t) (dot-suffix-at t) dot-suffix.Post
-dot-suffix-same-length-4 t c = 
+dot-suffix-same-length-4 t c =
     let c-assign-expr = c .before .before .before .before .before .before .before .before .before .before .before .before .before .before .before .before .before in
     c-assign-expr .assign-expr .kept .1 .1 .1 .0
 
 pub dot-suffix-same-length-5 : (t : ℕ) → dot-suffix-lts.Need-same-length-5 (dot-suffix-calls t) (dot-suffix-at t) dot-suffix.Post
-dot-suffix-same-length-5 t c = 
+dot-suffix-same-length-5 t c =
     let c-access = c .before .before .before .before in
     let c-assign-expr = c-access .before .before .before .before .before .before .before .before .before .before .before .before .before in
     c-access .access .kept .1 .0 ∙ c-assign-expr .assign-expr .kept .1 .1 .1 .1 .0
 
 pub dot-suffix-same-length-6 : (t : ℕ) → dot-suffix-lts.Need-same-length-6 (dot-suffix-calls t) (dot-suffix-at t) dot-suffix.Post
-dot-suffix-same-length-6 t c = 
+dot-suffix-same-length-6 t c =
     let c-access = c .before .before .before .before in
     let c-assign-expr = c-access .before .before .before .before .before .before .before .before .before .before .before .before .before in
     c-access .access .kept .1 .1 .0 ∙ c-assign-expr .assign-expr .kept .1 .1 .1 .1 .1 .0
 
 pub dot-suffix-returns-3 : (t : ℕ) → dot-suffix-lts.Need-returns-3 (dot-suffix-calls t) (dot-suffix-at t) dot-suffix.Post
 unfolding dot
-dot-suffix-returns-3 t c = 
+dot-suffix-returns-3 t c =
     let c-access = c .before .before .before .before in
     let c-set-check2 = c-access .before .before .before in
     let c-field = c-set-check2 .before .before in

@@ -28,7 +28,7 @@ abbrev pub equality-expr-μ-loop : equality-expr-lts.MeasureT-loop
 equality-expr-μ-loop script offs words symbols₀ head₀ load₀ lim depth x₀ symbols head load x = length words - x .at
 
 pub equality-expr-compr-expr-requires : (t : ℕ) → equality-expr-lts.Need-compr-expr-requires (equality-expr-calls t) (equality-expr-at t) equality-expr.Post equality-expr-Inv-loop equality-expr-μ-loop
-equality-expr-compr-expr-requires t c κs = 
+equality-expr-compr-expr-requires t c κs =
     let start = c .before .before .before .before .before .before .before .before .before in
     (omega (arith, start .pre .0), start .pre .1)
 
@@ -36,29 +36,29 @@ pub equality-expr-enum-known-lhs : (t : ℕ) → equality-expr-lts.Need-enum-kno
 equality-expr-enum-known-lhs t c = search needs
 
 pub equality-expr-same-length : (t : ℕ) → equality-expr-lts.Need-same-length (equality-expr-calls t) (equality-expr-at t) equality-expr.Post equality-expr-Inv-loop equality-expr-μ-loop
-equality-expr-same-length t c = 
+equality-expr-same-length t c =
     let c-compr-expr = c .before .before .before .before .before .before .before in
     c-compr-expr .compr-expr .kept .1 .1 .1 .0
 
 pub equality-expr-same-length-2 : (t : ℕ) → equality-expr-lts.Need-same-length-2 (equality-expr-calls t) (equality-expr-at t) equality-expr.Post equality-expr-Inv-loop equality-expr-μ-loop
-equality-expr-same-length-2 t c = 
+equality-expr-same-length-2 t c =
     let c-compr-expr = c .before .before .before .before .before .before .before in
     c-compr-expr .compr-expr .kept .1 .1 .1 .1 .0
 
 pub equality-expr-same-length-3 : (t : ℕ) → equality-expr-lts.Need-same-length-3 (equality-expr-calls t) (equality-expr-at t) equality-expr.Post equality-expr-Inv-loop equality-expr-μ-loop
-equality-expr-same-length-3 t c = 
+equality-expr-same-length-3 t c =
     let c-compr-expr = c .before .before .before .before .before .before .before in
     c-compr-expr .compr-expr .kept .1 .1 .1 .1 .1 .0
 
 pub equality-expr-returns : (t : ℕ) → equality-expr-lts.Need-returns (equality-expr-calls t) (equality-expr-at t) equality-expr.Post equality-expr-Inv-loop equality-expr-μ-loop
-equality-expr-returns t c = 
+equality-expr-returns t c =
     let c-compr-expr = c .before .before .before .before .before .before .before in
     let start = c-compr-expr .before .before .before .before .before .before .before .before .before .before in
     gives (λ E e. let p0 = by (begin 1 (λ x. levels x 5 (walkers x (start .args .depth) .unary)) E e (start .pre .1)) (level-step _ 4 _ _) in
     stop 1 (λ x. levels x 4 (walkers x (start .args .depth) .unary)) _ p0 refl (omega arith) (c-compr-expr .compr-expr .ensures) (c .match .keys2))
 
 pub equality-expr-loop-holds : (t : ℕ) → equality-expr-lts.Need-loop-holds (equality-expr-calls t) (equality-expr-at t) equality-expr.Post equality-expr-Inv-loop equality-expr-μ-loop
-equality-expr-loop-holds t c = 
+equality-expr-loop-holds t c =
     let c-lhs = c .before in
     let c-compr-expr = c-lhs .before .before .before .before .before .before .before .before in
     let start = c-compr-expr .before .before .before .before .before .before .before .before .before .before in
@@ -75,26 +75,26 @@ pub equality-expr-looseness-requires : (t : ℕ) → equality-expr-lts.Need-loos
 equality-expr-looseness-requires t c κs = search needs
 
 pub equality-expr-same-length-4 : (t : ℕ) → equality-expr-lts.Need-same-length-4 (equality-expr-calls t) (equality-expr-at t) equality-expr.Post equality-expr-Inv-loop equality-expr-μ-loop
-equality-expr-same-length-4 t c = 
+equality-expr-same-length-4 t c =
     let c-loop = c .before .before .before in
     let c-compr-expr = c-loop .before .before .before .before .before .before .before .before .before .before in
     c-loop .loop .inv .kept .symbols ∙ c-compr-expr .compr-expr .kept .1 .1 .1 .0
 
 pub equality-expr-same-length-5 : (t : ℕ) → equality-expr-lts.Need-same-length-5 (equality-expr-calls t) (equality-expr-at t) equality-expr.Post equality-expr-Inv-loop equality-expr-μ-loop
-equality-expr-same-length-5 t c = 
+equality-expr-same-length-5 t c =
     let c-loop = c .before .before .before in
     let c-compr-expr = c-loop .before .before .before .before .before .before .before .before .before .before in
     c-loop .loop .inv .kept .head ∙ c-compr-expr .compr-expr .kept .1 .1 .1 .1 .0
 
 pub equality-expr-same-length-6 : (t : ℕ) → equality-expr-lts.Need-same-length-6 (equality-expr-calls t) (equality-expr-at t) equality-expr.Post equality-expr-Inv-loop equality-expr-μ-loop
-equality-expr-same-length-6 t c = 
+equality-expr-same-length-6 t c =
     let c-loop = c .before .before .before in
     let c-compr-expr = c-loop .before .before .before .before .before .before .before .before .before .before in
     c-loop .loop .inv .kept .load ∙ c-compr-expr .compr-expr .kept .1 .1 .1 .1 .1 .0
 
 pub equality-expr-returns-2 : (t : ℕ) → equality-expr-lts.Need-returns-2 (equality-expr-calls t) (equality-expr-at t) equality-expr.Post equality-expr-Inv-loop equality-expr-μ-loop
 unfolding operators
-equality-expr-returns-2 t c = 
+equality-expr-returns-2 t c =
     let c-looseness = c .before in
     let c-kind-at = c-looseness .before in
     let c-loop = c-kind-at .before in
@@ -108,7 +108,7 @@ equality-expr-returns-2 t c =
     fin (no _ _ p3 (test (λ k. eqb (looseness k) 5) p3 (ne-eqb _ _ (λ z. c .if1 .taken (c-looseness .looseness .ensures ∙ ap looseness (c-kind-at .kind-at .ensures) ∙ z))))))
 
 pub equality-expr-consume-requires : (t : ℕ) → equality-expr-lts.Need-consume-requires (equality-expr-calls t) (equality-expr-at t) equality-expr.Post equality-expr-Inv-loop equality-expr-μ-loop
-equality-expr-consume-requires t c κs = 
+equality-expr-consume-requires t c κs =
     let c-loop = c .before .before .before in
     (c-loop .loop .inv) .is .stands
 
@@ -116,26 +116,26 @@ pub equality-expr-enum-known-passed : (t : ℕ) → equality-expr-lts.Need-enum-
 equality-expr-enum-known-passed t c = search needs
 
 pub equality-expr-same-length-7 : (t : ℕ) → equality-expr-lts.Need-same-length-7 (equality-expr-calls t) (equality-expr-at t) equality-expr.Post equality-expr-Inv-loop equality-expr-μ-loop
-equality-expr-same-length-7 t c = 
+equality-expr-same-length-7 t c =
     let c-loop = c .before .before .before .before .before in
     let c-compr-expr = c-loop .before .before .before .before .before .before .before .before .before .before in
     c-loop .loop .inv .kept .symbols ∙ c-compr-expr .compr-expr .kept .1 .1 .1 .0
 
 pub equality-expr-same-length-8 : (t : ℕ) → equality-expr-lts.Need-same-length-8 (equality-expr-calls t) (equality-expr-at t) equality-expr.Post equality-expr-Inv-loop equality-expr-μ-loop
-equality-expr-same-length-8 t c = 
+equality-expr-same-length-8 t c =
     let c-loop = c .before .before .before .before .before in
     let c-compr-expr = c-loop .before .before .before .before .before .before .before .before .before .before in
     c-loop .loop .inv .kept .head ∙ c-compr-expr .compr-expr .kept .1 .1 .1 .1 .0
 
 pub equality-expr-same-length-9 : (t : ℕ) → equality-expr-lts.Need-same-length-9 (equality-expr-calls t) (equality-expr-at t) equality-expr.Post equality-expr-Inv-loop equality-expr-μ-loop
-equality-expr-same-length-9 t c = 
+equality-expr-same-length-9 t c =
     let c-loop = c .before .before .before .before .before in
     let c-compr-expr = c-loop .before .before .before .before .before .before .before .before .before .before in
     c-loop .loop .inv .kept .load ∙ c-compr-expr .compr-expr .kept .1 .1 .1 .1 .1 .0
 
 pub equality-expr-returns-3 : (t : ℕ) → equality-expr-lts.Need-returns-3 (equality-expr-calls t) (equality-expr-at t) equality-expr.Post equality-expr-Inv-loop equality-expr-μ-loop
 unfolding operators
-equality-expr-returns-3 t c = 
+equality-expr-returns-3 t c =
     let c-consume = c .before in
     let c-if1 = c-consume .before in
     let c-looseness = c-if1 .before in
@@ -153,7 +153,7 @@ equality-expr-returns-3 t c =
 
 pub equality-expr-compr-expr-requires-2 : (t : ℕ) → equality-expr-lts.Need-compr-expr-requires-2 (equality-expr-calls t) (equality-expr-at t) equality-expr.Post equality-expr-Inv-loop equality-expr-μ-loop
 unfolding operators
-equality-expr-compr-expr-requires-2 t c κs = 
+equality-expr-compr-expr-requires-2 t c κs =
     let c-passed = c .before .before .before .before in
     let c-consume = c-passed .before .before in
     let c-if1 = c-consume .before in
@@ -177,21 +177,21 @@ pub equality-expr-enum-known-rhs : (t : ℕ) → equality-expr-lts.Need-enum-kno
 equality-expr-enum-known-rhs t c = search needs
 
 pub equality-expr-same-length-10 : (t : ℕ) → equality-expr-lts.Need-same-length-10 (equality-expr-calls t) (equality-expr-at t) equality-expr.Post equality-expr-Inv-loop equality-expr-μ-loop
-equality-expr-same-length-10 t c = 
+equality-expr-same-length-10 t c =
     let c-compr-expr2 = c .before .before .before .before .before .before .before in
     let c-loop = c-compr-expr2 .before .before .before .before .before .before .before .before .before .before .before in
     let c-compr-expr = c-loop .before .before .before .before .before .before .before .before .before .before in
     c-compr-expr2 .compr-expr2 .kept .1 .1 .1 .0 ∙ c-loop .loop .inv .kept .symbols ∙ c-compr-expr .compr-expr .kept .1 .1 .1 .0
 
 pub equality-expr-same-length-11 : (t : ℕ) → equality-expr-lts.Need-same-length-11 (equality-expr-calls t) (equality-expr-at t) equality-expr.Post equality-expr-Inv-loop equality-expr-μ-loop
-equality-expr-same-length-11 t c = 
+equality-expr-same-length-11 t c =
     let c-compr-expr2 = c .before .before .before .before .before .before .before in
     let c-loop = c-compr-expr2 .before .before .before .before .before .before .before .before .before .before .before in
     let c-compr-expr = c-loop .before .before .before .before .before .before .before .before .before .before in
     c-compr-expr2 .compr-expr2 .kept .1 .1 .1 .1 .0 ∙ c-loop .loop .inv .kept .head ∙ c-compr-expr .compr-expr .kept .1 .1 .1 .1 .0
 
 pub equality-expr-same-length-12 : (t : ℕ) → equality-expr-lts.Need-same-length-12 (equality-expr-calls t) (equality-expr-at t) equality-expr.Post equality-expr-Inv-loop equality-expr-μ-loop
-equality-expr-same-length-12 t c = 
+equality-expr-same-length-12 t c =
     let c-compr-expr2 = c .before .before .before .before .before .before .before in
     let c-loop = c-compr-expr2 .before .before .before .before .before .before .before .before .before .before .before in
     let c-compr-expr = c-loop .before .before .before .before .before .before .before .before .before .before in
@@ -199,7 +199,7 @@ equality-expr-same-length-12 t c =
 
 pub equality-expr-returns-4 : (t : ℕ) → equality-expr-lts.Need-returns-4 (equality-expr-calls t) (equality-expr-at t) equality-expr.Post equality-expr-Inv-loop equality-expr-μ-loop
 unfolding operators
-equality-expr-returns-4 t c = 
+equality-expr-returns-4 t c =
     let c-compr-expr2 = c .before .before .before .before .before .before .before in
     let c-passed = c-compr-expr2 .before .before .before .before .before in
     let c-consume = c-passed .before .before in
@@ -219,13 +219,13 @@ equality-expr-returns-4 t c =
     stop 1 (λ x. levels x 4 (walkers x (start .args .depth) .unary)) _ p5 refl (omega arith) (c-compr-expr2 .compr-expr2 .ensures) (c .match3 .keys2))
 
 pub equality-expr-cast-push-node : (t : ℕ) → equality-expr-lts.Need-cast-push-node (equality-expr-calls t) (equality-expr-at t) equality-expr.Post equality-expr-Inv-loop equality-expr-μ-loop
-equality-expr-cast-push-node t c = 
+equality-expr-cast-push-node t c =
     let c-loop = c .before .before .before .before .before .before .before .before .before .before .before .before .before .before .before .before .before .before .before .before .before .before in
     omega (arith, (c-loop .loop .inv) .is .stands .here, (c-loop .loop .inv) .is .stands .toks .few)
 
 pub equality-expr-push-node-requires : (t : ℕ) → equality-expr-lts.Need-push-node-requires (equality-expr-calls t) (equality-expr-at t) equality-expr.Post equality-expr-Inv-loop equality-expr-μ-loop
 unfolding operators
-equality-expr-push-node-requires t c κs = 
+equality-expr-push-node-requires t c κs =
     let c-rhs = c .before .before .before in
     let c-compr-expr2 = c-rhs .before .before .before .before .before .before .before .before in
     let c-passed = c-compr-expr2 .before .before .before .before .before in
@@ -252,14 +252,14 @@ pub equality-expr-enum-known-made : (t : ℕ) → equality-expr-lts.Need-enum-kn
 equality-expr-enum-known-made t c = search needs
 
 pub equality-expr-same-length-13 : (t : ℕ) → equality-expr-lts.Need-same-length-13 (equality-expr-calls t) (equality-expr-at t) equality-expr.Post equality-expr-Inv-loop equality-expr-μ-loop
-equality-expr-same-length-13 t c = 
+equality-expr-same-length-13 t c =
     let c-compr-expr2 = c .before .before .before .before .before .before .before .before .before .before .before .before .before .before .before .before .before in
     let c-loop = c-compr-expr2 .before .before .before .before .before .before .before .before .before .before .before in
     let c-compr-expr = c-loop .before .before .before .before .before .before .before .before .before .before in
     c-compr-expr2 .compr-expr2 .kept .1 .1 .1 .0 ∙ c-loop .loop .inv .kept .symbols ∙ c-compr-expr .compr-expr .kept .1 .1 .1 .0
 
 pub equality-expr-same-length-14 : (t : ℕ) → equality-expr-lts.Need-same-length-14 (equality-expr-calls t) (equality-expr-at t) equality-expr.Post equality-expr-Inv-loop equality-expr-μ-loop
-equality-expr-same-length-14 t c = 
+equality-expr-same-length-14 t c =
     let c-push-node = c .before .before .before .before .before in
     let c-compr-expr2 = c-push-node .before .before .before .before .before .before .before .before .before .before .before .before in
     let c-loop = c-compr-expr2 .before .before .before .before .before .before .before .before .before .before .before in
@@ -267,7 +267,7 @@ equality-expr-same-length-14 t c =
     c-push-node .push-node .kept .0 ∙ c-compr-expr2 .compr-expr2 .kept .1 .1 .1 .1 .0 ∙ c-loop .loop .inv .kept .head ∙ c-compr-expr .compr-expr .kept .1 .1 .1 .1 .0
 
 pub equality-expr-same-length-15 : (t : ℕ) → equality-expr-lts.Need-same-length-15 (equality-expr-calls t) (equality-expr-at t) equality-expr.Post equality-expr-Inv-loop equality-expr-μ-loop
-equality-expr-same-length-15 t c = 
+equality-expr-same-length-15 t c =
     let c-push-node = c .before .before .before .before .before in
     let c-compr-expr2 = c-push-node .before .before .before .before .before .before .before .before .before .before .before .before in
     let c-loop = c-compr-expr2 .before .before .before .before .before .before .before .before .before .before .before in
@@ -276,7 +276,7 @@ equality-expr-same-length-15 t c =
 
 pub equality-expr-returns-5 : (t : ℕ) → equality-expr-lts.Need-returns-5 (equality-expr-calls t) (equality-expr-at t) equality-expr.Post equality-expr-Inv-loop equality-expr-μ-loop
 unfolding operators
-equality-expr-returns-5 t c = 
+equality-expr-returns-5 t c =
     let c-push-node = c .before .before .before .before .before in
     let c-rhs = c-push-node .before .before .before .before in
     let c-compr-expr2 = c-rhs .before .before .before .before .before .before .before .before in
@@ -300,7 +300,7 @@ equality-expr-returns-5 t c =
 
 pub equality-expr-loop-less : (t : ℕ) → equality-expr-lts.Need-loop-less (equality-expr-calls t) (equality-expr-at t) equality-expr.Post equality-expr-Inv-loop equality-expr-μ-loop
 unfolding operators
-equality-expr-loop-less t c = 
+equality-expr-loop-less t c =
     let c-made = c .before in
     let c-push-node = c-made .before .before .before .before .before .before in
     let c-rhs = c-push-node .before .before .before .before in
@@ -328,7 +328,7 @@ equality-expr-loop-less t c =
 
 pub equality-expr-loop-again : (t : ℕ) → equality-expr-lts.Need-loop-again (equality-expr-calls t) (equality-expr-at t) equality-expr.Post equality-expr-Inv-loop equality-expr-μ-loop
 unfolding operators
-equality-expr-loop-again t c = 
+equality-expr-loop-again t c =
     let c-made = c .before in
     let c-push-node = c-made .before .before .before .before .before .before in
     let c-rhs = c-push-node .before .before .before .before in

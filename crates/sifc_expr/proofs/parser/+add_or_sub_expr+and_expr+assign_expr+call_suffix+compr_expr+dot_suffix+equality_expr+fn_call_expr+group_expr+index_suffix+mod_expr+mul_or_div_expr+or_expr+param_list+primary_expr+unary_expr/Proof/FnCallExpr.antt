@@ -28,7 +28,7 @@ pub fn-call-expr-sub-below : (t : ℕ) → fn-call-expr-lts.Need-sub-below (fn-c
 fn-call-expr-sub-below t c = omega (arith, c .if1 .left)
 
 pub fn-call-expr-primary-expr-requires : (t : ℕ) → fn-call-expr-lts.Need-primary-expr-requires (fn-call-expr-calls t) (fn-call-expr-at t) fn-call-expr.Post
-fn-call-expr-primary-expr-requires t c κs = 
+fn-call-expr-primary-expr-requires t c κs =
     let c-if1 = c .before .before .before in
     let start = c-if1 .before .before .before .before .before .before .before in
     (omega (arith, start .pre .0, c-if1 .if1 .left), start .pre .1)
@@ -37,23 +37,23 @@ pub fn-call-expr-enum-known-first : (t : ℕ) → fn-call-expr-lts.Need-enum-kno
 fn-call-expr-enum-known-first t c = search needs
 
 pub fn-call-expr-same-length : (t : ℕ) → fn-call-expr-lts.Need-same-length (fn-call-expr-calls t) (fn-call-expr-at t) fn-call-expr.Post
-fn-call-expr-same-length t c = 
+fn-call-expr-same-length t c =
     let c-primary-expr = c .before .before .before .before .before .before .before in
     c-primary-expr .primary-expr .kept .1 .1 .1 .0
 
 pub fn-call-expr-same-length-2 : (t : ℕ) → fn-call-expr-lts.Need-same-length-2 (fn-call-expr-calls t) (fn-call-expr-at t) fn-call-expr.Post
-fn-call-expr-same-length-2 t c = 
+fn-call-expr-same-length-2 t c =
     let c-primary-expr = c .before .before .before .before .before .before .before in
     c-primary-expr .primary-expr .kept .1 .1 .1 .1 .0
 
 pub fn-call-expr-same-length-3 : (t : ℕ) → fn-call-expr-lts.Need-same-length-3 (fn-call-expr-calls t) (fn-call-expr-at t) fn-call-expr.Post
-fn-call-expr-same-length-3 t c = 
+fn-call-expr-same-length-3 t c =
     let c-primary-expr = c .before .before .before .before .before .before .before in
     c-primary-expr .primary-expr .kept .1 .1 .1 .1 .1 .0
 
 pub fn-call-expr-returns-2 : (t : ℕ) → fn-call-expr-lts.Need-returns-2 (fn-call-expr-calls t) (fn-call-expr-at t) fn-call-expr.Post
 unfolding fnCallExpr
-fn-call-expr-returns-2 t c = 
+fn-call-expr-returns-2 t c =
     let c-primary-expr = c .before .before .before .before .before .before .before in
     let c-if1 = c-primary-expr .before .before .before .before in
     let start = c-if1 .before .before .before .before .before .before .before in
@@ -62,7 +62,7 @@ fn-call-expr-returns-2 t c =
 
 pub fn-call-expr-top-requires : (t : ℕ) → fn-call-expr-lts.Need-top-requires (fn-call-expr-calls t) (fn-call-expr-at t) fn-call-expr.Post
 unfolding fnCallExpr
-fn-call-expr-top-requires t c κs = 
+fn-call-expr-top-requires t c κs =
     let c-first = c .before .before .before in
     let c-primary-expr = c-first .before .before .before .before .before .before .before .before in
     let c-if1 = c-primary-expr .before .before .before .before in
@@ -75,7 +75,7 @@ fn-call-expr-top-requires t c κs =
 
 pub fn-call-expr-kind-at-requires : (t : ℕ) → fn-call-expr-lts.Need-kind-at-requires (fn-call-expr-calls t) (fn-call-expr-at t) fn-call-expr.Post
 unfolding fnCallExpr
-fn-call-expr-kind-at-requires t c κs = 
+fn-call-expr-kind-at-requires t c κs =
     let c-first = c .before .before .before .before in
     let c-primary-expr = c-first .before .before .before .before .before .before .before .before in
     let c-if1 = c-primary-expr .before .before .before .before in
@@ -88,7 +88,7 @@ fn-call-expr-kind-at-requires t c κs =
 
 pub fn-call-expr-call-suffix-requires : (t : ℕ) → fn-call-expr-lts.Need-call-suffix-requires (fn-call-expr-calls t) (fn-call-expr-at t) fn-call-expr.Post
 unfolding fnCallExpr
-fn-call-expr-call-suffix-requires t c κs = 
+fn-call-expr-call-suffix-requires t c κs =
     let c-first = c .before .before .before .before .before .before .before .before .before in
     let c-primary-expr = c-first .before .before .before .before .before .before .before .before in
     let c-if1 = c-primary-expr .before .before .before .before in
@@ -100,26 +100,26 @@ fn-call-expr-call-suffix-requires t c κs =
     (omega (arith, start .pre .0, c-if1 .if1 .left), p1 .is)
 
 pub fn-call-expr-same-length-4 : (t : ℕ) → fn-call-expr-lts.Need-same-length-4 (fn-call-expr-calls t) (fn-call-expr-at t) fn-call-expr.Post
-fn-call-expr-same-length-4 t c = 
+fn-call-expr-same-length-4 t c =
     let c-call-suffix = c .before .before .before .before .before .before in
     let c-primary-expr = c-call-suffix .before .before .before .before .before .before .before .before .before .before .before .before .before .before .before .before .before .before in
     c-call-suffix .call-suffix .kept .1 .1 .1 .0 ∙ c-primary-expr .primary-expr .kept .1 .1 .1 .0
 
 pub fn-call-expr-same-length-5 : (t : ℕ) → fn-call-expr-lts.Need-same-length-5 (fn-call-expr-calls t) (fn-call-expr-at t) fn-call-expr.Post
-fn-call-expr-same-length-5 t c = 
+fn-call-expr-same-length-5 t c =
     let c-call-suffix = c .before .before .before .before .before .before in
     let c-primary-expr = c-call-suffix .before .before .before .before .before .before .before .before .before .before .before .before .before .before .before .before .before .before in
     c-call-suffix .call-suffix .kept .1 .1 .1 .1 .0 ∙ c-primary-expr .primary-expr .kept .1 .1 .1 .1 .0
 
 pub fn-call-expr-same-length-6 : (t : ℕ) → fn-call-expr-lts.Need-same-length-6 (fn-call-expr-calls t) (fn-call-expr-at t) fn-call-expr.Post
-fn-call-expr-same-length-6 t c = 
+fn-call-expr-same-length-6 t c =
     let c-call-suffix = c .before .before .before .before .before .before in
     let c-primary-expr = c-call-suffix .before .before .before .before .before .before .before .before .before .before .before .before .before .before .before .before .before .before in
     c-call-suffix .call-suffix .kept .1 .1 .1 .1 .1 .0 ∙ c-primary-expr .primary-expr .kept .1 .1 .1 .1 .1 .0
 
 pub fn-call-expr-returns-3 : (t : ℕ) → fn-call-expr-lts.Need-returns-3 (fn-call-expr-calls t) (fn-call-expr-at t) fn-call-expr.Post
 unfolding fnCallExpr postfix
-fn-call-expr-returns-3 t c = 
+fn-call-expr-returns-3 t c =
     let c-call-suffix = c .before .before .before .before .before .before in
     let c-if2 = c-call-suffix .before .before .before .before in
     let c-kind-at = c-if2 .before in
@@ -135,7 +135,7 @@ fn-call-expr-returns-3 t c =
 
 pub fn-call-expr-dot-suffix-requires : (t : ℕ) → fn-call-expr-lts.Need-dot-suffix-requires (fn-call-expr-calls t) (fn-call-expr-at t) fn-call-expr.Post
 unfolding fnCallExpr
-fn-call-expr-dot-suffix-requires t c κs = 
+fn-call-expr-dot-suffix-requires t c κs =
     let c-first = c .before .before .before .before .before .before .before .before .before .before in
     let c-primary-expr = c-first .before .before .before .before .before .before .before .before in
     let c-if1 = c-primary-expr .before .before .before .before in
@@ -147,26 +147,26 @@ fn-call-expr-dot-suffix-requires t c κs =
     (omega (arith, start .pre .0, c-if1 .if1 .left), p1 .is)
 
 pub fn-call-expr-same-length-7 : (t : ℕ) → fn-call-expr-lts.Need-same-length-7 (fn-call-expr-calls t) (fn-call-expr-at t) fn-call-expr.Post
-fn-call-expr-same-length-7 t c = 
+fn-call-expr-same-length-7 t c =
     let c-dot-suffix = c .before .before .before .before .before .before in
     let c-primary-expr = c-dot-suffix .before .before .before .before .before .before .before .before .before .before .before .before .before .before .before .before .before .before .before in
     c-dot-suffix .dot-suffix .kept .1 .1 .1 .0 ∙ c-primary-expr .primary-expr .kept .1 .1 .1 .0
 
 pub fn-call-expr-same-length-8 : (t : ℕ) → fn-call-expr-lts.Need-same-length-8 (fn-call-expr-calls t) (fn-call-expr-at t) fn-call-expr.Post
-fn-call-expr-same-length-8 t c = 
+fn-call-expr-same-length-8 t c =
     let c-dot-suffix = c .before .before .before .before .before .before in
     let c-primary-expr = c-dot-suffix .before .before .before .before .before .before .before .before .before .before .before .before .before .before .before .before .before .before .before in
     c-dot-suffix .dot-suffix .kept .1 .1 .1 .1 .0 ∙ c-primary-expr .primary-expr .kept .1 .1 .1 .1 .0
 
 pub fn-call-expr-same-length-9 : (t : ℕ) → fn-call-expr-lts.Need-same-length-9 (fn-call-expr-calls t) (fn-call-expr-at t) fn-call-expr.Post
-fn-call-expr-same-length-9 t c = 
+fn-call-expr-same-length-9 t c =
     let c-dot-suffix = c .before .before .before .before .before .before in
     let c-primary-expr = c-dot-suffix .before .before .before .before .before .before .before .before .before .before .before .before .before .before .before .before .before .before .before in
     c-dot-suffix .dot-suffix .kept .1 .1 .1 .1 .1 .0 ∙ c-primary-expr .primary-expr .kept .1 .1 .1 .1 .1 .0
 
 pub fn-call-expr-returns-4 : (t : ℕ) → fn-call-expr-lts.Need-returns-4 (fn-call-expr-calls t) (fn-call-expr-at t) fn-call-expr.Post
 unfolding fnCallExpr postfix
-fn-call-expr-returns-4 t c = 
+fn-call-expr-returns-4 t c =
     let c-dot-suffix = c .before .before .before .before .before .before in
     let c-if3 = c-dot-suffix .before .before .before .before in
     let c-if2 = c-if3 .before in
@@ -184,7 +184,7 @@ fn-call-expr-returns-4 t c =
 
 pub fn-call-expr-index-suffix-requires : (t : ℕ) → fn-call-expr-lts.Need-index-suffix-requires (fn-call-expr-calls t) (fn-call-expr-at t) fn-call-expr.Post
 unfolding fnCallExpr
-fn-call-expr-index-suffix-requires t c κs = 
+fn-call-expr-index-suffix-requires t c κs =
     let c-first = c .before .before .before .before .before .before .before .before .before .before .before in
     let c-primary-expr = c-first .before .before .before .before .before .before .before .before in
     let c-if1 = c-primary-expr .before .before .before .before in
@@ -196,26 +196,26 @@ fn-call-expr-index-suffix-requires t c κs =
     (omega (arith, start .pre .0, c-if1 .if1 .left), p1 .is)
 
 pub fn-call-expr-same-length-10 : (t : ℕ) → fn-call-expr-lts.Need-same-length-10 (fn-call-expr-calls t) (fn-call-expr-at t) fn-call-expr.Post
-fn-call-expr-same-length-10 t c = 
+fn-call-expr-same-length-10 t c =
     let c-index-suffix = c .before .before .before .before .before .before in
     let c-primary-expr = c-index-suffix .before .before .before .before .before .before .before .before .before .before .before .before .before .before .before .before .before .before .before .before in
     c-index-suffix .index-suffix .kept .1 .1 .1 .0 ∙ c-primary-expr .primary-expr .kept .1 .1 .1 .0
 
 pub fn-call-expr-same-length-11 : (t : ℕ) → fn-call-expr-lts.Need-same-length-11 (fn-call-expr-calls t) (fn-call-expr-at t) fn-call-expr.Post
-fn-call-expr-same-length-11 t c = 
+fn-call-expr-same-length-11 t c =
     let c-index-suffix = c .before .before .before .before .before .before in
     let c-primary-expr = c-index-suffix .before .before .before .before .before .before .before .before .before .before .before .before .before .before .before .before .before .before .before .before in
     c-index-suffix .index-suffix .kept .1 .1 .1 .1 .0 ∙ c-primary-expr .primary-expr .kept .1 .1 .1 .1 .0
 
 pub fn-call-expr-same-length-12 : (t : ℕ) → fn-call-expr-lts.Need-same-length-12 (fn-call-expr-calls t) (fn-call-expr-at t) fn-call-expr.Post
-fn-call-expr-same-length-12 t c = 
+fn-call-expr-same-length-12 t c =
     let c-index-suffix = c .before .before .before .before .before .before in
     let c-primary-expr = c-index-suffix .before .before .before .before .before .before .before .before .before .before .before .before .before .before .before .before .before .before .before .before in
     c-index-suffix .index-suffix .kept .1 .1 .1 .1 .1 .0 ∙ c-primary-expr .primary-expr .kept .1 .1 .1 .1 .1 .0
 
 pub fn-call-expr-returns-5 : (t : ℕ) → fn-call-expr-lts.Need-returns-5 (fn-call-expr-calls t) (fn-call-expr-at t) fn-call-expr.Post
 unfolding fnCallExpr postfix
-fn-call-expr-returns-5 t c = 
+fn-call-expr-returns-5 t c =
     let c-index-suffix = c .before .before .before .before .before .before in
     let c-if4 = c-index-suffix .before .before .before .before in
     let c-if3 = c-if4 .before in
@@ -234,23 +234,23 @@ fn-call-expr-returns-5 t c =
     last 0 (λ x. index x (walkers x (start .args .depth - 1)) (nodeOf (c-top .top .result)) ((c-first .first .given .0 .0) .at)) (yes _ _ n2 (test (λ k. eqb k 5) n2 (eq-eqb _ _ (sym (c-kind-at .kind-at .ensures) ∙ c-if4 .if4 .taken)))) refl (omega arith) (c-index-suffix .index-suffix .ensures))
 
 pub fn-call-expr-same-length-13 : (t : ℕ) → fn-call-expr-lts.Need-same-length-13 (fn-call-expr-calls t) (fn-call-expr-at t) fn-call-expr.Post
-fn-call-expr-same-length-13 t c = 
+fn-call-expr-same-length-13 t c =
     let c-primary-expr = c .before .before .before .before .before .before .before .before .before .before .before .before .before .before .before .before in
     c-primary-expr .primary-expr .kept .1 .1 .1 .0
 
 pub fn-call-expr-same-length-14 : (t : ℕ) → fn-call-expr-lts.Need-same-length-14 (fn-call-expr-calls t) (fn-call-expr-at t) fn-call-expr.Post
-fn-call-expr-same-length-14 t c = 
+fn-call-expr-same-length-14 t c =
     let c-primary-expr = c .before .before .before .before .before .before .before .before .before .before .before .before .before .before .before .before in
     c-primary-expr .primary-expr .kept .1 .1 .1 .1 .0
 
 pub fn-call-expr-same-length-15 : (t : ℕ) → fn-call-expr-lts.Need-same-length-15 (fn-call-expr-calls t) (fn-call-expr-at t) fn-call-expr.Post
-fn-call-expr-same-length-15 t c = 
+fn-call-expr-same-length-15 t c =
     let c-primary-expr = c .before .before .before .before .before .before .before .before .before .before .before .before .before .before .before .before in
     c-primary-expr .primary-expr .kept .1 .1 .1 .1 .1 .0
 
 pub fn-call-expr-returns-6 : (t : ℕ) → fn-call-expr-lts.Need-returns-6 (fn-call-expr-calls t) (fn-call-expr-at t) fn-call-expr.Post
 unfolding fnCallExpr postfix
-fn-call-expr-returns-6 t c = 
+fn-call-expr-returns-6 t c =
     let c-if3 = c .before in
     let c-if2 = c-if3 .before in
     let c-kind-at = c-if2 .before in

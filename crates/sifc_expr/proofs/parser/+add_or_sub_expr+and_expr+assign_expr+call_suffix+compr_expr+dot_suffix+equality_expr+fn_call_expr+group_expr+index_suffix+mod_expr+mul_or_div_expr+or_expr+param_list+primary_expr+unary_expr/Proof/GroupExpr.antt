@@ -22,7 +22,7 @@ use Rattle.sifc_expr.proofs.Loops.{assign-step, unary-step, call-step, 
 use Rattle.sifc_expr.proofs.parser.+add_or_sub_expr+and_expr+assign_expr+call_suffix+compr_expr+dot_suffix+equality_expr+fn_call_expr+group_expr+index_suffix+mod_expr+mul_or_div_expr+or_expr+param_list+primary_expr+unary_expr.Proof.Base.{group-expr-at, group-expr-calls}
 
 pub group-expr-consume-requires : (t : ℕ) → group-expr-lts.Need-consume-requires (group-expr-calls t) (group-expr-at t) group-expr.Post
-group-expr-consume-requires t c κs = 
+group-expr-consume-requires t c κs =
     let start = c .before .before .before .before .before .before in
     start .pre .1 .stands
 
@@ -31,7 +31,7 @@ group-expr-enum-known-passed t c = search needs
 
 pub group-expr-returns : (t : ℕ) → group-expr-lts.Need-returns (group-expr-calls t) (group-expr-at t) group-expr.Post
 unfolding groupExpr
-group-expr-returns t c = 
+group-expr-returns t c =
     let c-consume = c .before in
     let start = c-consume .before .before .before .before .before .before .before in
     gives (λ E e. let p0 = begin 1 (λ x. groupExpr x (walkers x (start .args .depth))) E e (start .pre .1) in
@@ -39,7 +39,7 @@ group-expr-returns t c =
 
 pub group-expr-assign-expr-requires : (t : ℕ) → group-expr-lts.Need-assign-expr-requires (group-expr-calls t) (group-expr-at t) group-expr.Post
 unfolding groupExpr
-group-expr-assign-expr-requires t c κs = 
+group-expr-assign-expr-requires t c κs =
     let c-passed = c .before .before .before .before in
     let c-consume = c-passed .before .before in
     let start = c-consume .before .before .before .before .before .before .before in
@@ -53,23 +53,23 @@ pub group-expr-enum-known-inner : (t : ℕ) → group-expr-lts.Need-enum-known-i
 group-expr-enum-known-inner t c = search needs
 
 pub group-expr-same-length : (t : ℕ) → group-expr-lts.Need-same-length (group-expr-calls t) (group-expr-at t) group-expr.Post
-group-expr-same-length t c = 
+group-expr-same-length t c =
     let c-assign-expr = c .before .before .before .before .before .before .before in
     c-assign-expr .assign-expr .kept .1 .1 .1 .0
 
 pub group-expr-same-length-2 : (t : ℕ) → group-expr-lts.Need-same-length-2 (group-expr-calls t) (group-expr-at t) group-expr.Post
-group-expr-same-length-2 t c = 
+group-expr-same-length-2 t c =
     let c-assign-expr = c .before .before .before .before .before .before .before in
     c-assign-expr .assign-expr .kept .1 .1 .1 .1 .0
 
 pub group-expr-same-length-3 : (t : ℕ) → group-expr-lts.Need-same-length-3 (group-expr-calls t) (group-expr-at t) group-expr.Post
-group-expr-same-length-3 t c = 
+group-expr-same-length-3 t c =
     let c-assign-expr = c .before .before .before .before .before .before .before in
     c-assign-expr .assign-expr .kept .1 .1 .1 .1 .1 .0
 
 pub group-expr-returns-2 : (t : ℕ) → group-expr-lts.Need-returns-2 (group-expr-calls t) (group-expr-at t) group-expr.Post
 unfolding groupExpr
-group-expr-returns-2 t c = 
+group-expr-returns-2 t c =
     let c-assign-expr = c .before .before .before .before .before .before .before in
     let c-passed = c-assign-expr .before .before .before .before .before in
     let c-consume = c-passed .before .before in
@@ -80,7 +80,7 @@ group-expr-returns-2 t c =
 
 pub group-expr-expect-requires : (t : ℕ) → group-expr-lts.Need-expect-requires (group-expr-calls t) (group-expr-at t) group-expr.Post
 unfolding groupExpr
-group-expr-expect-requires t c κs = 
+group-expr-expect-requires t c κs =
     let c-inner = c .before in
     let c-assign-expr = c-inner .before .before .before .before .before .before .before .before in
     let c-passed = c-assign-expr .before .before .before .before .before in
@@ -94,23 +94,23 @@ group-expr-expect-requires t c κs =
     p2 .is .stands
 
 pub group-expr-same-length-4 : (t : ℕ) → group-expr-lts.Need-same-length-4 (group-expr-calls t) (group-expr-at t) group-expr.Post
-group-expr-same-length-4 t c = 
+group-expr-same-length-4 t c =
     let c-assign-expr = c .before .before .before .before .before .before .before .before .before .before in
     c-assign-expr .assign-expr .kept .1 .1 .1 .0
 
 pub group-expr-same-length-5 : (t : ℕ) → group-expr-lts.Need-same-length-5 (group-expr-calls t) (group-expr-at t) group-expr.Post
-group-expr-same-length-5 t c = 
+group-expr-same-length-5 t c =
     let c-assign-expr = c .before .before .before .before .before .before .before .before .before .before in
     c-assign-expr .assign-expr .kept .1 .1 .1 .1 .0
 
 pub group-expr-same-length-6 : (t : ℕ) → group-expr-lts.Need-same-length-6 (group-expr-calls t) (group-expr-at t) group-expr.Post
-group-expr-same-length-6 t c = 
+group-expr-same-length-6 t c =
     let c-assign-expr = c .before .before .before .before .before .before .before .before .before .before in
     c-assign-expr .assign-expr .kept .1 .1 .1 .1 .1 .0
 
 pub group-expr-returns-3 : (t : ℕ) → group-expr-lts.Need-returns-3 (group-expr-calls t) (group-expr-at t) group-expr.Post
 unfolding groupExpr
-group-expr-returns-3 t c = 
+group-expr-returns-3 t c =
     let c-inner = c .before .before in
     let c-assign-expr = c-inner .before .before .before .before .before .before .before .before in
     let c-passed = c-assign-expr .before .before .before .before .before in

@@ -22,7 +22,7 @@ use Rattle.sifc_expr.proofs.Loops.{assign-step, unary-step, call-step, 
 use Rattle.sifc_expr.proofs.parser.+add_or_sub_expr+and_expr+assign_expr+call_suffix+compr_expr+dot_suffix+equality_expr+fn_call_expr+group_expr+index_suffix+mod_expr+mul_or_div_expr+or_expr+param_list+primary_expr+unary_expr.Proof.Base.{index-suffix-at, index-suffix-calls}
 
 pub index-suffix-consume-requires : (t : ℕ) → index-suffix-lts.Need-consume-requires (index-suffix-calls t) (index-suffix-at t) index-suffix.Post
-index-suffix-consume-requires t c κs = 
+index-suffix-consume-requires t c κs =
     let start = c .before .before .before .before .before .before in
     start .pre .1 .stands
 
@@ -31,7 +31,7 @@ index-suffix-enum-known-passed t c = search needs
 
 pub index-suffix-returns : (t : ℕ) → index-suffix-lts.Need-returns (index-suffix-calls t) (index-suffix-at t) index-suffix.Post
 unfolding index
-index-suffix-returns t c = 
+index-suffix-returns t c =
     let c-consume = c .before in
     let start = c-consume .before .before .before .before .before .before .before in
     gives (λ E e. let p0 = begin 0 (λ x. index x (walkers x (start .args .depth)) (nodeOf (start .args .target)) (start .args .w .at)) E e (start .pre .1) in
@@ -39,7 +39,7 @@ index-suffix-returns t c =
 
 pub index-suffix-assign-expr-requires : (t : ℕ) → index-suffix-lts.Need-assign-expr-requires (index-suffix-calls t) (index-suffix-at t) index-suffix.Post
 unfolding index
-index-suffix-assign-expr-requires t c κs = 
+index-suffix-assign-expr-requires t c κs =
     let c-passed = c .before .before .before .before in
     let c-consume = c-passed .before .before in
     let start = c-consume .before .before .before .before .before .before .before in
@@ -53,23 +53,23 @@ pub index-suffix-enum-known-inner : (t : ℕ) → index-suffix-lts.Need-enum-kno
 index-suffix-enum-known-inner t c = search needs
 
 pub index-suffix-same-length : (t : ℕ) → index-suffix-lts.Need-same-length (index-suffix-calls t) (index-suffix-at t) index-suffix.Post
-index-suffix-same-length t c = 
+index-suffix-same-length t c =
     let c-assign-expr = c .before .before .before .before .before .before .before in
     c-assign-expr .assign-expr .kept .1 .1 .1 .0
 
 pub index-suffix-same-length-2 : (t : ℕ) → index-suffix-lts.Need-same-length-2 (index-suffix-calls t) (index-suffix-at t) index-suffix.Post
-index-suffix-same-length-2 t c = 
+index-suffix-same-length-2 t c =
     let c-assign-expr = c .before .before .before .before .before .before .before in
     c-assign-expr .assign-expr .kept .1 .1 .1 .1 .0
 
 pub index-suffix-same-length-3 : (t : ℕ) → index-suffix-lts.Need-same-length-3 (index-suffix-calls t) (index-suffix-at t) index-suffix.Post
-index-suffix-same-length-3 t c = 
+index-suffix-same-length-3 t c =
     let c-assign-expr = c .before .before .before .before .before .before .before in
     c-assign-expr .assign-expr .kept .1 .1 .1 .1 .1 .0
 
 pub index-suffix-returns-2 : (t : ℕ) → index-suffix-lts.Need-returns-2 (index-suffix-calls t) (index-suffix-at t) index-suffix.Post
 unfolding index
-index-suffix-returns-2 t c = 
+index-suffix-returns-2 t c =
     let c-assign-expr = c .before .before .before .before .before .before .before in
     let c-passed = c-assign-expr .before .before .before .before .before in
     let c-consume = c-passed .before .before in
@@ -80,7 +80,7 @@ index-suffix-returns-2 t c =
 
 pub index-suffix-expect-requires : (t : ℕ) → index-suffix-lts.Need-expect-requires (index-suffix-calls t) (index-suffix-at t) index-suffix.Post
 unfolding index
-index-suffix-expect-requires t c κs = 
+index-suffix-expect-requires t c κs =
     let c-inner = c .before in
     let c-assign-expr = c-inner .before .before .before .before .before .before .before .before in
     let c-passed = c-assign-expr .before .before .before .before .before in
@@ -97,23 +97,23 @@ pub index-suffix-enum-known-closed : (t : ℕ) → index-suffix-lts.Need-enum-kn
 index-suffix-enum-known-closed t c = search needs
 
 pub index-suffix-same-length-4 : (t : ℕ) → index-suffix-lts.Need-same-length-4 (index-suffix-calls t) (index-suffix-at t) index-suffix.Post
-index-suffix-same-length-4 t c = 
+index-suffix-same-length-4 t c =
     let c-assign-expr = c .before .before .before .before .before .before .before .before .before .before .before in
     c-assign-expr .assign-expr .kept .1 .1 .1 .0
 
 pub index-suffix-same-length-5 : (t : ℕ) → index-suffix-lts.Need-same-length-5 (index-suffix-calls t) (index-suffix-at t) index-suffix.Post
-index-suffix-same-length-5 t c = 
+index-suffix-same-length-5 t c =
     let c-assign-expr = c .before .before .before .before .before .before .before .before .before .before .before in
     c-assign-expr .assign-expr .kept .1 .1 .1 .1 .0
 
 pub index-suffix-same-length-6 : (t : ℕ) → index-suffix-lts.Need-same-length-6 (index-suffix-calls t) (index-suffix-at t) index-suffix.Post
-index-suffix-same-length-6 t c = 
+index-suffix-same-length-6 t c =
     let c-assign-expr = c .before .before .before .before .before .before .before .before .before .before .before in
     c-assign-expr .assign-expr .kept .1 .1 .1 .1 .1 .0
 
 pub index-suffix-returns-3 : (t : ℕ) → index-suffix-lts.Need-returns-3 (index-suffix-calls t) (index-suffix-at t) index-suffix.Post
 unfolding index
-index-suffix-returns-3 t c = 
+index-suffix-returns-3 t c =
     let c-expect = c .before in
     let c-inner = c-expect .before .before in
     let c-assign-expr = c-inner .before .before .before .before .before .before .before .before in
@@ -127,7 +127,7 @@ index-suffix-returns-3 t c =
 
 pub index-suffix-access-requires : (t : ℕ) → index-suffix-lts.Need-access-requires (index-suffix-calls t) (index-suffix-at t) index-suffix.Post
 unfolding index
-index-suffix-access-requires t c κs = 
+index-suffix-access-requires t c κs =
     let c-closed = c .before .before .before in
     let c-expect = c-closed .before .before in
     let c-inner = c-expect .before .before in
@@ -144,25 +144,25 @@ index-suffix-access-requires t c κs =
     (omega (arith, start .pre .1 .stands .here, start .pre .1 .stands .toks .even), p3 .is .even, p3 .is .used)
 
 pub index-suffix-same-length-7 : (t : ℕ) → index-suffix-lts.Need-same-length-7 (index-suffix-calls t) (index-suffix-at t) index-suffix.Post
-index-suffix-same-length-7 t c = 
+index-suffix-same-length-7 t c =
     let c-assign-expr = c .before .before .before .before .before .before .before .before .before .before .before .before .before .before .before .before .before .before .before .before in
     c-assign-expr .assign-expr .kept .1 .1 .1 .0
 
 pub index-suffix-same-length-8 : (t : ℕ) → index-suffix-lts.Need-same-length-8 (index-suffix-calls t) (index-suffix-at t) index-suffix.Post
-index-suffix-same-length-8 t c = 
+index-suffix-same-length-8 t c =
     let c-access = c .before .before .before .before in
     let c-assign-expr = c-access .before .before .before .before .before .before .before .before .before .before .before .before .before .before .before .before in
     c-access .access .kept .1 .0 ∙ c-assign-expr .assign-expr .kept .1 .1 .1 .1 .0
 
 pub index-suffix-same-length-9 : (t : ℕ) → index-suffix-lts.Need-same-length-9 (index-suffix-calls t) (index-suffix-at t) index-suffix.Post
-index-suffix-same-length-9 t c = 
+index-suffix-same-length-9 t c =
     let c-access = c .before .before .before .before in
     let c-assign-expr = c-access .before .before .before .before .before .before .before .before .before .before .before .before .before .before .before .before in
     c-access .access .kept .1 .1 .0 ∙ c-assign-expr .assign-expr .kept .1 .1 .1 .1 .1 .0
 
 pub index-suffix-returns-4 : (t : ℕ) → index-suffix-lts.Need-returns-4 (index-suffix-calls t) (index-suffix-at t) index-suffix.Post
 unfolding index
-index-suffix-returns-4 t c = 
+index-suffix-returns-4 t c =
     let c-access = c .before .before .before .before in
     let c-closed = c-access .before .before .before .before in
     let c-expect = c-closed .before .before in

@@ -28,7 +28,7 @@ abbrev pub mod-expr-μ-loop : mod-expr-lts.MeasureT-loop
 mod-expr-μ-loop script offs words symbols₀ head₀ load₀ lim depth x₀ symbols head load x = length words - x .at
 
 pub mod-expr-unary-expr-requires : (t : ℕ) → mod-expr-lts.Need-unary-expr-requires (mod-expr-calls t) (mod-expr-at t) mod-expr.Post mod-expr-Inv-loop mod-expr-μ-loop
-mod-expr-unary-expr-requires t c κs = 
+mod-expr-unary-expr-requires t c κs =
     let start = c .before .before .before .before .before .before .before .before .before in
     (omega (arith, start .pre .0), start .pre .1)
 
@@ -36,29 +36,29 @@ pub mod-expr-enum-known-lhs : (t : ℕ) → mod-expr-lts.Need-enum-known-lhs (mo
 mod-expr-enum-known-lhs t c = search needs
 
 pub mod-expr-same-length : (t : ℕ) → mod-expr-lts.Need-same-length (mod-expr-calls t) (mod-expr-at t) mod-expr.Post mod-expr-Inv-loop mod-expr-μ-loop
-mod-expr-same-length t c = 
+mod-expr-same-length t c =
     let c-unary-expr = c .before .before .before .before .before .before .before in
     c-unary-expr .unary-expr .kept .1 .1 .1 .0
 
 pub mod-expr-same-length-2 : (t : ℕ) → mod-expr-lts.Need-same-length-2 (mod-expr-calls t) (mod-expr-at t) mod-expr.Post mod-expr-Inv-loop mod-expr-μ-loop
-mod-expr-same-length-2 t c = 
+mod-expr-same-length-2 t c =
     let c-unary-expr = c .before .before .before .before .before .before .before in
     c-unary-expr .unary-expr .kept .1 .1 .1 .1 .0
 
 pub mod-expr-same-length-3 : (t : ℕ) → mod-expr-lts.Need-same-length-3 (mod-expr-calls t) (mod-expr-at t) mod-expr.Post mod-expr-Inv-loop mod-expr-μ-loop
-mod-expr-same-length-3 t c = 
+mod-expr-same-length-3 t c =
     let c-unary-expr = c .before .before .before .before .before .before .before in
     c-unary-expr .unary-expr .kept .1 .1 .1 .1 .1 .0
 
 pub mod-expr-returns : (t : ℕ) → mod-expr-lts.Need-returns (mod-expr-calls t) (mod-expr-at t) mod-expr.Post mod-expr-Inv-loop mod-expr-μ-loop
-mod-expr-returns t c = 
+mod-expr-returns t c =
     let c-unary-expr = c .before .before .before .before .before .before .before in
     let start = c-unary-expr .before .before .before .before .before .before .before .before .before .before in
     gives (λ E e. let p0 = by (begin 1 (λ x. levels x 1 (walkers x (start .args .depth) .unary)) E e (start .pre .1)) (level-first _ _ _) in
     stop 1 (λ x. walkers x (start .args .depth) .unary) _ p0 refl (omega arith) (c-unary-expr .unary-expr .ensures) (c .match .keys2))
 
 pub mod-expr-loop-holds : (t : ℕ) → mod-expr-lts.Need-loop-holds (mod-expr-calls t) (mod-expr-at t) mod-expr.Post mod-expr-Inv-loop mod-expr-μ-loop
-mod-expr-loop-holds t c = 
+mod-expr-loop-holds t c =
     let c-lhs = c .before in
     let c-unary-expr = c-lhs .before .before .before .before .before .before .before .before in
     let start = c-unary-expr .before .before .before .before .before .before .before .before .before .before in
@@ -75,26 +75,26 @@ pub mod-expr-looseness-requires : (t : ℕ) → mod-expr-lts.Need-looseness-requ
 mod-expr-looseness-requires t c κs = search needs
 
 pub mod-expr-same-length-4 : (t : ℕ) → mod-expr-lts.Need-same-length-4 (mod-expr-calls t) (mod-expr-at t) mod-expr.Post mod-expr-Inv-loop mod-expr-μ-loop
-mod-expr-same-length-4 t c = 
+mod-expr-same-length-4 t c =
     let c-loop = c .before .before .before in
     let c-unary-expr = c-loop .before .before .before .before .before .before .before .before .before .before in
     c-loop .loop .inv .kept .symbols ∙ c-unary-expr .unary-expr .kept .1 .1 .1 .0
 
 pub mod-expr-same-length-5 : (t : ℕ) → mod-expr-lts.Need-same-length-5 (mod-expr-calls t) (mod-expr-at t) mod-expr.Post mod-expr-Inv-loop mod-expr-μ-loop
-mod-expr-same-length-5 t c = 
+mod-expr-same-length-5 t c =
     let c-loop = c .before .before .before in
     let c-unary-expr = c-loop .before .before .before .before .before .before .before .before .before .before in
     c-loop .loop .inv .kept .head ∙ c-unary-expr .unary-expr .kept .1 .1 .1 .1 .0
 
 pub mod-expr-same-length-6 : (t : ℕ) → mod-expr-lts.Need-same-length-6 (mod-expr-calls t) (mod-expr-at t) mod-expr.Post mod-expr-Inv-loop mod-expr-μ-loop
-mod-expr-same-length-6 t c = 
+mod-expr-same-length-6 t c =
     let c-loop = c .before .before .before in
     let c-unary-expr = c-loop .before .before .before .before .before .before .before .before .before .before in
     c-loop .loop .inv .kept .load ∙ c-unary-expr .unary-expr .kept .1 .1 .1 .1 .1 .0
 
 pub mod-expr-returns-2 : (t : ℕ) → mod-expr-lts.Need-returns-2 (mod-expr-calls t) (mod-expr-at t) mod-expr.Post mod-expr-Inv-loop mod-expr-μ-loop
 unfolding operators
-mod-expr-returns-2 t c = 
+mod-expr-returns-2 t c =
     let c-looseness = c .before in
     let c-kind-at = c-looseness .before in
     let c-loop = c-kind-at .before in
@@ -108,7 +108,7 @@ mod-expr-returns-2 t c =
     fin (no _ _ p3 (test (λ k. eqb (looseness k) 1) p3 (ne-eqb _ _ (λ z. c .if1 .taken (c-looseness .looseness .ensures ∙ ap looseness (c-kind-at .kind-at .ensures) ∙ z))))))
 
 pub mod-expr-consume-requires : (t : ℕ) → mod-expr-lts.Need-consume-requires (mod-expr-calls t) (mod-expr-at t) mod-expr.Post mod-expr-Inv-loop mod-expr-μ-loop
-mod-expr-consume-requires t c κs = 
+mod-expr-consume-requires t c κs =
     let c-loop = c .before .before .before in
     (c-loop .loop .inv) .is .stands
 
@@ -116,26 +116,26 @@ pub mod-expr-enum-known-passed : (t : ℕ) → mod-expr-lts.Need-enum-known-pass
 mod-expr-enum-known-passed t c = search needs
 
 pub mod-expr-same-length-7 : (t : ℕ) → mod-expr-lts.Need-same-length-7 (mod-expr-calls t) (mod-expr-at t) mod-expr.Post mod-expr-Inv-loop mod-expr-μ-loop
-mod-expr-same-length-7 t c = 
+mod-expr-same-length-7 t c =
     let c-loop = c .before .before .before .before .before in
     let c-unary-expr = c-loop .before .before .before .before .before .before .before .before .before .before in
     c-loop .loop .inv .kept .symbols ∙ c-unary-expr .unary-expr .kept .1 .1 .1 .0
 
 pub mod-expr-same-length-8 : (t : ℕ) → mod-expr-lts.Need-same-length-8 (mod-expr-calls t) (mod-expr-at t) mod-expr.Post mod-expr-Inv-loop mod-expr-μ-loop
-mod-expr-same-length-8 t c = 
+mod-expr-same-length-8 t c =
     let c-loop = c .before .before .before .before .before in
     let c-unary-expr = c-loop .before .before .before .before .before .before .before .before .before .before in
     c-loop .loop .inv .kept .head ∙ c-unary-expr .unary-expr .kept .1 .1 .1 .1 .0
 
 pub mod-expr-same-length-9 : (t : ℕ) → mod-expr-lts.Need-same-length-9 (mod-expr-calls t) (mod-expr-at t) mod-expr.Post mod-expr-Inv-loop mod-expr-μ-loop
-mod-expr-same-length-9 t c = 
+mod-expr-same-length-9 t c =
     let c-loop = c .before .before .before .before .before in
     let c-unary-expr = c-loop .before .before .before .before .before .before .before .before .before .before in
     c-loop .loop .inv .kept .load ∙ c-unary-expr .unary-expr .kept .1 .1 .1 .1 .1 .0
 
 pub mod-expr-returns-3 : (t : ℕ) → mod-expr-lts.Need-returns-3 (mod-expr-calls t) (mod-expr-at t) mod-expr.Post mod-expr-Inv-loop mod-expr-μ-loop
 unfolding operators
-mod-expr-returns-3 t c = 
+mod-expr-returns-3 t c =
     let c-consume = c .before in
     let c-if1 = c-consume .before in
     let c-looseness = c-if1 .before in
@@ -153,7 +153,7 @@ mod-expr-returns-3 t c =
 
 pub mod-expr-unary-expr-requires-2 : (t : ℕ) → mod-expr-lts.Need-unary-expr-requires-2 (mod-expr-calls t) (mod-expr-at t) mod-expr.Post mod-expr-Inv-loop mod-expr-μ-loop
 unfolding operators
-mod-expr-unary-expr-requires-2 t c κs = 
+mod-expr-unary-expr-requires-2 t c κs =
     let c-passed = c .before .before .before .before in
     let c-consume = c-passed .before .before in
     let c-if1 = c-consume .before in
@@ -177,21 +177,21 @@ pub mod-expr-enum-known-rhs : (t : ℕ) → mod-expr-lts.Need-enum-known-rhs (mo
 mod-expr-enum-known-rhs t c = search needs
 
 pub mod-expr-same-length-10 : (t : ℕ) → mod-expr-lts.Need-same-length-10 (mod-expr-calls t) (mod-expr-at t) mod-expr.Post mod-expr-Inv-loop mod-expr-μ-loop
-mod-expr-same-length-10 t c = 
+mod-expr-same-length-10 t c =
     let c-unary-expr2 = c .before .before .before .before .before .before .before in
     let c-loop = c-unary-expr2 .before .before .before .before .before .before .before .before .before .before .before in
     let c-unary-expr = c-loop .before .before .before .before .before .before .before .before .before .before in
     c-unary-expr2 .unary-expr2 .kept .1 .1 .1 .0 ∙ c-loop .loop .inv .kept .symbols ∙ c-unary-expr .unary-expr .kept .1 .1 .1 .0
 
 pub mod-expr-same-length-11 : (t : ℕ) → mod-expr-lts.Need-same-length-11 (mod-expr-calls t) (mod-expr-at t) mod-expr.Post mod-expr-Inv-loop mod-expr-μ-loop
-mod-expr-same-length-11 t c = 
+mod-expr-same-length-11 t c =
     let c-unary-expr2 = c .before .before .before .before .before .before .before in
     let c-loop = c-unary-expr2 .before .before .before .before .before .before .before .before .before .before .before in
     let c-unary-expr = c-loop .before .before .before .before .before .before .before .before .before .before in
     c-unary-expr2 .unary-expr2 .kept .1 .1 .1 .1 .0 ∙ c-loop .loop .inv .kept .head ∙ c-unary-expr .unary-expr .kept .1 .1 .1 .1 .0
 
 pub mod-expr-same-length-12 : (t : ℕ) → mod-expr-lts.Need-same-length-12 (mod-expr-calls t) (mod-expr-at t) mod-expr.Post mod-expr-Inv-loop mod-expr-μ-loop
-mod-expr-same-length-12 t c = 
+mod-expr-same-length-12 t c =
     let c-unary-expr2 = c .before .before .before .before .before .before .before in
     let c-loop = c-unary-expr2 .before .before .before .before .before .before .before .before .before .before .before in
     let c-unary-expr = c-loop .before .before .before .before .before .before .before .before .before .before in
@@ -199,7 +199,7 @@ mod-expr-same-length-12 t c =
 
 pub mod-expr-returns-4 : (t : ℕ) → mod-expr-lts.Need-returns-4 (mod-expr-calls t) (mod-expr-at t) mod-expr.Post mod-expr-Inv-loop mod-expr-μ-loop
 unfolding operators
-mod-expr-returns-4 t c = 
+mod-expr-returns-4 t c =
     let c-unary-expr2 = c .before .before .before .before .before .before .before in
     let c-passed = c-unary-expr2 .before .before .before .before .before in
     let c-consume = c-passed .before .before in
@@ -219,13 +219,13 @@ mod-expr-returns-4 t c =
     stop 1 (λ x. walkers x (start .args .depth) .unary) _ p5 refl (omega arith) (c-unary-expr2 .unary-expr2 .ensures) (c .match3 .keys2))
 
 pub mod-expr-cast-push-node : (t : ℕ) → mod-expr-lts.Need-cast-push-node (mod-expr-calls t) (mod-expr-at t) mod-expr.Post mod-expr-Inv-loop mod-expr-μ-loop
-mod-expr-cast-push-node t c = 
+mod-expr-cast-push-node t c =
     let c-loop = c .before .before .before .before .before .before .before .before .before .before .before .before .before .before .before .before .before .before .before .before .before .before in
     omega (arith, (c-loop .loop .inv) .is .stands .here, (c-loop .loop .inv) .is .stands .toks .few)
 
 pub mod-expr-push-node-requires : (t : ℕ) → mod-expr-lts.Need-push-node-requires (mod-expr-calls t) (mod-expr-at t) mod-expr.Post mod-expr-Inv-loop mod-expr-μ-loop
 unfolding operators
-mod-expr-push-node-requires t c κs = 
+mod-expr-push-node-requires t c κs =
     let c-rhs = c .before .before .before in
     let c-unary-expr2 = c-rhs .before .before .before .before .before .before .before .before in
     let c-passed = c-unary-expr2 .before .before .before .before .before in
@@ -252,14 +252,14 @@ pub mod-expr-enum-known-made : (t : ℕ) → mod-expr-lts.Need-enum-known-made (
 mod-expr-enum-known-made t c = search needs
 
 pub mod-expr-same-length-13 : (t : ℕ) → mod-expr-lts.Need-same-length-13 (mod-expr-calls t) (mod-expr-at t) mod-expr.Post mod-expr-Inv-loop mod-expr-μ-loop
-mod-expr-same-length-13 t c = 
+mod-expr-same-length-13 t c =
     let c-unary-expr2 = c .before .before .before .before .before .before .before .before .before .before .before .before .before .before .before .before .before in
     let c-loop = c-unary-expr2 .before .before .before .before .before .before .before .before .before .before .before in
     let c-unary-expr = c-loop .before .before .before .before .before .before .before .before .before .before in
     c-unary-expr2 .unary-expr2 .kept .1 .1 .1 .0 ∙ c-loop .loop .inv .kept .symbols ∙ c-unary-expr .unary-expr .kept .1 .1 .1 .0
 
 pub mod-expr-same-length-14 : (t : ℕ) → mod-expr-lts.Need-same-length-14 (mod-expr-calls t) (mod-expr-at t) mod-expr.Post mod-expr-Inv-loop mod-expr-μ-loop
-mod-expr-same-length-14 t c = 
+mod-expr-same-length-14 t c =
     let c-push-node = c .before .before .before .before .before in
     let c-unary-expr2 = c-push-node .before .before .before .before .before .before .before .before .before .before .before .before in
     let c-loop = c-unary-expr2 .before .before .before .before .before .before .before .before .before .before .before in
@@ -267,7 +267,7 @@ mod-expr-same-length-14 t c =
     c-push-node .push-node .kept .0 ∙ c-unary-expr2 .unary-expr2 .kept .1 .1 .1 .1 .0 ∙ c-loop .loop .inv .kept .head ∙ c-unary-expr .unary-expr .kept .1 .1 .1 .1 .0
 
 pub mod-expr-same-length-15 : (t : ℕ) → mod-expr-lts.Need-same-length-15 (mod-expr-calls t) (mod-expr-at t) mod-expr.Post mod-expr-Inv-loop mod-expr-μ-loop
-mod-expr-same-length-15 t c = 
+mod-expr-same-length-15 t c =
     let c-push-node = c .before .before .before .before .before in
     let c-unary-expr2 = c-push-node .before .before .before .before .before .before .before .before .before .before .before .before in
     let c-loop = c-unary-expr2 .before .before .before .before .before .before .before .before .before .before .before in
@@ -276,7 +276,7 @@ mod-expr-same-length-15 t c =
 
 pub mod-expr-returns-5 : (t : ℕ) → mod-expr-lts.Need-returns-5 (mod-expr-calls t) (mod-expr-at t) mod-expr.Post mod-expr-Inv-loop mod-expr-μ-loop
 unfolding operators
-mod-expr-returns-5 t c = 
+mod-expr-returns-5 t c =
     let c-push-node = c .before .before .before .before .before in
     let c-rhs = c-push-node .before .before .before .before in
     let c-unary-expr2 = c-rhs .before .before .before .before .before .before .before .before in
@@ -300,7 +300,7 @@ mod-expr-returns-5 t c =
 
 pub mod-expr-loop-less : (t : ℕ) → mod-expr-lts.Need-loop-less (mod-expr-calls t) (mod-expr-at t) mod-expr.Post mod-expr-Inv-loop mod-expr-μ-loop
 unfolding operators
-mod-expr-loop-less t c = 
+mod-expr-loop-less t c =
     let c-made = c .before in
     let c-push-node = c-made .before .before .before .before .before .before in
     let c-rhs = c-push-node .before .before .before .before in
@@ -328,7 +328,7 @@ mod-expr-loop-less t c =
 
 pub mod-expr-loop-again : (t : ℕ) → mod-expr-lts.Need-loop-again (mod-expr-calls t) (mod-expr-at t) mod-expr.Post mod-expr-Inv-loop mod-expr-μ-loop
 unfolding operators
-mod-expr-loop-again t c = 
+mod-expr-loop-again t c =
     let c-made = c .before in
     let c-push-node = c-made .before .before .before .before .before .before in
     let c-rhs = c-push-node .before .before .before .before in

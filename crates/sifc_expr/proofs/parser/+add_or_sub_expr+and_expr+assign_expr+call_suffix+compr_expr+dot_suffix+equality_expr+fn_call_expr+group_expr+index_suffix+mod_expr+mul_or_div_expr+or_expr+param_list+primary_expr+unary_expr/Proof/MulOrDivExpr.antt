@@ -28,7 +28,7 @@ abbrev pub mul-or-div-expr-μ-loop : mul-or-div-expr-lts.MeasureT-loop
 mul-or-div-expr-μ-loop script offs words symbols₀ head₀ load₀ lim depth x₀ symbols head load x = length words - x .at
 
 pub mul-or-div-expr-mod-expr-requires : (t : ℕ) → mul-or-div-expr-lts.Need-mod-expr-requires (mul-or-div-expr-calls t) (mul-or-div-expr-at t) mul-or-div-expr.Post mul-or-div-expr-Inv-loop mul-or-div-expr-μ-loop
-mul-or-div-expr-mod-expr-requires t c κs = 
+mul-or-div-expr-mod-expr-requires t c κs =
     let start = c .before .before .before .before .before .before .before .before .before in
     (omega (arith, start .pre .0), start .pre .1)
 
@@ -36,29 +36,29 @@ pub mul-or-div-expr-enum-known-lhs : (t : ℕ) → mul-or-div-expr-lts.Need-enum
 mul-or-div-expr-enum-known-lhs t c = search needs
 
 pub mul-or-div-expr-same-length : (t : ℕ) → mul-or-div-expr-lts.Need-same-length (mul-or-div-expr-calls t) (mul-or-div-expr-at t) mul-or-div-expr.Post mul-or-div-expr-Inv-loop mul-or-div-expr-μ-loop
-mul-or-div-expr-same-length t c = 
+mul-or-div-expr-same-length t c =
     let c-mod-expr = c .before .before .before .before .before .before .before in
     c-mod-expr .mod-expr .kept .1 .1 .1 .0
 
 pub mul-or-div-expr-same-length-2 : (t : ℕ) → mul-or-div-expr-lts.Need-same-length-2 (mul-or-div-expr-calls t) (mul-or-div-expr-at t) mul-or-div-expr.Post mul-or-div-expr-Inv-loop mul-or-div-expr-μ-loop
-mul-or-div-expr-same-length-2 t c = 
+mul-or-div-expr-same-length-2 t c =
     let c-mod-expr = c .before .before .before .before .before .before .before in
     c-mod-expr .mod-expr .kept .1 .1 .1 .1 .0
 
 pub mul-or-div-expr-same-length-3 : (t : ℕ) → mul-or-div-expr-lts.Need-same-length-3 (mul-or-div-expr-calls t) (mul-or-div-expr-at t) mul-or-div-expr.Post mul-or-div-expr-Inv-loop mul-or-div-expr-μ-loop
-mul-or-div-expr-same-length-3 t c = 
+mul-or-div-expr-same-length-3 t c =
     let c-mod-expr = c .before .before .before .before .before .before .before in
     c-mod-expr .mod-expr .kept .1 .1 .1 .1 .1 .0
 
 pub mul-or-div-expr-returns : (t : ℕ) → mul-or-div-expr-lts.Need-returns (mul-or-div-expr-calls t) (mul-or-div-expr-at t) mul-or-div-expr.Post mul-or-div-expr-Inv-loop mul-or-div-expr-μ-loop
-mul-or-div-expr-returns t c = 
+mul-or-div-expr-returns t c =
     let c-mod-expr = c .before .before .before .before .before .before .before in
     let start = c-mod-expr .before .before .before .before .before .before .before .before .before .before in
     gives (λ E e. let p0 = by (begin 1 (λ x. levels x 2 (walkers x (start .args .depth) .unary)) E e (start .pre .1)) (level-step _ 1 _ _) in
     stop 1 (λ x. levels x 1 (walkers x (start .args .depth) .unary)) _ p0 refl (omega arith) (c-mod-expr .mod-expr .ensures) (c .match .keys2))
 
 pub mul-or-div-expr-loop-holds : (t : ℕ) → mul-or-div-expr-lts.Need-loop-holds (mul-or-div-expr-calls t) (mul-or-div-expr-at t) mul-or-div-expr.Post mul-or-div-expr-Inv-loop mul-or-div-expr-μ-loop
-mul-or-div-expr-loop-holds t c = 
+mul-or-div-expr-loop-holds t c =
     let c-lhs = c .before in
     let c-mod-expr = c-lhs .before .before .before .before .before .before .before .before in
     let start = c-mod-expr .before .before .before .before .before .before .before .before .before .before in
@@ -75,26 +75,26 @@ pub mul-or-div-expr-looseness-requires : (t : ℕ) → mul-or-div-expr-lts.Need-
 mul-or-div-expr-looseness-requires t c κs = search needs
 
 pub mul-or-div-expr-same-length-4 : (t : ℕ) → mul-or-div-expr-lts.Need-same-length-4 (mul-or-div-expr-calls t) (mul-or-div-expr-at t) mul-or-div-expr.Post mul-or-div-expr-Inv-loop mul-or-div-expr-μ-loop
-mul-or-div-expr-same-length-4 t c = 
+mul-or-div-expr-same-length-4 t c =
     let c-loop = c .before .before .before in
     let c-mod-expr = c-loop .before .before .before .before .before .before .before .before .before .before in
     c-loop .loop .inv .kept .symbols ∙ c-mod-expr .mod-expr .kept .1 .1 .1 .0
 
 pub mul-or-div-expr-same-length-5 : (t : ℕ) → mul-or-div-expr-lts.Need-same-length-5 (mul-or-div-expr-calls t) (mul-or-div-expr-at t) mul-or-div-expr.Post mul-or-div-expr-Inv-loop mul-or-div-expr-μ-loop
-mul-or-div-expr-same-length-5 t c = 
+mul-or-div-expr-same-length-5 t c =
     let c-loop = c .before .before .before in
     let c-mod-expr = c-loop .before .before .before .before .before .before .before .before .before .before in
     c-loop .loop .inv .kept .head ∙ c-mod-expr .mod-expr .kept .1 .1 .1 .1 .0
 
 pub mul-or-div-expr-same-length-6 : (t : ℕ) → mul-or-div-expr-lts.Need-same-length-6 (mul-or-div-expr-calls t) (mul-or-div-expr-at t) mul-or-div-expr.Post mul-or-div-expr-Inv-loop mul-or-div-expr-μ-loop
-mul-or-div-expr-same-length-6 t c = 
+mul-or-div-expr-same-length-6 t c =
     let c-loop = c .before .before .before in
     let c-mod-expr = c-loop .before .before .before .before .before .before .before .before .before .before in
     c-loop .loop .inv .kept .load ∙ c-mod-expr .mod-expr .kept .1 .1 .1 .1 .1 .0
 
 pub mul-or-div-expr-returns-2 : (t : ℕ) → mul-or-div-expr-lts.Need-returns-2 (mul-or-div-expr-calls t) (mul-or-div-expr-at t) mul-or-div-expr.Post mul-or-div-expr-Inv-loop mul-or-div-expr-μ-loop
 unfolding operators
-mul-or-div-expr-returns-2 t c = 
+mul-or-div-expr-returns-2 t c =
     let c-looseness = c .before in
     let c-kind-at = c-looseness .before in
     let c-loop = c-kind-at .before in
@@ -108,7 +108,7 @@ mul-or-div-expr-returns-2 t c =
     fin (no _ _ p3 (test (λ k. eqb (looseness k) 2) p3 (ne-eqb _ _ (λ z. c .if1 .taken (c-looseness .looseness .ensures ∙ ap looseness (c-kind-at .kind-at .ensures) ∙ z))))))
 
 pub mul-or-div-expr-consume-requires : (t : ℕ) → mul-or-div-expr-lts.Need-consume-requires (mul-or-div-expr-calls t) (mul-or-div-expr-at t) mul-or-div-expr.Post mul-or-div-expr-Inv-loop mul-or-div-expr-μ-loop
-mul-or-div-expr-consume-requires t c κs = 
+mul-or-div-expr-consume-requires t c κs =
     let c-loop = c .before .before .before in
     (c-loop .loop .inv) .is .stands
 
@@ -116,26 +116,26 @@ pub mul-or-div-expr-enum-known-passed : (t : ℕ) → mul-or-div-expr-lts.Need-e
 mul-or-div-expr-enum-known-passed t c = search needs
 
 pub mul-or-div-expr-same-length-7 : (t : ℕ) → mul-or-div-expr-lts.Need-same-length-7 (mul-or-div-expr-calls t) (mul-or-div-expr-at t) mul-or-div-expr.Post mul-or-div-expr-Inv-loop mul-or-div-expr-μ-loop
-mul-or-div-expr-same-length-7 t c = 
+mul-or-div-expr-same-length-7 t c =
     let c-loop = c .before .before .before .before .before in
     let c-mod-expr = c-loop .before .before .before .before .before .before .before .before .before .before in
     c-loop .loop .inv .kept .symbols ∙ c-mod-expr .mod-expr .kept .1 .1 .1 .0
 
 pub mul-or-div-expr-same-length-8 : (t : ℕ) → mul-or-div-expr-lts.Need-same-length-8 (mul-or-div-expr-calls t) (mul-or-div-expr-at t) mul-or-div-expr.Post mul-or-div-expr-Inv-loop mul-or-div-expr-μ-loop
-mul-or-div-expr-same-length-8 t c = 
+mul-or-div-expr-same-length-8 t c =
     let c-loop = c .before .before .before .before .before in
     let c-mod-expr = c-loop .before .before .before .before .before .before .before .before .before .before in
     c-loop .loop .inv .kept .head ∙ c-mod-expr .mod-expr .kept .1 .1 .1 .1 .0
 
 pub mul-or-div-expr-same-length-9 : (t : ℕ) → mul-or-div-expr-lts.Need-same-length-9 (mul-or-div-expr-calls t) (mul-or-div-expr-at t) mul-or-div-expr.Post mul-or-div-expr-Inv-loop mul-or-div-expr-μ-loop
-mul-or-div-expr-same-length-9 t c = 
+mul-or-div-expr-same-length-9 t c =
     let c-loop = c .before .before .before .before .before in
     let c-mod-expr = c-loop .before .before .before .before .before .before .before .before .before .before in
     c-loop .loop .inv .kept .load ∙ c-mod-expr .mod-expr .kept .1 .1 .1 .1 .1 .0
 
 pub mul-or-div-expr-returns-3 : (t : ℕ) → mul-or-div-expr-lts.Need-returns-3 (mul-or-div-expr-calls t) (mul-or-div-expr-at t) mul-or-div-expr.Post mul-or-div-expr-Inv-loop mul-or-div-expr-μ-loop
 unfolding operators
-mul-or-div-expr-returns-3 t c = 
+mul-or-div-expr-returns-3 t c =
     let c-consume = c .before in
     let c-if1 = c-consume .before in
     let c-looseness = c-if1 .before in
@@ -153,7 +153,7 @@ mul-or-div-expr-returns-3 t c =
 
 pub mul-or-div-expr-mod-expr-requires-2 : (t : ℕ) → mul-or-div-expr-lts.Need-mod-expr-requires-2 (mul-or-div-expr-calls t) (mul-or-div-expr-at t) mul-or-div-expr.Post mul-or-div-expr-Inv-loop mul-or-div-expr-μ-loop
 unfolding operators
-mul-or-div-expr-mod-expr-requires-2 t c κs = 
+mul-or-div-expr-mod-expr-requires-2 t c κs =
     let c-passed = c .before .before .before .before in
     let c-consume = c-passed .before .before in
     let c-if1 = c-consume .before in
@@ -177,21 +177,21 @@ pub mul-or-div-expr-enum-known-rhs : (t : ℕ) → mul-or-div-expr-lts.Need-enum
 mul-or-div-expr-enum-known-rhs t c = search needs
 
 pub mul-or-div-expr-same-length-10 : (t : ℕ) → mul-or-div-expr-lts.Need-same-length-10 (mul-or-div-expr-calls t) (mul-or-div-expr-at t) mul-or-div-expr.Post mul-or-div-expr-Inv-loop mul-or-div-expr-μ-loop
-mul-or-div-expr-same-length-10 t c = 
+mul-or-div-expr-same-length-10 t c =
     let c-mod-expr2 = c .before .before .before .before .before .before .before in
     let c-loop = c-mod-expr2 .before .before .before .before .before .before .before .before .before .before .before in
     let c-mod-expr = c-loop .before .before .before .before .before .before .before .before .before .before in
     c-mod-expr2 .mod-expr2 .kept .1 .1 .1 .0 ∙ c-loop .loop .inv .kept .symbols ∙ c-mod-expr .mod-expr .kept .1 .1 .1 .0
 
 pub mul-or-div-expr-same-length-11 : (t : ℕ) → mul-or-div-expr-lts.Need-same-length-11 (mul-or-div-expr-calls t) (mul-or-div-expr-at t) mul-or-div-expr.Post mul-or-div-expr-Inv-loop mul-or-div-expr-μ-loop
-mul-or-div-expr-same-length-11 t c = 
+mul-or-div-expr-same-length-11 t c =
     let c-mod-expr2 = c .before .before .before .before .before .before .before in
     let c-loop = c-mod-expr2 .before .before .before .before .before .before .before .before .before .before .before in
     let c-mod-expr = c-loop .before .before .before .before .before .before .before .before .before .before in
     c-mod-expr2 .mod-expr2 .kept .1 .1 .1 .1 .0 ∙ c-loop .loop .inv .kept .head ∙ c-mod-expr .mod-expr .kept .1 .1 .1 .1 .0
 
 pub mul-or-div-expr-same-length-12 : (t : ℕ) → mul-or-div-expr-lts.Need-same-length-12 (mul-or-div-expr-calls t) (mul-or-div-expr-at t) mul-or-div-expr.Post mul-or-div-expr-Inv-loop mul-or-div-expr-μ-loop
-mul-or-div-expr-same-length-12 t c = 
+mul-or-div-expr-same-length-12 t c =
     let c-mod-expr2 = c .before .before .before .before .before .before .before in
     let c-loop = c-mod-expr2 .before .before .before .before .before .before .before .before .before .before .before in
     let c-mod-expr = c-loop .before .before .before .before .before .before .before .before .before .before in
@@ -199,7 +199,7 @@ mul-or-div-expr-same-length-12 t c =
 
 pub mul-or-div-expr-returns-4 : (t : ℕ) → mul-or-div-expr-lts.Need-returns-4 (mul-or-div-expr-calls t) (mul-or-div-expr-at t) mul-or-div-expr.Post mul-or-div-expr-Inv-loop mul-or-div-expr-μ-loop
 unfolding operators
-mul-or-div-expr-returns-4 t c = 
+mul-or-div-expr-returns-4 t c =
     let c-mod-expr2 = c .before .before .before .before .before .before .before in
     let c-passed = c-mod-expr2 .before .before .before .before .before in
     let c-consume = c-passed .before .before in
@@ -219,13 +219,13 @@ mul-or-div-expr-returns-4 t c =
     stop 1 (λ x. levels x 1 (walkers x (start .args .depth) .unary)) _ p5 refl (omega arith) (c-mod-expr2 .mod-expr2 .ensures) (c .match3 .keys2))
 
 pub mul-or-div-expr-cast-push-node : (t : ℕ) → mul-or-div-expr-lts.Need-cast-push-node (mul-or-div-expr-calls t) (mul-or-div-expr-at t) mul-or-div-expr.Post mul-or-div-expr-Inv-loop mul-or-div-expr-μ-loop
-mul-or-div-expr-cast-push-node t c = 
+mul-or-div-expr-cast-push-node t c =
     let c-loop = c .before .before .before .before .before .before .before .before .before .before .before .before .before .before .before .before .before .before .before .before .before .before in
     omega (arith, (c-loop .loop .inv) .is .stands .here, (c-loop .loop .inv) .is .stands .toks .few)
 
 pub mul-or-div-expr-push-node-requires : (t : ℕ) → mul-or-div-expr-lts.Need-push-node-requires (mul-or-div-expr-calls t) (mul-or-div-expr-at t) mul-or-div-expr.Post mul-or-div-expr-Inv-loop mul-or-div-expr-μ-loop
 unfolding operators
-mul-or-div-expr-push-node-requires t c κs = 
+mul-or-div-expr-push-node-requires t c κs =
     let c-rhs = c .before .before .before in
     let c-mod-expr2 = c-rhs .before .before .before .before .before .before .before .before in
     let c-passed = c-mod-expr2 .before .before .before .before .before in
@@ -252,14 +252,14 @@ pub mul-or-div-expr-enum-known-made : (t : ℕ) → mul-or-div-expr-lts.Need-enu
 mul-or-div-expr-enum-known-made t c = search needs
 
 pub mul-or-div-expr-same-length-13 : (t : ℕ) → mul-or-div-expr-lts.Need-same-length-13 (mul-or-div-expr-calls t) (mul-or-div-expr-at t) mul-or-div-expr.Post mul-or-div-expr-Inv-loop mul-or-div-expr-μ-loop
-mul-or-div-expr-same-length-13 t c = 
+mul-or-div-expr-same-length-13 t c =
     let c-mod-expr2 = c .before .before .before .before .before .before .before .before .before .before .before .before .before .before .before .before .before in
     let c-loop = c-mod-expr2 .before .before .before .before .before .before .before .before .before .before .before in
     let c-mod-expr = c-loop .before .before .before .before .before .before .before .before .before .before in
     c-mod-expr2 .mod-expr2 .kept .1 .1 .1 .0 ∙ c-loop .loop .inv .kept .symbols ∙ c-mod-expr .mod-expr .kept .1 .1 .1 .0
 
 pub mul-or-div-expr-same-length-14 : (t : ℕ) → mul-or-div-expr-lts.Need-same-length-14 (mul-or-div-expr-calls t) (mul-or-div-expr-at t) mul-or-div-expr.Post mul-or-div-expr-Inv-loop mul-or-div-expr-μ-loop
-mul-or-div-expr-same-length-14 t c = 
+mul-or-div-expr-same-length-14 t c =
     let c-push-node = c .before .before .before .before .before in
     let c-mod-expr2 = c-push-node .before .before .before .before .before .before .before .before .before .before .before .before in
     let c-loop = c-mod-expr2 .before .before .before .before .before .before .before .before .before .before .before in
@@ -267,7 +267,7 @@ mul-or-div-expr-same-length-14 t c =
     c-push-node .push-node .kept .0 ∙ c-mod-expr2 .mod-expr2 .kept .1 .1 .1 .1 .0 ∙ c-loop .loop .inv .kept .head ∙ c-mod-expr .mod-expr .kept .1 .1 .1 .1 .0
 
 pub mul-or-div-expr-same-length-15 : (t : ℕ) → mul-or-div-expr-lts.Need-same-length-15 (mul-or-div-expr-calls t) (mul-or-div-expr-at t) mul-or-div-expr.Post mul-or-div-expr-Inv-loop mul-or-div-expr-μ-loop
-mul-or-div-expr-same-length-15 t c = 
+mul-or-div-expr-same-length-15 t c =
     let c-push-node = c .before .before .before .before .before in
     let c-mod-expr2 = c-push-node .before .before .before .before .before .before .before .before .before .before .before .before in
     let c-loop = c-mod-expr2 .before .before .before .before .before .before .before .before .before .before .before in
@@ -276,7 +276,7 @@ mul-or-div-expr-same-length-15 t c =
 
 pub mul-or-div-expr-returns-5 : (t : ℕ) → mul-or-div-expr-lts.Need-returns-5 (mul-or-div-expr-calls t) (mul-or-div-expr-at t) mul-or-div-expr.Post mul-or-div-expr-Inv-loop mul-or-div-expr-μ-loop
 unfolding operators
-mul-or-div-expr-returns-5 t c = 
+mul-or-div-expr-returns-5 t c =
     let c-push-node = c .before .before .before .before .before in
     let c-rhs = c-push-node .before .before .before .before in
     let c-mod-expr2 = c-rhs .before .before .before .before .before .before .before .before in
@@ -300,7 +300,7 @@ mul-or-div-expr-returns-5 t c =
 
 pub mul-or-div-expr-loop-less : (t : ℕ) → mul-or-div-expr-lts.Need-loop-less (mul-or-div-expr-calls t) (mul-or-div-expr-at t) mul-or-div-expr.Post mul-or-div-expr-Inv-loop mul-or-div-expr-μ-loop
 unfolding operators
-mul-or-div-expr-loop-less t c = 
+mul-or-div-expr-loop-less t c =
     let c-made = c .before in
     let c-push-node = c-made .before .before .before .before .before .before in
     let c-rhs = c-push-node .before .before .before .before in
@@ -328,7 +328,7 @@ mul-or-div-expr-loop-less t c =
 
 pub mul-or-div-expr-loop-again : (t : ℕ) → mul-or-div-expr-lts.Need-loop-again (mul-or-div-expr-calls t) (mul-or-div-expr-at t) mul-or-div-expr.Post mul-or-div-expr-Inv-loop mul-or-div-expr-μ-loop
 unfolding operators
-mul-or-div-expr-loop-again t c = 
+mul-or-div-expr-loop-again t c =
     let c-made = c .before in
     let c-push-node = c-made .before .before .before .before .before .before in
     let c-rhs = c-push-node .before .before .before .before in

@@ -28,7 +28,7 @@ abbrev pub or-expr-μ-loop : or-expr-lts.MeasureT-loop
 or-expr-μ-loop script offs words symbols₀ head₀ load₀ lim depth x₀ symbols head load x = length words - x .at
 
 pub or-expr-and-expr-requires : (t : ℕ) → or-expr-lts.Need-and-expr-requires (or-expr-calls t) (or-expr-at t) or-expr.Post or-expr-Inv-loop or-expr-μ-loop
-or-expr-and-expr-requires t c κs = 
+or-expr-and-expr-requires t c κs =
     let start = c .before .before .before .before .before .before .before .before .before in
     (omega (arith, start .pre .0), start .pre .1)
 
@@ -36,29 +36,29 @@ pub or-expr-enum-known-lhs : (t : ℕ) → or-expr-lts.Need-enum-known-lhs (or-e
 or-expr-enum-known-lhs t c = search needs
 
 pub or-expr-same-length : (t : ℕ) → or-expr-lts.Need-same-length (or-expr-calls t) (or-expr-at t) or-expr.Post or-expr-Inv-loop or-expr-μ-loop
-or-expr-same-length t c = 
+or-expr-same-length t c =
     let c-and-expr = c .before .before .before .before .before .before .before in
     c-and-expr .and-expr .kept .1 .1 .1 .0
 
 pub or-expr-same-length-2 : (t : ℕ) → or-expr-lts.Need-same-length-2 (or-expr-calls t) (or-expr-at t) or-expr.Post or-expr-Inv-loop or-expr-μ-loop
-or-expr-same-length-2 t c = 
+or-expr-same-length-2 t c =
     let c-and-expr = c .before .before .before .before .before .before .before in
     c-and-expr .and-expr .kept .1 .1 .1 .1 .0
 
 pub or-expr-same-length-3 : (t : ℕ) → or-expr-lts.Need-same-length-3 (or-expr-calls t) (or-expr-at t) or-expr.Post or-expr-Inv-loop or-expr-μ-loop
-or-expr-same-length-3 t c = 
+or-expr-same-length-3 t c =
     let c-and-expr = c .before .before .before .before .before .before .before in
     c-and-expr .and-expr .kept .1 .1 .1 .1 .1 .0
 
 pub or-expr-returns : (t : ℕ) → or-expr-lts.Need-returns (or-expr-calls t) (or-expr-at t) or-expr.Post or-expr-Inv-loop or-expr-μ-loop
-or-expr-returns t c = 
+or-expr-returns t c =
     let c-and-expr = c .before .before .before .before .before .before .before in
     let start = c-and-expr .before .before .before .before .before .before .before .before .before .before in
     gives (λ E e. let p0 = by (begin 1 (λ x. levels x 7 (walkers x (start .args .depth) .unary)) E e (start .pre .1)) (level-step _ 6 _ _) in
     stop 1 (λ x. levels x 6 (walkers x (start .args .depth) .unary)) _ p0 refl (omega arith) (c-and-expr .and-expr .ensures) (c .match .keys2))
 
 pub or-expr-loop-holds : (t : ℕ) → or-expr-lts.Need-loop-holds (or-expr-calls t) (or-expr-at t) or-expr.Post or-expr-Inv-loop or-expr-μ-loop
-or-expr-loop-holds t c = 
+or-expr-loop-holds t c =
     let c-lhs = c .before in
     let c-and-expr = c-lhs .before .before .before .before .before .before .before .before in
     let start = c-and-expr .before .before .before .before .before .before .before .before .before .before in
@@ -75,26 +75,26 @@ pub or-expr-looseness-requires : (t : ℕ) → or-expr-lts.Need-looseness-requir
 or-expr-looseness-requires t c κs = search needs
 
 pub or-expr-same-length-4 : (t : ℕ) → or-expr-lts.Need-same-length-4 (or-expr-calls t) (or-expr-at t) or-expr.Post or-expr-Inv-loop or-expr-μ-loop
-or-expr-same-length-4 t c = 
+or-expr-same-length-4 t c =
     let c-loop = c .before .before .before in
     let c-and-expr = c-loop .before .before .before .before .before .before .before .before .before .before in
     c-loop .loop .inv .kept .symbols ∙ c-and-expr .and-expr .kept .1 .1 .1 .0
 
 pub or-expr-same-length-5 : (t : ℕ) → or-expr-lts.Need-same-length-5 (or-expr-calls t) (or-expr-at t) or-expr.Post or-expr-Inv-loop or-expr-μ-loop
-or-expr-same-length-5 t c = 
+or-expr-same-length-5 t c =
     let c-loop = c .before .before .before in
     let c-and-expr = c-loop .before .before .before .before .before .before .before .before .before .before in
     c-loop .loop .inv .kept .head ∙ c-and-expr .and-expr .kept .1 .1 .1 .1 .0
 
 pub or-expr-same-length-6 : (t : ℕ) → or-expr-lts.Need-same-length-6 (or-expr-calls t) (or-expr-at t) or-expr.Post or-expr-Inv-loop or-expr-μ-loop
-or-expr-same-length-6 t c = 
+or-expr-same-length-6 t c =
     let c-loop = c .before .before .before in
     let c-and-expr = c-loop .before .before .before .before .before .before .before .before .before .before in
     c-loop .loop .inv .kept .load ∙ c-and-expr .and-expr .kept .1 .1 .1 .1 .1 .0
 
 pub or-expr-returns-2 : (t : ℕ) → or-expr-lts.Need-returns-2 (or-expr-calls t) (or-expr-at t) or-expr.Post or-expr-Inv-loop or-expr-μ-loop
 unfolding operators
-or-expr-returns-2 t c = 
+or-expr-returns-2 t c =
     let c-looseness = c .before in
     let c-kind-at = c-looseness .before in
     let c-loop = c-kind-at .before in
@@ -108,7 +108,7 @@ or-expr-returns-2 t c =
     fin (no _ _ p3 (test (λ k. eqb (looseness k) 7) p3 (ne-eqb _ _ (λ z. c .if1 .taken (c-looseness .looseness .ensures ∙ ap looseness (c-kind-at .kind-at .ensures) ∙ z))))))
 
 pub or-expr-consume-requires : (t : ℕ) → or-expr-lts.Need-consume-requires (or-expr-calls t) (or-expr-at t) or-expr.Post or-expr-Inv-loop or-expr-μ-loop
-or-expr-consume-requires t c κs = 
+or-expr-consume-requires t c κs =
     let c-loop = c .before .before .before in
     (c-loop .loop .inv) .is .stands
 
@@ -116,26 +116,26 @@ pub or-expr-enum-known-passed : (t : ℕ) → or-expr-lts.Need-enum-known-passed
 or-expr-enum-known-passed t c = search needs
 
 pub or-expr-same-length-7 : (t : ℕ) → or-expr-lts.Need-same-length-7 (or-expr-calls t) (or-expr-at t) or-expr.Post or-expr-Inv-loop or-expr-μ-loop
-or-expr-same-length-7 t c = 
+or-expr-same-length-7 t c =
     let c-loop = c .before .before .before .before .before in
     let c-and-expr = c-loop .before .before .before .before .before .before .before .before .before .before in
     c-loop .loop .inv .kept .symbols ∙ c-and-expr .and-expr .kept .1 .1 .1 .0
 
 pub or-expr-same-length-8 : (t : ℕ) → or-expr-lts.Need-same-length-8 (or-expr-calls t) (or-expr-at t) or-expr.Post or-expr-Inv-loop or-expr-μ-loop
-or-expr-same-length-8 t c = 
+or-expr-same-length-8 t c =
     let c-loop = c .before .before .before .before .before in
     let c-and-expr = c-loop .before .before .before .before .before .before .before .before .before .before in
     c-loop .loop .inv .kept .head ∙ c-and-expr .and-expr .kept .1 .1 .1 .1 .0
 
 pub or-expr-same-length-9 : (t : ℕ) → or-expr-lts.Need-same-length-9 (or-expr-calls t) (or-expr-at t) or-expr.Post or-expr-Inv-loop or-expr-μ-loop
-or-expr-same-length-9 t c = 
+or-expr-same-length-9 t c =
     let c-loop = c .before .before .before .before .before in
     let c-and-expr = c-loop .before .before .before .before .before .before .before .before .before .before in
     c-loop .loop .inv .kept .load ∙ c-and-expr .and-expr .kept .1 .1 .1 .1 .1 .0
 
 pub or-expr-returns-3 : (t : ℕ) → or-expr-lts.Need-returns-3 (or-expr-calls t) (or-expr-at t) or-expr.Post or-expr-Inv-loop or-expr-μ-loop
 unfolding operators
-or-expr-returns-3 t c = 
+or-expr-returns-3 t c =
     let c-consume = c .before in
     let c-if1 = c-consume .before in
     let c-looseness = c-if1 .before in
@@ -153,7 +153,7 @@ or-expr-returns-3 t c =
 
 pub or-expr-and-expr-requires-2 : (t : ℕ) → or-expr-lts.Need-and-expr-requires-2 (or-expr-calls t) (or-expr-at t) or-expr.Post or-expr-Inv-loop or-expr-μ-loop
 unfolding operators
-or-expr-and-expr-requires-2 t c κs = 
+or-expr-and-expr-requires-2 t c κs =
     let c-passed = c .before .before .before .before in
     let c-consume = c-passed .before .before in
     let c-if1 = c-consume .before in
@@ -177,21 +177,21 @@ pub or-expr-enum-known-rhs : (t : ℕ) → or-expr-lts.Need-enum-known-rhs (or-e
 or-expr-enum-known-rhs t c = search needs
 
 pub or-expr-same-length-10 : (t : ℕ) → or-expr-lts.Need-same-length-10 (or-expr-calls t) (or-expr-at t) or-expr.Post or-expr-Inv-loop or-expr-μ-loop
-or-expr-same-length-10 t c = 
+or-expr-same-length-10 t c =
     let c-and-expr2 = c .before .before .before .before .before .before .before in
     let c-loop = c-and-expr2 .before .before .before .before .before .before .before .before .before .before .before in
     let c-and-expr = c-loop .before .before .before .before .before .before .before .before .before .before in
     c-and-expr2 .and-expr2 .kept .1 .1 .1 .0 ∙ c-loop .loop .inv .kept .symbols ∙ c-and-expr .and-expr .kept .1 .1 .1 .0
 
 pub or-expr-same-length-11 : (t : ℕ) → or-expr-lts.Need-same-length-11 (or-expr-calls t) (or-expr-at t) or-expr.Post or-expr-Inv-loop or-expr-μ-loop
-or-expr-same-length-11 t c = 
+or-expr-same-length-11 t c =
     let c-and-expr2 = c .before .before .before .before .before .before .before in
     let c-loop = c-and-expr2 .before .before .before .before .before .before .before .before .before .before .before in
     let c-and-expr = c-loop .before .before .before .before .before .before .before .before .before .before in
     c-and-expr2 .and-expr2 .kept .1 .1 .1 .1 .0 ∙ c-loop .loop .inv .kept .head ∙ c-and-expr .and-expr .kept .1 .1 .1 .1 .0
 
 pub or-expr-same-length-12 : (t : ℕ) → or-expr-lts.Need-same-length-12 (or-expr-calls t) (or-expr-at t) or-expr.Post or-expr-Inv-loop or-expr-μ-loop
-or-expr-same-length-12 t c = 
+or-expr-same-length-12 t c =
     let c-and-expr2 = c .before .before .before .before .before .before .before in
     let c-loop = c-and-expr2 .before .before .before .before .before .before .before .before .before .before .before in
     let c-and-expr = c-loop .before .before .before .before .before .before .before .before .before .before in
@@ -199,7 +199,7 @@ or-expr-same-length-12 t c =
 
 pub or-expr-returns-4 : (t : ℕ) → or-expr-lts.Need-returns-4 (or-expr-calls t) (or-expr-at t) or-expr.Post or-expr-Inv-loop or-expr-μ-loop
 unfolding operators
-or-expr-returns-4 t c = 
+or-expr-returns-4 t c =
     let c-and-expr2 = c .before .before .before .before .before .before .before in
     let c-passed = c-and-expr2 .before .before .before .before .before in
     let c-consume = c-passed .before .before in
@@ -219,13 +219,13 @@ or-expr-returns-4 t c =
     stop 1 (λ x. levels x 6 (walkers x (start .args .depth) .unary)) _ p5 refl (omega arith) (c-and-expr2 .and-expr2 .ensures) (c .match3 .keys2))
 
 pub or-expr-cast-push-node : (t : ℕ) → or-expr-lts.Need-cast-push-node (or-expr-calls t) (or-expr-at t) or-expr.Post or-expr-Inv-loop or-expr-μ-loop
-or-expr-cast-push-node t c = 
+or-expr-cast-push-node t c =
     let c-loop = c .before .before .before .before .before .before .before .before .before .before .before .before .before .before .before .before .before .before .before .before .before .before in
     omega (arith, (c-loop .loop .inv) .is .stands .here, (c-loop .loop .inv) .is .stands .toks .few)
 
 pub or-expr-push-node-requires : (t : ℕ) → or-expr-lts.Need-push-node-requires (or-expr-calls t) (or-expr-at t) or-expr.Post or-expr-Inv-loop or-expr-μ-loop
 unfolding operators
-or-expr-push-node-requires t c κs = 
+or-expr-push-node-requires t c κs =
     let c-rhs = c .before .before .before in
     let c-and-expr2 = c-rhs .before .before .before .before .before .before .before .before in
     let c-passed = c-and-expr2 .before .before .before .before .before in
@@ -252,14 +252,14 @@ pub or-expr-enum-known-made : (t : ℕ) → or-expr-lts.Need-enum-known-made (or
 or-expr-enum-known-made t c = search needs
 
 pub or-expr-same-length-13 : (t : ℕ) → or-expr-lts.Need-same-length-13 (or-expr-calls t) (or-expr-at t) or-expr.Post or-expr-Inv-loop or-expr-μ-loop
-or-expr-same-length-13 t c = 
+or-expr-same-length-13 t c =
     let c-and-expr2 = c .before .before .before .before .before .before .before .before .before .before .before .before .before .before .before .before .before in
     let c-loop = c-and-expr2 .before .before .before .before .before .before .before .before .before .before .before in
     let c-and-expr = c-loop .before .before .before .before .before .before .before .before .before .before in
     c-and-expr2 .and-expr2 .kept .1 .1 .1 .0 ∙ c-loop .loop .inv .kept .symbols ∙ c-and-expr .and-expr .kept .1 .1 .1 .0
 
 pub or-expr-same-length-14 : (t : ℕ) → or-expr-lts.Need-same-length-14 (or-expr-calls t) (or-expr-at t) or-expr.Post or-expr-Inv-loop or-expr-μ-loop
-or-expr-same-length-14 t c = 
+or-expr-same-length-14 t c =
     let c-push-node = c .before .before .before .before .before in
     let c-and-expr2 = c-push-node .before .before .before .before .before .before .before .before .before .before .before .before in
     let c-loop = c-and-expr2 .before .before .before .before .before .before .before .before .before .before .before in
@@ -267,7 +267,7 @@ or-expr-same-length-14 t c =
     c-push-node .push-node .kept .0 ∙ c-and-expr2 .and-expr2 .kept .1 .1 .1 .1 .0 ∙ c-loop .loop .inv .kept .head ∙ c-and-expr .and-expr .kept .1 .1 .1 .1 .0
 
 pub or-expr-same-length-15 : (t : ℕ) → or-expr-lts.Need-same-length-15 (or-expr-calls t) (or-expr-at t) or-expr.Post or-expr-Inv-loop or-expr-μ-loop
-or-expr-same-length-15 t c = 
+or-expr-same-length-15 t c =
     let c-push-node = c .before .before .before .before .before in
     let c-and-expr2 = c-push-node .before .before .before .before .before .before .before .before .before .before .before .before in
     let c-loop = c-and-expr2 .before .before .before .before .before .before .before .before .before .before .before in
@@ -276,7 +276,7 @@ or-expr-same-length-15 t c =
 
 pub or-expr-returns-5 : (t : ℕ) → or-expr-lts.Need-returns-5 (or-expr-calls t) (or-expr-at t) or-expr.Post or-expr-Inv-loop or-expr-μ-loop
 unfolding operators
-or-expr-returns-5 t c = 
+or-expr-returns-5 t c =
     let c-push-node = c .before .before .before .before .before in
     let c-rhs = c-push-node .before .before .before .before in
     let c-and-expr2 = c-rhs .before .before .before .before .before .before .before .before in
@@ -300,7 +300,7 @@ or-expr-returns-5 t c =
 
 pub or-expr-loop-less : (t : ℕ) → or-expr-lts.Need-loop-less (or-expr-calls t) (or-expr-at t) or-expr.Post or-expr-Inv-loop or-expr-μ-loop
 unfolding operators
-or-expr-loop-less t c = 
+or-expr-loop-less t c =
     let c-made = c .before in
     let c-push-node = c-made .before .before .before .before .before .before in
     let c-rhs = c-push-node .before .before .before .before in
@@ -328,7 +328,7 @@ or-expr-loop-less t c =
 
 pub or-expr-loop-again : (t : ℕ) → or-expr-lts.Need-loop-again (or-expr-calls t) (or-expr-at t) or-expr.Post or-expr-Inv-loop or-expr-μ-loop
 unfolding operators
-or-expr-loop-again t c = 
+or-expr-loop-again t c =
     let c-made = c .before in
     let c-push-node = c-made .before .before .before .before .before .before in
     let c-rhs = c-push-node .before .before .before .before in

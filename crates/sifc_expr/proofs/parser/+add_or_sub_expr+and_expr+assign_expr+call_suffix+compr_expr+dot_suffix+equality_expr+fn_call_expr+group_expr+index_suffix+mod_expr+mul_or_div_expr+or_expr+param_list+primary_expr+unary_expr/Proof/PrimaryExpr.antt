@@ -22,7 +22,7 @@ use Rattle.sifc_expr.proofs.Loops.{assign-step, unary-step, call-step, 
 use Rattle.sifc_expr.proofs.parser.+add_or_sub_expr+and_expr+assign_expr+call_suffix+compr_expr+dot_suffix+equality_expr+fn_call_expr+group_expr+index_suffix+mod_expr+mul_or_div_expr+or_expr+param_list+primary_expr+unary_expr.Proof.Base.{primary-expr-at, primary-expr-calls}
 
 pub primary-expr-kind-at-requires : (t : ℕ) → primary-expr-lts.Need-kind-at-requires (primary-expr-calls t) (primary-expr-at t) primary-expr.Post
-primary-expr-kind-at-requires t c κs = 
+primary-expr-kind-at-requires t c κs =
     let start = c .before .before .before .before .before .before in
     start .pre .1 .stands .here
 
@@ -30,23 +30,23 @@ pub primary-expr-is-literal-requires : (t : ℕ) → primary-expr-lts.Need-is-li
 primary-expr-is-literal-requires t c κs = search needs
 
 pub primary-expr-literal-requires : (t : ℕ) → primary-expr-lts.Need-literal-requires (primary-expr-calls t) (primary-expr-at t) primary-expr.Post
-primary-expr-literal-requires t c κs = 
+primary-expr-literal-requires t c κs =
     let start = c .before .before .before .before .before .before .before .before .before .before .before in
     (start .pre .1 .stands, start .pre .1 .even, start .pre .1 .used)
 
 pub primary-expr-same-length : (t : ℕ) → primary-expr-lts.Need-same-length (primary-expr-calls t) (primary-expr-at t) primary-expr.Post
-primary-expr-same-length t c = 
+primary-expr-same-length t c =
     let c-literal = c .before .before .before .before in
     c-literal .literal .kept .1 .1 .0
 
 pub primary-expr-same-length-2 : (t : ℕ) → primary-expr-lts.Need-same-length-2 (primary-expr-calls t) (primary-expr-at t) primary-expr.Post
-primary-expr-same-length-2 t c = 
+primary-expr-same-length-2 t c =
     let c-literal = c .before .before .before .before in
     c-literal .literal .kept .1 .1 .1 .0
 
 pub primary-expr-returns : (t : ℕ) → primary-expr-lts.Need-returns (primary-expr-calls t) (primary-expr-at t) primary-expr.Post
 unfolding primaryExpr
-primary-expr-returns t c = 
+primary-expr-returns t c =
     let c-literal = c .before .before .before .before in
     let c-if1 = c-literal .before .before .before in
     let c-is-literal = c-if1 .before in
@@ -57,30 +57,30 @@ primary-expr-returns t c =
     last 1 (λ x. literal x (start .args .w .at)) (yes _ _ p1 (test isLiteral p1 (ap isLiteral (sym (c-kind-at .kind-at .ensures)) ∙ sym (c-is-literal .is-literal .ensures) ∙ c-if1 .if1 .taken))) refl (omega arith) (literally (start .pre .1) (c-literal .literal .ensures) (not-eof isLiteral (ap isLiteral (sym (c-kind-at .kind-at .ensures)) ∙ sym (c-is-literal .is-literal .ensures) ∙ c-if1 .if1 .taken) literal-eof)))
 
 pub primary-expr-ident-expr-requires : (t : ℕ) → primary-expr-lts.Need-ident-expr-requires (primary-expr-calls t) (primary-expr-at t) primary-expr.Post
-primary-expr-ident-expr-requires t c κs = 
+primary-expr-ident-expr-requires t c κs =
     let c-if2 = c .before .before .before in
     let c-kind-at = c-if2 .before .before .before in
     let start = c-kind-at .before .before .before .before .before .before .before in
     (start .pre .1, not-eof (λ k. eqb k 31) (eq-eqb _ _ (sym (c-kind-at .kind-at .ensures) ∙ c-if2 .if2 .taken)) refl)
 
 pub primary-expr-same-length-3 : (t : ℕ) → primary-expr-lts.Need-same-length-3 (primary-expr-calls t) (primary-expr-at t) primary-expr.Post
-primary-expr-same-length-3 t c = 
+primary-expr-same-length-3 t c =
     let c-ident-expr = c .before .before .before .before .before .before in
     c-ident-expr .ident-expr .kept .1 .1 .1 .0
 
 pub primary-expr-same-length-4 : (t : ℕ) → primary-expr-lts.Need-same-length-4 (primary-expr-calls t) (primary-expr-at t) primary-expr.Post
-primary-expr-same-length-4 t c = 
+primary-expr-same-length-4 t c =
     let c-ident-expr = c .before .before .before .before .before .before in
     c-ident-expr .ident-expr .kept .1 .1 .1 .1 .0
 
 pub primary-expr-same-length-5 : (t : ℕ) → primary-expr-lts.Need-same-length-5 (primary-expr-calls t) (primary-expr-at t) primary-expr.Post
-primary-expr-same-length-5 t c = 
+primary-expr-same-length-5 t c =
     let c-ident-expr = c .before .before .before .before .before .before in
     c-ident-expr .ident-expr .kept .1 .1 .1 .1 .1 .0
 
 pub primary-expr-returns-2 : (t : ℕ) → primary-expr-lts.Need-returns-2 (primary-expr-calls t) (primary-expr-at t) primary-expr.Post
 unfolding primaryExpr
-primary-expr-returns-2 t c = 
+primary-expr-returns-2 t c =
     let c-ident-expr = c .before .before .before .before .before .before in
     let c-if2 = c-ident-expr .before .before .before .before in
     let c-if1 = c-if2 .before in
@@ -93,28 +93,28 @@ primary-expr-returns-2 t c =
     last 1 (λ x. identExpr x (start .args .w .at)) (yes _ _ n1 (test (λ k. eqb k 31) n1 (eq-eqb _ _ (sym (c-kind-at .kind-at .ensures) ∙ c-if2 .if2 .taken)))) refl (omega arith) (c-ident-expr .ident-expr .ensures))
 
 pub primary-expr-group-expr-requires : (t : ℕ) → primary-expr-lts.Need-group-expr-requires (primary-expr-calls t) (primary-expr-at t) primary-expr.Post
-primary-expr-group-expr-requires t c κs = 
+primary-expr-group-expr-requires t c κs =
     let start = c .before .before .before .before .before .before .before .before .before .before .before .before .before .before in
     (omega (arith, start .pre .0), start .pre .1)
 
 pub primary-expr-same-length-6 : (t : ℕ) → primary-expr-lts.Need-same-length-6 (primary-expr-calls t) (primary-expr-at t) primary-expr.Post
-primary-expr-same-length-6 t c = 
+primary-expr-same-length-6 t c =
     let c-group-expr = c .before .before .before .before .before .before in
     c-group-expr .group-expr .kept .1 .1 .1 .0
 
 pub primary-expr-same-length-7 : (t : ℕ) → primary-expr-lts.Need-same-length-7 (primary-expr-calls t) (primary-expr-at t) primary-expr.Post
-primary-expr-same-length-7 t c = 
+primary-expr-same-length-7 t c =
     let c-group-expr = c .before .before .before .before .before .before in
     c-group-expr .group-expr .kept .1 .1 .1 .1 .0
 
 pub primary-expr-same-length-8 : (t : ℕ) → primary-expr-lts.Need-same-length-8 (primary-expr-calls t) (primary-expr-at t) primary-expr.Post
-primary-expr-same-length-8 t c = 
+primary-expr-same-length-8 t c =
     let c-group-expr = c .before .before .before .before .before .before in
     c-group-expr .group-expr .kept .1 .1 .1 .1 .1 .0
 
 pub primary-expr-returns-3 : (t : ℕ) → primary-expr-lts.Need-returns-3 (primary-expr-calls t) (primary-expr-at t) primary-expr.Post
 unfolding primaryExpr
-primary-expr-returns-3 t c = 
+primary-expr-returns-3 t c =
     let c-group-expr = c .before .before .before .before .before .before in
     let c-if3 = c-group-expr .before .before .before .before in
     let c-if2 = c-if3 .before in
@@ -129,13 +129,13 @@ primary-expr-returns-3 t c =
     last 1 (λ x. groupExpr x (walkers x (start .args .depth))) (yes _ _ n2 (test (λ k. eqb k 1) n2 (eq-eqb _ _ (sym (c-kind-at .kind-at .ensures) ∙ c-if3 .if3 .taken)))) refl (omega arith) (c-group-expr .group-expr .ensures))
 
 pub primary-expr-throw-past-requires : (t : ℕ) → primary-expr-lts.Need-throw-past-requires (primary-expr-calls t) (primary-expr-at t) primary-expr.Post
-primary-expr-throw-past-requires t c κs = 
+primary-expr-throw-past-requires t c κs =
     let start = c .before .before .before .before .before .before .before .before .before .before .before .before in
     (start .pre .1 .stands, refl)
 
 pub primary-expr-returns-4 : (t : ℕ) → primary-expr-lts.Need-returns-4 (primary-expr-calls t) (primary-expr-at t) primary-expr.Post
 unfolding primaryExpr
-primary-expr-returns-4 t c = 
+primary-expr-returns-4 t c =
     let c-if4 = c .before in
     let c-if3 = c-if4 .before in
     let c-if2 = c-if3 .before in
@@ -151,7 +151,7 @@ primary-expr-returns-4 t c =
     last 1 (λ x. throwPast x (InvalidTkn (start .args .w .at))) (no _ _ n3 (test (λ k. eqb k 21) n3 (ne-eqb _ _ (λ z. c-if4 .if4 .taken (c-kind-at .kind-at .ensures ∙ z))))) refl (omega arith) (passed-over (start .pre .1) (c .throw-past .ensures)))
 
 pub primary-expr-consume-requires : (t : ℕ) → primary-expr-lts.Need-consume-requires (primary-expr-calls t) (primary-expr-at t) primary-expr.Post
-primary-expr-consume-requires t c κs = 
+primary-expr-consume-requires t c κs =
     let start = c .before .before .before .before .before .before .before .before .before .before .before .before in
     start .pre .1 .stands
 
@@ -160,7 +160,7 @@ primary-expr-enum-known-passed t c = search needs
 
 pub primary-expr-returns-5 : (t : ℕ) → primary-expr-lts.Need-returns-5 (primary-expr-calls t) (primary-expr-at t) primary-expr.Post
 unfolding primaryExpr atExpr
-primary-expr-returns-5 t c = 
+primary-expr-returns-5 t c =
     let c-consume = c .before in
     let c-if4 = c-consume .before in
     let c-if3 = c-if4 .before in
@@ -179,7 +179,7 @@ primary-expr-returns-5 t c =
 
 pub primary-expr-fn-call-expr-requires : (t : ℕ) → primary-expr-lts.Need-fn-call-expr-requires (primary-expr-calls t) (primary-expr-at t) primary-expr.Post
 unfolding primaryExpr atExpr
-primary-expr-fn-call-expr-requires t c κs = 
+primary-expr-fn-call-expr-requires t c κs =
     let c-passed = c .before .before .before .before in
     let c-consume = c-passed .before .before in
     let c-if4 = c-consume .before in
@@ -201,23 +201,23 @@ primary-expr-fn-call-expr-requires t c κs =
     (omega (arith, start .pre .0), a1 .is)
 
 pub primary-expr-same-length-9 : (t : ℕ) → primary-expr-lts.Need-same-length-9 (primary-expr-calls t) (primary-expr-at t) primary-expr.Post
-primary-expr-same-length-9 t c = 
+primary-expr-same-length-9 t c =
     let c-fn-call-expr = c .before .before .before .before .before .before in
     c-fn-call-expr .fn-call-expr .kept .1 .1 .1 .0
 
 pub primary-expr-same-length-10 : (t : ℕ) → primary-expr-lts.Need-same-length-10 (primary-expr-calls t) (primary-expr-at t) primary-expr.Post
-primary-expr-same-length-10 t c = 
+primary-expr-same-length-10 t c =
     let c-fn-call-expr = c .before .before .before .before .before .before in
     c-fn-call-expr .fn-call-expr .kept .1 .1 .1 .1 .0
 
 pub primary-expr-same-length-11 : (t : ℕ) → primary-expr-lts.Need-same-length-11 (primary-expr-calls t) (primary-expr-at t) primary-expr.Post
-primary-expr-same-length-11 t c = 
+primary-expr-same-length-11 t c =
     let c-fn-call-expr = c .before .before .before .before .before .before in
     c-fn-call-expr .fn-call-expr .kept .1 .1 .1 .1 .1 .0
 
 pub primary-expr-returns-6 : (t : ℕ) → primary-expr-lts.Need-returns-6 (primary-expr-calls t) (primary-expr-at t) primary-expr.Post
 unfolding primaryExpr atExpr
-primary-expr-returns-6 t c = 
+primary-expr-returns-6 t c =
     let c-fn-call-expr = c .before .before .before .before .before .before in
     let c-passed = c-fn-call-expr .before .before .before .before .before in
     let c-consume = c-passed .before .before in

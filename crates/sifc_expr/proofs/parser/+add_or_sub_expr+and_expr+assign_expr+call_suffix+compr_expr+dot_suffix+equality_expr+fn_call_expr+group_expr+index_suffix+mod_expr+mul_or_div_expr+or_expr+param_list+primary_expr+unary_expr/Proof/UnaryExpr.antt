@@ -28,7 +28,7 @@ pub unary-expr-sub-below : (t : ℕ) → unary-expr-lts.Need-sub-below (unary-ex
 unary-expr-sub-below t c = omega (arith, c .if1 .left)
 
 pub unary-expr-kind-at-requires : (t : ℕ) → unary-expr-lts.Need-kind-at-requires (unary-expr-calls t) (unary-expr-at t) unary-expr.Post
-unary-expr-kind-at-requires t c κs = 
+unary-expr-kind-at-requires t c κs =
     let start = c .before .before .before .before .before .before .before in
     start .pre .1 .stands .here
 
@@ -36,29 +36,29 @@ pub unary-expr-is-unary-requires : (t : ℕ) → unary-expr-lts.Need-is-unary-re
 unary-expr-is-unary-requires t c κs = search needs
 
 pub unary-expr-fn-call-expr-requires : (t : ℕ) → unary-expr-lts.Need-fn-call-expr-requires (unary-expr-calls t) (unary-expr-at t) unary-expr.Post
-unary-expr-fn-call-expr-requires t c κs = 
+unary-expr-fn-call-expr-requires t c κs =
     let c-if1 = c .before .before .before .before .before .before in
     let start = c-if1 .before .before .before .before .before .before .before in
     (omega (arith, start .pre .0, c-if1 .if1 .left), start .pre .1)
 
 pub unary-expr-same-length : (t : ℕ) → unary-expr-lts.Need-same-length (unary-expr-calls t) (unary-expr-at t) unary-expr.Post
-unary-expr-same-length t c = 
+unary-expr-same-length t c =
     let c-fn-call-expr = c .before .before .before .before .before .before in
     c-fn-call-expr .fn-call-expr .kept .1 .1 .1 .0
 
 pub unary-expr-same-length-2 : (t : ℕ) → unary-expr-lts.Need-same-length-2 (unary-expr-calls t) (unary-expr-at t) unary-expr.Post
-unary-expr-same-length-2 t c = 
+unary-expr-same-length-2 t c =
     let c-fn-call-expr = c .before .before .before .before .before .before in
     c-fn-call-expr .fn-call-expr .kept .1 .1 .1 .1 .0
 
 pub unary-expr-same-length-3 : (t : ℕ) → unary-expr-lts.Need-same-length-3 (unary-expr-calls t) (unary-expr-at t) unary-expr.Post
-unary-expr-same-length-3 t c = 
+unary-expr-same-length-3 t c =
     let c-fn-call-expr = c .before .before .before .before .before .before in
     c-fn-call-expr .fn-call-expr .kept .1 .1 .1 .1 .1 .0
 
 pub unary-expr-returns-2 : (t : ℕ) → unary-expr-lts.Need-returns-2 (unary-expr-calls t) (unary-expr-at t) unary-expr.Post
 unfolding unaryExpr
-unary-expr-returns-2 t c = 
+unary-expr-returns-2 t c =
     let c-fn-call-expr = c .before .before .before .before .before .before in
     let c-if2 = c-fn-call-expr .before .before .before .before in
     let c-is-unary = c-if2 .before in
@@ -70,7 +70,7 @@ unary-expr-returns-2 t c =
     last 1 (λ x. walkers x (start .args .depth - 1) .call) (no _ _ p1 (test isUnary p1 (ap isUnary (sym (c-kind-at .kind-at .ensures)) ∙ sym (c-is-unary .is-unary .ensures) ∙ not-true _ (c-if2 .if2 .taken)))) refl (omega arith) (c-fn-call-expr .fn-call-expr .ensures))
 
 pub unary-expr-consume-requires : (t : ℕ) → unary-expr-lts.Need-consume-requires (unary-expr-calls t) (unary-expr-at t) unary-expr.Post
-unary-expr-consume-requires t c κs = 
+unary-expr-consume-requires t c κs =
     let start = c .before .before .before .before .before .before .before .before .before .before in
     start .pre .1 .stands
 
@@ -79,7 +79,7 @@ unary-expr-enum-known-passed t c = search needs
 
 pub unary-expr-returns-3 : (t : ℕ) → unary-expr-lts.Need-returns-3 (unary-expr-calls t) (unary-expr-at t) unary-expr.Post
 unfolding unaryExpr
-unary-expr-returns-3 t c = 
+unary-expr-returns-3 t c =
     let c-consume = c .before in
     let c-if2 = c-consume .before in
     let c-is-unary = c-if2 .before in
@@ -93,7 +93,7 @@ unary-expr-returns-3 t c =
 
 pub unary-expr-unary-expr-requires : (t : ℕ) → unary-expr-lts.Need-unary-expr-requires (unary-expr-calls t) (unary-expr-at t) unary-expr.Post
 unfolding unaryExpr
-unary-expr-unary-expr-requires t c κs = 
+unary-expr-unary-expr-requires t c κs =
     let c-passed = c .before .before .before .before in
     let c-consume = c-passed .before .before in
     let c-if2 = c-consume .before in
@@ -113,23 +113,23 @@ pub unary-expr-enum-known-rhs : (t : ℕ) → unary-expr-lts.Need-enum-known-rhs
 unary-expr-enum-known-rhs t c = search needs
 
 pub unary-expr-same-length-4 : (t : ℕ) → unary-expr-lts.Need-same-length-4 (unary-expr-calls t) (unary-expr-at t) unary-expr.Post
-unary-expr-same-length-4 t c = 
+unary-expr-same-length-4 t c =
     let c-unary-expr = c .before .before .before .before .before .before .before in
     c-unary-expr .unary-expr .kept .1 .1 .1 .0
 
 pub unary-expr-same-length-5 : (t : ℕ) → unary-expr-lts.Need-same-length-5 (unary-expr-calls t) (unary-expr-at t) unary-expr.Post
-unary-expr-same-length-5 t c = 
+unary-expr-same-length-5 t c =
     let c-unary-expr = c .before .before .before .before .before .before .before in
     c-unary-expr .unary-expr .kept .1 .1 .1 .1 .0
 
 pub unary-expr-same-length-6 : (t : ℕ) → unary-expr-lts.Need-same-length-6 (unary-expr-calls t) (unary-expr-at t) unary-expr.Post
-unary-expr-same-length-6 t c = 
+unary-expr-same-length-6 t c =
     let c-unary-expr = c .before .before .before .before .before .before .before in
     c-unary-expr .unary-expr .kept .1 .1 .1 .1 .1 .0
 
 pub unary-expr-returns-4 : (t : ℕ) → unary-expr-lts.Need-returns-4 (unary-expr-calls t) (unary-expr-at t) unary-expr.Post
 unfolding unaryExpr
-unary-expr-returns-4 t c = 
+unary-expr-returns-4 t c =
     let c-unary-expr = c .before .before .before .before .before .before .before in
     let c-passed = c-unary-expr .before .before .before .before .before in
     let c-consume = c-passed .before .before in
@@ -145,13 +145,13 @@ unary-expr-returns-4 t c =
     stop 1 (λ x. walkers x (start .args .depth - 1) .unary) _ u1 refl (omega arith) (c-unary-expr .unary-expr .ensures) (c .match2 .keys2))
 
 pub unary-expr-cast-push-node : (t : ℕ) → unary-expr-lts.Need-cast-push-node (unary-expr-calls t) (unary-expr-at t) unary-expr.Post
-unary-expr-cast-push-node t c = 
+unary-expr-cast-push-node t c =
     let start = c .before .before .before .before .before .before .before .before .before .before .before .before .before .before .before .before .before .before .before .before .before .before .before .before .before .before .before .before .before in
     omega (arith, start .pre .1 .stands .here, start .pre .1 .stands .toks .few)
 
 pub unary-expr-push-node-requires : (t : ℕ) → unary-expr-lts.Need-push-node-requires (unary-expr-calls t) (unary-expr-at t) unary-expr.Post
 unfolding unaryExpr
-unary-expr-push-node-requires t c κs = 
+unary-expr-push-node-requires t c κs =
     let c-rhs = c .before .before .before in
     let c-unary-expr = c-rhs .before .before .before .before .before .before .before .before in
     let c-passed = c-unary-expr .before .before .before .before .before in
@@ -171,25 +171,25 @@ unary-expr-push-node-requires t c κs =
     (u2 .is .even, u2 .is .used)
 
 pub unary-expr-same-length-7 : (t : ℕ) → unary-expr-lts.Need-same-length-7 (unary-expr-calls t) (unary-expr-at t) unary-expr.Post
-unary-expr-same-length-7 t c = 
+unary-expr-same-length-7 t c =
     let c-unary-expr = c .before .before .before .before .before .before .before .before .before .before .before .before .before .before .before .before in
     c-unary-expr .unary-expr .kept .1 .1 .1 .0
 
 pub unary-expr-same-length-8 : (t : ℕ) → unary-expr-lts.Need-same-length-8 (unary-expr-calls t) (unary-expr-at t) unary-expr.Post
-unary-expr-same-length-8 t c = 
+unary-expr-same-length-8 t c =
     let c-push-node = c .before .before .before .before in
     let c-unary-expr = c-push-node .before .before .before .before .before .before .before .before .before .before .before .before in
     c-push-node .push-node .kept .0 ∙ c-unary-expr .unary-expr .kept .1 .1 .1 .1 .0
 
 pub unary-expr-same-length-9 : (t : ℕ) → unary-expr-lts.Need-same-length-9 (unary-expr-calls t) (unary-expr-at t) unary-expr.Post
-unary-expr-same-length-9 t c = 
+unary-expr-same-length-9 t c =
     let c-push-node = c .before .before .before .before in
     let c-unary-expr = c-push-node .before .before .before .before .before .before .before .before .before .before .before .before in
     c-push-node .push-node .kept .1 .0 ∙ c-unary-expr .unary-expr .kept .1 .1 .1 .1 .1 .0
 
 pub unary-expr-returns-5 : (t : ℕ) → unary-expr-lts.Need-returns-5 (unary-expr-calls t) (unary-expr-at t) unary-expr.Post
 unfolding unaryExpr
-unary-expr-returns-5 t c = 
+unary-expr-returns-5 t c =
     let c-push-node = c .before .before .before .before in
     let c-rhs = c-push-node .before .before .before .before in
     let c-unary-expr = c-rhs .before .before .before .before .before .before .before .before in
