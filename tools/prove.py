@@ -2,7 +2,7 @@
 # prove.py CRATE: the proof files of a crate, from the offers that rt makes (tools/offers/CRATE), what is known at each place
 # (target/goals/CRATE, which `rt goals CRATE` writes) and the answers (tools/answers/CRATE). `rt fmt` lays them out afterwards.
 # prove.py CRATE --offers FILE: first takes the offers out of rt's output in FILE.
-import glob,os,re,subprocess,sys
+import glob,os,re,subprocess,sys,tempfile
 here=os.path.dirname(os.path.abspath(__file__)); root=os.path.dirname(here)
 sys.path.insert(0,here)
 crate=sys.argv[1]
@@ -34,8 +34,8 @@ for o in sorted(glob.glob(offers+'/*.txt')):
     if not os.path.exists(f'{answers}/{name}.txt'): print('no answers for',name); continue
     out=f'{crates}/proofs/{where}'; os.makedirs(out,exist_ok=True)
     if name=='cycle':
-        open('/tmp/offer-cycle.txt','w').write(text.split('\n',1)[1])
-        subprocess.check_call([sys.executable,'gensplit.py','/tmp/offer-cycle.txt',f'{answers}/cycle.txt',f'{goals}/{where}',out],cwd=here)
+        with tempfile.NamedTemporaryFile('w',suffix='.txt',delete=False) as offer: offer.write(text.split('\n',1)[1])
+        subprocess.check_call([sys.executable,'gensplit.py',offer.name,f'{answers}/cycle.txt',f'{goals}/{where}',out],cwd=here)
     else:
         open(out+'/Proof.antt','w').write(text.split('\n',1)[1])
         subprocess.check_call([sys.executable,'fill.py',out+'/Proof.antt',f'{goals}/{where}/Lts.antt',f'{answers}/{name}.txt'],cwd=here)
