@@ -105,7 +105,8 @@ fn assign_expr(
     let Parsed::Done(x) = lhs else {
         return lhs;
     };
-    let target = top(head, load, x.nodes);
+    let n = x.nodes;
+    let to = top(head, load, n);
     let op = x.at;
     if kind_at(words, op) != EQ {
         return Parsed::Done(x);
@@ -118,19 +119,7 @@ fn assign_expr(
     let Parsed::Done(z) = rhs else {
         return rhs;
     };
-    assign_to(
-        script,
-        offs,
-        words,
-        symbols,
-        head,
-        load,
-        lim,
-        z,
-        target,
-        x.nodes,
-        op,
-    )
+    assign_to(script, offs, words, symbols, head, load, lim, z, to, n, op)
 }
 
 // `||`.
@@ -477,49 +466,16 @@ fn fn_call_expr(
     let Parsed::Done(x) = first else {
         return first;
     };
-    let target = top(head, load, x.nodes);
+    let to = top(head, load, x.nodes);
     let k = kind_at(words, x.at);
     if k == LEFT_PAREN {
-        return call_suffix(
-            script,
-            offs,
-            words,
-            symbols,
-            head,
-            load,
-            lim,
-            x,
-            below,
-            target,
-        );
+        return call_suffix(script, offs, words, symbols, head, load, lim, x, below, to);
     }
     if k == PERIOD {
-        return dot_suffix(
-            script,
-            offs,
-            words,
-            symbols,
-            head,
-            load,
-            lim,
-            x,
-            below,
-            target,
-        );
+        return dot_suffix(script, offs, words, symbols, head, load, lim, x, below, to);
     }
     if k == LEFT_BRACKET {
-        return index_suffix(
-            script,
-            offs,
-            words,
-            symbols,
-            head,
-            load,
-            lim,
-            x,
-            below,
-            target,
-        );
+        return index_suffix(script, offs, words, symbols, head, load, lim, x, below, to);
     }
     Parsed::Done(x)
 }
@@ -535,12 +491,12 @@ fn call_suffix(
     lim: Limits,
     w: Walk,
     depth: usize,
-    target: Target,
+    to: Target,
 ) -> Parsed
     requires { ⌜ Ready (inp (now script) (now offs) (now words) lim) (mem (now symbols) (now head) (now load)) w ⌝ }
-    ensures { λ r. ⌜ Does 0 (λ c. callPart c (walkers c depth) (nodeOf target) (w .at)) (inp (now (script .entry)) (now (offs .entry)) (now (words .entry)) lim) (mem (now (symbols .entry)) (now (head .entry)) (now (load .entry))) w r (mem (now (symbols .exit)) (now (head .exit)) (now (load .exit))) ⌝ }
+    ensures { λ r. ⌜ Does 0 (λ c. callPart c (walkers c depth) (nodeOf to) (w .at)) (inp (now (script .entry)) (now (offs .entry)) (now (words .entry)) lim) (mem (now (symbols .entry)) (now (head .entry)) (now (load .entry))) w r (mem (now (symbols .exit)) (now (head .exit)) (now (load .exit))) ⌝ }
 {
-    let sign = w.at;
+    let at = w.at;
     let passed = consume(offs, words, lim, w);
     let Parsed::Done(x) = passed else {
         return passed;
@@ -553,19 +509,8 @@ fn call_suffix(
     let Parsed::Done(z) = closed else {
         return closed;
     };
-    call_named(
-        script,
-        offs,
-        words,
-        symbols,
-        head,
-        load,
-        lim,
-        z,
-        target,
-        sign,
-        y.count,
-    )
+    let n = y.count;
+    call_named(script, offs, words, symbols, head, load, lim, z, to, at, n)
 }
 
 // A table access. Names are not checked in the expression after `.`, and are checked after it.
@@ -579,12 +524,12 @@ fn dot_suffix(
     lim: Limits,
     w: Walk,
     depth: usize,
-    target: Target,
+    to: Target,
 ) -> Parsed
     requires { ⌜ Ready (inp (now script) (now offs) (now words) lim) (mem (now symbols) (now head) (now load)) w ⌝ }
-    ensures { λ r. ⌜ Does 0 (λ c. dot c (walkers c depth) (nodeOf target) (w .at)) (inp (now (script .entry)) (now (offs .entry)) (now (words .entry)) lim) (mem (now (symbols .entry)) (now (head .entry)) (now (load .entry))) w r (mem (now (symbols .exit)) (now (head .exit)) (now (load .exit))) ⌝ }
+    ensures { λ r. ⌜ Does 0 (λ c. dot c (walkers c depth) (nodeOf to) (w .at)) (inp (now (script .entry)) (now (offs .entry)) (now (words .entry)) lim) (mem (now (symbols .entry)) (now (head .entry)) (now (load .entry))) w r (mem (now (symbols .exit)) (now (head .exit)) (now (load .exit))) ⌝ }
 {
-    let sign = w.at;
+    let at = w.at;
     let passed = consume(offs, words, lim, w);
     let Parsed::Done(x) = passed else {
         return passed;
@@ -595,7 +540,7 @@ fn dot_suffix(
         return field;
     };
     let on = set_check(y, true);
-    access(offs, head, load, on, target, TABLE_ACCESS, 4, sign)
+    access(offs, head, load, on, to, TABLE_ACCESS, 4, at)
 }
 
 // An array access.
@@ -609,12 +554,12 @@ fn index_suffix(
     lim: Limits,
     w: Walk,
     depth: usize,
-    target: Target,
+    to: Target,
 ) -> Parsed
     requires { ⌜ Ready (inp (now script) (now offs) (now words) lim) (mem (now symbols) (now head) (now load)) w ⌝ }
-    ensures { λ r. ⌜ Does 0 (λ c. index c (walkers c depth) (nodeOf target) (w .at)) (inp (now (script .entry)) (now (offs .entry)) (now (words .entry)) lim) (mem (now (symbols .entry)) (now (head .entry)) (now (load .entry))) w r (mem (now (symbols .exit)) (now (head .exit)) (now (load .exit))) ⌝ }
+    ensures { λ r. ⌜ Does 0 (λ c. index c (walkers c depth) (nodeOf to) (w .at)) (inp (now (script .entry)) (now (offs .entry)) (now (words .entry)) lim) (mem (now (symbols .entry)) (now (head .entry)) (now (load .entry))) w r (mem (now (symbols .exit)) (now (head .exit)) (now (load .exit))) ⌝ }
 {
-    let sign = w.at;
+    let at = w.at;
     let passed = consume(offs, words, lim, w);
     let Parsed::Done(x) = passed else {
         return passed;
@@ -627,7 +572,7 @@ fn index_suffix(
     let Parsed::Done(z) = closed else {
         return closed;
     };
-    access(offs, head, load, z, target, ARRAY_ACCESS, 5, sign)
+    access(offs, head, load, z, to, ARRAY_ACCESS, 5, at)
 }
 
 // The arguments of a call: Done's count is how many there are.

@@ -52,6 +52,14 @@ pub fn looseness(k: u32) -> usize
     if k == 15 {
         return 3;
     }
+    looseness_of_test(k)
+}
+
+// The same of a comparison, `&&` or `||`.
+fn looseness_of_test(k: u32) -> usize
+    requires { ⌜ (k ≡ 18 → ⊥) × (k ≡ 16 → ⊥) × (k ≡ 17 → ⊥) × (k ≡ 14 → ⊥) × (k ≡ 15 → ⊥) ⌝ }
+    ensures { λ r. ⌜ r ≡ loosenessOf k ⌝ }
+{
     if k == 9 {
         return 4;
     }

@@ -34,7 +34,7 @@ unfolding callPart
 call-suffix-returns t c =
     let c-consume = c .before in
     let start = c-consume .before .before .before .before .before .before .before in
-    gives (λ E e. let p0 = begin 0 (λ x. callPart x (walkers x (start .args .depth)) (nodeOf (start .args .target)) (start .args .w .at)) E e (start .pre .1) in
+    gives (λ E e. let p0 = begin 0 (λ x. callPart x (walkers x (start .args .depth)) (nodeOf (start .args .to)) (start .args .w .at)) E e (start .pre .1) in
     stop 0 (λ x. consume x) _ p0 refl (omega arith) (pass-any (p0 .is) (c-consume .consume .ensures)) (c .match .keys2))
 
 pub call-suffix-param-list-requires : (t : ℕ) → call-suffix-lts.Need-param-list-requires (call-suffix-calls t) (call-suffix-at t) call-suffix.Post
@@ -45,7 +45,7 @@ call-suffix-param-list-requires t c κs =
     let start = c-consume .before .before .before .before .before .before .before in
     let E = blank (start .args .w .errors) in
     let e = blanks (start .args .w .errors) in
-    let p0 = begin 0 (λ x. callPart x (walkers x (start .args .depth)) (nodeOf (start .args .target)) (start .args .w .at)) E e (start .pre .1) in
+    let p0 = begin 0 (λ x. callPart x (walkers x (start .args .depth)) (nodeOf (start .args .to)) (start .args .w .at)) E e (start .pre .1) in
     let p1 = go 0 (λ x. consume x) _ p0 refl (pass-any (p0 .is) (c-consume .consume .ensures)) same (c-passed .passed .given .1) in
     (omega (arith, start .pre .0), p1 .is)
 
@@ -74,7 +74,7 @@ call-suffix-returns-2 t c =
     let c-passed = c-param-list .before .before .before .before .before in
     let c-consume = c-passed .before .before in
     let start = c-consume .before .before .before .before .before .before .before in
-    gives (λ E e. let p0 = begin 0 (λ x. callPart x (walkers x (start .args .depth)) (nodeOf (start .args .target)) (start .args .w .at)) E e (start .pre .1) in
+    gives (λ E e. let p0 = begin 0 (λ x. callPart x (walkers x (start .args .depth)) (nodeOf (start .args .to)) (start .args .w .at)) E e (start .pre .1) in
     let p1 = go 0 (λ x. consume x) _ p0 refl (pass-any (p0 .is) (c-consume .consume .ensures)) same (c-passed .passed .given .1) in
     stop 0 (λ x. paramList x (walkers x (start .args .depth) .assign) (fuel x) 0) _ p1 refl (omega arith) (c-param-list .param-list .ensures .0) (c .match2 .keys2))
 
@@ -88,7 +88,7 @@ call-suffix-expect-requires t c κs =
     let start = c-consume .before .before .before .before .before .before .before in
     let E = blank (start .args .w .errors) in
     let e = blanks (start .args .w .errors) in
-    let p0 = begin 0 (λ x. callPart x (walkers x (start .args .depth)) (nodeOf (start .args .target)) (start .args .w .at)) E e (start .pre .1) in
+    let p0 = begin 0 (λ x. callPart x (walkers x (start .args .depth)) (nodeOf (start .args .to)) (start .args .w .at)) E e (start .pre .1) in
     let p1 = go 0 (λ x. consume x) _ p0 refl (pass-any (p0 .is) (c-consume .consume .ensures)) same (c-passed .passed .given .1) in
     let p2 = go 0 (λ x. paramList x (walkers x (start .args .depth) .assign) (fuel x) 0) _ p1 refl (c-param-list .param-list .ensures .0) (kept (c-param-list .param-list .kept)) (c-items .items .given .1) in
     p2 .is .stands
@@ -120,7 +120,7 @@ call-suffix-returns-3 t c =
     let c-passed = c-param-list .before .before .before .before .before in
     let c-consume = c-passed .before .before in
     let start = c-consume .before .before .before .before .before .before .before in
-    gives (λ E e. let p0 = begin 0 (λ x. callPart x (walkers x (start .args .depth)) (nodeOf (start .args .target)) (start .args .w .at)) E e (start .pre .1) in
+    gives (λ E e. let p0 = begin 0 (λ x. callPart x (walkers x (start .args .depth)) (nodeOf (start .args .to)) (start .args .w .at)) E e (start .pre .1) in
     let p1 = go 0 (λ x. consume x) _ p0 refl (pass-any (p0 .is) (c-consume .consume .ensures)) same (c-passed .passed .given .1) in
     let p2 = go 0 (λ x. paramList x (walkers x (start .args .depth) .assign) (fuel x) 0) _ p1 refl (c-param-list .param-list .ensures .0) (kept (c-param-list .param-list .kept)) (c-items .items .given .1) in
     stop 0 (λ x. expect x 2) _ p2 refl (omega arith) (expected (p2 .is) (c-expect .expect .ensures)) (c .match3 .keys2))
@@ -137,7 +137,7 @@ call-suffix-call-named-requires t c κs =
     let start = c-consume .before .before .before .before .before .before .before in
     let E = blank (start .args .w .errors) in
     let e = blanks (start .args .w .errors) in
-    let p0 = begin 0 (λ x. callPart x (walkers x (start .args .depth)) (nodeOf (start .args .target)) (start .args .w .at)) E e (start .pre .1) in
+    let p0 = begin 0 (λ x. callPart x (walkers x (start .args .depth)) (nodeOf (start .args .to)) (start .args .w .at)) E e (start .pre .1) in
     let p1 = go 0 (λ x. consume x) _ p0 refl (pass-any (p0 .is) (c-consume .consume .ensures)) same (c-passed .passed .given .1) in
     let p2 = go 0 (λ x. paramList x (walkers x (start .args .depth) .assign) (fuel x) 0) _ p1 refl (c-param-list .param-list .ensures .0) (kept (c-param-list .param-list .kept)) (c-items .items .given .1) in
     let p3 = go 0 (λ x. expect x 2) _ p2 refl (expected (p2 .is) (c-expect .expect .ensures)) same (c-closed .closed .given .1) in
@@ -172,8 +172,8 @@ call-suffix-returns-4 t c =
     let c-passed = c-param-list .before .before .before .before .before in
     let c-consume = c-passed .before .before in
     let start = c-consume .before .before .before .before .before .before .before in
-    gives (λ E e. let p0 = begin 0 (λ x. callPart x (walkers x (start .args .depth)) (nodeOf (start .args .target)) (start .args .w .at)) E e (start .pre .1) in
+    gives (λ E e. let p0 = begin 0 (λ x. callPart x (walkers x (start .args .depth)) (nodeOf (start .args .to)) (start .args .w .at)) E e (start .pre .1) in
     let p1 = go 0 (λ x. consume x) _ p0 refl (pass-any (p0 .is) (c-consume .consume .ensures)) same (c-passed .passed .given .1) in
     let p2 = go 0 (λ x. paramList x (walkers x (start .args .depth) .assign) (fuel x) 0) _ p1 refl (c-param-list .param-list .ensures .0) (kept (c-param-list .param-list .kept)) (c-items .items .given .1) in
     let p3 = go 0 (λ x. expect x 2) _ p2 refl (expected (p2 .is) (c-expect .expect .ensures)) same (c-closed .closed .given .1) in
-    last 0 (λ x. callNamed x (nodeOf (start .args .target)) (start .args .w .at) (c-items .items .given .0 .0 .count)) p3 refl (omega arith) (c-call-named .call-named .ensures))
+    last 0 (λ x. callNamed x (nodeOf (start .args .to)) (start .args .w .at) (c-items .items .given .0 .0 .count)) p3 refl (omega arith) (c-call-named .call-named .ensures))

@@ -34,7 +34,7 @@ unfolding dot
 dot-suffix-returns t c =
     let c-consume = c .before in
     let start = c-consume .before .before .before .before .before .before .before in
-    gives (λ E e. let p0 = begin 0 (λ x. dot x (walkers x (start .args .depth)) (nodeOf (start .args .target)) (start .args .w .at)) E e (start .pre .1) in
+    gives (λ E e. let p0 = begin 0 (λ x. dot x (walkers x (start .args .depth)) (nodeOf (start .args .to)) (start .args .w .at)) E e (start .pre .1) in
     stop 0 (λ x. consume x) _ p0 refl (omega arith) (pass-any (p0 .is) (c-consume .consume .ensures)) (c .match .keys2))
 
 pub dot-suffix-set-check-requires : (t : ℕ) → dot-suffix-lts.Need-set-check-requires (dot-suffix-calls t) (dot-suffix-at t) dot-suffix.Post
@@ -49,7 +49,7 @@ dot-suffix-assign-expr-requires t c κs =
     let start = c-consume .before .before .before .before .before .before .before in
     let E = blank (start .args .w .errors) in
     let e = blanks (start .args .w .errors) in
-    let p0 = begin 0 (λ x. dot x (walkers x (start .args .depth)) (nodeOf (start .args .target)) (start .args .w .at)) E e (start .pre .1) in
+    let p0 = begin 0 (λ x. dot x (walkers x (start .args .depth)) (nodeOf (start .args .to)) (start .args .w .at)) E e (start .pre .1) in
     let p1 = go 0 (λ x. consume x) _ p0 refl (pass-any (p0 .is) (c-consume .consume .ensures)) same (c-passed .passed .given .1) in
     let p2 = switched false _ p1 (c-set-check .set-check .ensures) in
     (omega (arith, start .pre .0), p2 .is)
@@ -80,7 +80,7 @@ dot-suffix-returns-2 t c =
     let c-passed = c-set-check .before .before in
     let c-consume = c-passed .before .before in
     let start = c-consume .before .before .before .before .before .before .before in
-    gives (λ E e. let p0 = begin 0 (λ x. dot x (walkers x (start .args .depth)) (nodeOf (start .args .target)) (start .args .w .at)) E e (start .pre .1) in
+    gives (λ E e. let p0 = begin 0 (λ x. dot x (walkers x (start .args .depth)) (nodeOf (start .args .to)) (start .args .w .at)) E e (start .pre .1) in
     let p1 = go 0 (λ x. consume x) _ p0 refl (pass-any (p0 .is) (c-consume .consume .ensures)) same (c-passed .passed .given .1) in
     let p2 = switched false _ p1 (c-set-check .set-check .ensures) in
     stop 1 (λ x. walkers x (start .args .depth) .assign) _ p2 refl (omega arith) (c-assign-expr .assign-expr .ensures) (c .match2 .keys2))
@@ -100,7 +100,7 @@ dot-suffix-access-requires t c κs =
     let start = c-consume .before .before .before .before .before .before .before in
     let E = blank (start .args .w .errors) in
     let e = blanks (start .args .w .errors) in
-    let p0 = begin 0 (λ x. dot x (walkers x (start .args .depth)) (nodeOf (start .args .target)) (start .args .w .at)) E e (start .pre .1) in
+    let p0 = begin 0 (λ x. dot x (walkers x (start .args .depth)) (nodeOf (start .args .to)) (start .args .w .at)) E e (start .pre .1) in
     let p1 = go 0 (λ x. consume x) _ p0 refl (pass-any (p0 .is) (c-consume .consume .ensures)) same (c-passed .passed .given .1) in
     let p2 = switched false _ p1 (c-set-check .set-check .ensures) in
     let p3 = go 1 (λ x. walkers x (start .args .depth) .assign) _ p2 refl (c-assign-expr .assign-expr .ensures) (kept (c-assign-expr .assign-expr .kept)) (c-field .field .given .1) in
@@ -135,9 +135,9 @@ dot-suffix-returns-3 t c =
     let c-passed = c-set-check .before .before in
     let c-consume = c-passed .before .before in
     let start = c-consume .before .before .before .before .before .before .before in
-    gives (λ E e. let p0 = begin 0 (λ x. dot x (walkers x (start .args .depth)) (nodeOf (start .args .target)) (start .args .w .at)) E e (start .pre .1) in
+    gives (λ E e. let p0 = begin 0 (λ x. dot x (walkers x (start .args .depth)) (nodeOf (start .args .to)) (start .args .w .at)) E e (start .pre .1) in
     let p1 = go 0 (λ x. consume x) _ p0 refl (pass-any (p0 .is) (c-consume .consume .ensures)) same (c-passed .passed .given .1) in
     let p2 = switched false _ p1 (c-set-check .set-check .ensures) in
     let p3 = go 1 (λ x. walkers x (start .args .depth) .assign) _ p2 refl (c-assign-expr .assign-expr .ensures) (kept (c-assign-expr .assign-expr .kept)) (c-field .field .given .1) in
     let p4 = switched true _ p3 (c-set-check2 .set-check2 .ensures) in
-    last 0 (λ x s. go-on (single x (nodeOf (start .args .target)) 4 (start .args .w .at) s) (λ a. push x 15 false 2 0)) p4 refl (omega arith) (accessed (p4 .is) (start .pre .1 .stands .here) (c-access .access .ensures)))
+    last 0 (λ x s. go-on (single x (nodeOf (start .args .to)) 4 (start .args .w .at) s) (λ a. push x 15 false 2 0)) p4 refl (omega arith) (accessed (p4 .is) (start .pre .1 .stands .here) (c-access .access .ensures)))

@@ -34,7 +34,7 @@ unfolding index
 index-suffix-returns t c =
     let c-consume = c .before in
     let start = c-consume .before .before .before .before .before .before .before in
-    gives (λ E e. let p0 = begin 0 (λ x. index x (walkers x (start .args .depth)) (nodeOf (start .args .target)) (start .args .w .at)) E e (start .pre .1) in
+    gives (λ E e. let p0 = begin 0 (λ x. index x (walkers x (start .args .depth)) (nodeOf (start .args .to)) (start .args .w .at)) E e (start .pre .1) in
     stop 0 (λ x. consume x) _ p0 refl (omega arith) (pass-any (p0 .is) (c-consume .consume .ensures)) (c .match .keys2))
 
 pub index-suffix-assign-expr-requires : (t : ℕ) → index-suffix-lts.Need-assign-expr-requires (index-suffix-calls t) (index-suffix-at t) index-suffix.Post
@@ -45,7 +45,7 @@ index-suffix-assign-expr-requires t c κs =
     let start = c-consume .before .before .before .before .before .before .before in
     let E = blank (start .args .w .errors) in
     let e = blanks (start .args .w .errors) in
-    let p0 = begin 0 (λ x. index x (walkers x (start .args .depth)) (nodeOf (start .args .target)) (start .args .w .at)) E e (start .pre .1) in
+    let p0 = begin 0 (λ x. index x (walkers x (start .args .depth)) (nodeOf (start .args .to)) (start .args .w .at)) E e (start .pre .1) in
     let p1 = go 0 (λ x. consume x) _ p0 refl (pass-any (p0 .is) (c-consume .consume .ensures)) same (c-passed .passed .given .1) in
     (omega (arith, start .pre .0), p1 .is)
 
@@ -74,7 +74,7 @@ index-suffix-returns-2 t c =
     let c-passed = c-assign-expr .before .before .before .before .before in
     let c-consume = c-passed .before .before in
     let start = c-consume .before .before .before .before .before .before .before in
-    gives (λ E e. let p0 = begin 0 (λ x. index x (walkers x (start .args .depth)) (nodeOf (start .args .target)) (start .args .w .at)) E e (start .pre .1) in
+    gives (λ E e. let p0 = begin 0 (λ x. index x (walkers x (start .args .depth)) (nodeOf (start .args .to)) (start .args .w .at)) E e (start .pre .1) in
     let p1 = go 0 (λ x. consume x) _ p0 refl (pass-any (p0 .is) (c-consume .consume .ensures)) same (c-passed .passed .given .1) in
     stop 1 (λ x. walkers x (start .args .depth) .assign) _ p1 refl (omega arith) (c-assign-expr .assign-expr .ensures) (c .match2 .keys2))
 
@@ -88,7 +88,7 @@ index-suffix-expect-requires t c κs =
     let start = c-consume .before .before .before .before .before .before .before in
     let E = blank (start .args .w .errors) in
     let e = blanks (start .args .w .errors) in
-    let p0 = begin 0 (λ x. index x (walkers x (start .args .depth)) (nodeOf (start .args .target)) (start .args .w .at)) E e (start .pre .1) in
+    let p0 = begin 0 (λ x. index x (walkers x (start .args .depth)) (nodeOf (start .args .to)) (start .args .w .at)) E e (start .pre .1) in
     let p1 = go 0 (λ x. consume x) _ p0 refl (pass-any (p0 .is) (c-consume .consume .ensures)) same (c-passed .passed .given .1) in
     let p2 = go 1 (λ x. walkers x (start .args .depth) .assign) _ p1 refl (c-assign-expr .assign-expr .ensures) (kept (c-assign-expr .assign-expr .kept)) (c-inner .inner .given .1) in
     p2 .is .stands
@@ -120,7 +120,7 @@ index-suffix-returns-3 t c =
     let c-passed = c-assign-expr .before .before .before .before .before in
     let c-consume = c-passed .before .before in
     let start = c-consume .before .before .before .before .before .before .before in
-    gives (λ E e. let p0 = begin 0 (λ x. index x (walkers x (start .args .depth)) (nodeOf (start .args .target)) (start .args .w .at)) E e (start .pre .1) in
+    gives (λ E e. let p0 = begin 0 (λ x. index x (walkers x (start .args .depth)) (nodeOf (start .args .to)) (start .args .w .at)) E e (start .pre .1) in
     let p1 = go 0 (λ x. consume x) _ p0 refl (pass-any (p0 .is) (c-consume .consume .ensures)) same (c-passed .passed .given .1) in
     let p2 = go 1 (λ x. walkers x (start .args .depth) .assign) _ p1 refl (c-assign-expr .assign-expr .ensures) (kept (c-assign-expr .assign-expr .kept)) (c-inner .inner .given .1) in
     stop 0 (λ x. expect x 6) _ p2 refl (omega arith) (expected (p2 .is) (c-expect .expect .ensures)) (c .match3 .keys2))
@@ -137,7 +137,7 @@ index-suffix-access-requires t c κs =
     let start = c-consume .before .before .before .before .before .before .before in
     let E = blank (start .args .w .errors) in
     let e = blanks (start .args .w .errors) in
-    let p0 = begin 0 (λ x. index x (walkers x (start .args .depth)) (nodeOf (start .args .target)) (start .args .w .at)) E e (start .pre .1) in
+    let p0 = begin 0 (λ x. index x (walkers x (start .args .depth)) (nodeOf (start .args .to)) (start .args .w .at)) E e (start .pre .1) in
     let p1 = go 0 (λ x. consume x) _ p0 refl (pass-any (p0 .is) (c-consume .consume .ensures)) same (c-passed .passed .given .1) in
     let p2 = go 1 (λ x. walkers x (start .args .depth) .assign) _ p1 refl (c-assign-expr .assign-expr .ensures) (kept (c-assign-expr .assign-expr .kept)) (c-inner .inner .given .1) in
     let p3 = go 0 (λ x. expect x 6) _ p2 refl (expected (p2 .is) (c-expect .expect .ensures)) same (c-closed .closed .given .1) in
@@ -171,8 +171,8 @@ index-suffix-returns-4 t c =
     let c-passed = c-assign-expr .before .before .before .before .before in
     let c-consume = c-passed .before .before in
     let start = c-consume .before .before .before .before .before .before .before in
-    gives (λ E e. let p0 = begin 0 (λ x. index x (walkers x (start .args .depth)) (nodeOf (start .args .target)) (start .args .w .at)) E e (start .pre .1) in
+    gives (λ E e. let p0 = begin 0 (λ x. index x (walkers x (start .args .depth)) (nodeOf (start .args .to)) (start .args .w .at)) E e (start .pre .1) in
     let p1 = go 0 (λ x. consume x) _ p0 refl (pass-any (p0 .is) (c-consume .consume .ensures)) same (c-passed .passed .given .1) in
     let p2 = go 1 (λ x. walkers x (start .args .depth) .assign) _ p1 refl (c-assign-expr .assign-expr .ensures) (kept (c-assign-expr .assign-expr .kept)) (c-inner .inner .given .1) in
     let p3 = go 0 (λ x. expect x 6) _ p2 refl (expected (p2 .is) (c-expect .expect .ensures)) same (c-closed .closed .given .1) in
-    last 0 (λ x s. go-on (single x (nodeOf (start .args .target)) 5 (start .args .w .at) s) (λ a. push x 18 false 2 0)) p3 refl (omega arith) (accessed (p3 .is) (start .pre .1 .stands .here) (c-access .access .ensures)))
+    last 0 (λ x s. go-on (single x (nodeOf (start .args .to)) 5 (start .args .w .at) s) (λ a. push x 18 false 2 0)) p3 refl (omega arith) (accessed (p3 .is) (start .pre .1 .stands .here) (c-access .access .ensures)))
