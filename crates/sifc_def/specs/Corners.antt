@@ -5,12 +5,12 @@ use mathlib.Core.Path.{_≡_, refl}
 use mathlib.Core.List.{List, [], _∷_, _++_, map}
 use mathlib.Core.Bool.{true, false}
 use lib.ListN.{replicate}
-use Rattle.sifc_err.specs.declared.Refusal.the-variants.{LongScript, NotAscii, SourceFault, TooDeep, NodesFull, SymbolsFull, ErrorsFull, Flagged, TextFull}
+use Rattle.sifc_err.specs.declared.Refusal.the-variants.{LongScript, NotAscii, SourceFault, TooDeep, NodesFull, SymbolsFull, ErrorsFull}
 use Rattle.sifc_err.specs.declared.parse_err.ParseErrTy.the-variants.{TknMismatch}
-use Rattle.sifc_lex.specs.Kind.{LeftParen, RightParen, Semicolon, Eq, Ident, Str, Val, Var, Eof, LexPanic}
+use Rattle.sifc_lex.specs.Kind.{LeftParen, RightParen, Semicolon, Eq, Star, Percent, Ident, Str, Val, Var, Eof, LexPanic}
 use Rattle.sifc_lex.specs.Lex.{token}
 use Rattle.sifc_def.specs.declared.Early.the-variants.{Never, By}
-use Rattle.sifc_def.specs.Ast.{Program, ExprStmt, VarDecl, FnCallExpr, PrimaryExpr}
+use Rattle.sifc_def.specs.Ast.{Program, ExprStmt, VarDecl, FnCallExpr, BinaryExpr, PrimaryExpr}
 use Rattle.sifc_def.specs.State.{node}
 use Rattle.sifc_def.specs.Ascii.{ascii}
 use Rattle.sifc_def.specs.Case.{Case, reads, says, answers, listed, Short, no, ok, early, ran, said}
@@ -97,6 +97,13 @@ corners =
     -- a number's second point, and a number before a spaced point
     ∷ ample (ascii "1.2.3; 1..a; 1 .a;") (ok 13 [] false)
     -- a lexing panic behind an early end; a string that names a standard function; the example of the listing program
+    -- "`%` binds tighter than `*`"
+    ∷ reads "1*2%3;"
+    (answers
+    (token Val 0 1 ∷ token Star 1 1 ∷ token Val 2 1 ∷ token Percent 3 1 ∷ token Val 4 1 ∷ token Semicolon 5 1 ∷ token Eof 6 0 ∷ [])
+    (node PrimaryExpr false 0 0 ∷ node PrimaryExpr false 0 2 ∷ node PrimaryExpr false 0 4 ∷ node BinaryExpr false 2 3 ∷ node BinaryExpr false 2 1 ∷ node ExprStmt false 1 0
+    ∷ node Program false 1 0 ∷ [])
+    [] false Never)
     ∷ reads "5 5 // c"
     (answers (token Val 0 1 ∷ token Val 2 1 ∷ token LexPanic 4 0 ∷ []) (node Program false 0 0 ∷ []) [] true
     (By (record { line = 1; pos = 2; ty = TknMismatch Semicolon (token Val 2 1) })))
