@@ -51,7 +51,7 @@ res=[]
 order=re.findall(r'abbrev μ-(\S+) :',body)
 # member claims
 for m in order:
-    mm=re.search(r'%s-lts\.Need-\S+ \((.*?)\) \(%s-at t\)'%(re.escape(m),re.escape(m)),body,re.S)
+    mm=re.search(r'(?<![\w-])%s-lts\.Need-\S+\s+\((.*?)\)\s+\(%s-at t\)'%(re.escape(m),re.escape(m)),body,re.S)
     t=re.sub(r'\s+',' ',mm.group(1)).strip().rstrip(',')
     tup[m]=(mm.group(1),t)
 def a(name,default='?'):
@@ -64,19 +64,22 @@ for m in order:
     res.append(f'\nabbrev {m}-below : ℕ → In {NL} {m}-kinds.ps\n{m}-below t = and {NL} {m}-kinds.ps (falls {NL} {m}-kinds.ps _<_ μ-{m} t) {m}.Pre')
 for m in order:
     res.append(f'\nabbrev {m}-calls : ℕ → {m}-lts.Claims\n{m}-calls t = ({tup[m][1]})')
-LENT={'push-node':{5:'.0',6:'.1 .0'},'literal':{5:'.1 .1 .0',6:'.1 .1 .1 .0'},'access':{5:'.1 .0',6:'.1 .1 .0'}}
-WHOLE={4:'.1 .1 .1 .0',5:'.1 .1 .1 .1 .0',6:'.1 .1 .1 .1 .1 .0'}
-FIELD={4:'symbols',5:'head',6:'load'}
+LENT={'push-node':{5:'.0',6:'.1 .0'},'literal':{5:'.1 .1 .0',6:'.1 .1 .1 .0'},'access':{5:'.1 .0',6:'.1 .1 .0'},
+ 'store-name':{4:'.1 .1 .1 .0'},'bind':{4:'.1 .1 .1 .0'},'end-block':{5:'.1 .1 .1 .1 .0',6:'.1 .1 .1 .1 .1 .0'},'end-if':{5:'.0',6:'.1 .0',7:'.1 .1 .0',8:'.1 .1 .1 .0'}}
+WHOLE={k:'.1 '*(k-1)+'.0' for k in range(4,9)}
+SIX={k:WHOLE[k] for k in (4,5,6)}
+FIELD={4:'kept .symbols',5:'kept .head',6:'kept .load',7:'places',8:'reasons'}
 def lent(call):
     n=re.sub(r'\d+$','',call)
     if n in LENT: return LENT[n]
-    return WHOLE if n in order or n in ('assign-to','call-named','ident-expr') else {}
+    if n in order: return WHOLE
+    return SIX if n in ('assign-to','call-named','ident-expr','expr','var-decl','ret-stmt','expr-stmt','param-list','ident-pair') else {}
 def chain(LL,text,need,m):
     k=int(re.search(r'(?m)^\s+%s =\s+\(c : \S+\) → MutSlice\.SameLen \(Row\.get (\d+) '%re.escape(need),text).group(1))
     place=LL[2][need]; steps=[]
     while place in LL[0]:
         t=LL[1][place]
-        if t=='loop': steps.append('‹loop› .inv'+(' .0' if m=='param-list' else '')+' .kept .'+FIELD[k])
+        if t=='loop': steps.append('‹loop› .inv'+(' .0' if m in ('param-list','decls','branches') else '')+' .'+FIELD[k])
         elif k in lent(t): steps.append('‹'+t+'› .kept '+lent(t)[k])
         place=LL[0][place]
     return ' ∙ '.join(steps) or 'refl'

@@ -1,4 +1,2 @@
-pub mod Steps
-pub mod Small
-pub mod Loops
-pub mod Names
+pub mod Depth
+pub mod Tags

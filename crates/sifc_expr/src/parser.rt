@@ -1,35 +1,35 @@
 // The cycle of the expressions: assign_expr down to group_expr and back, with the remaining depth
 // as falling number. `depth` is how many more of the counted calls may be active.
-use crate::name::assign_to;
-use crate::name::call_named;
-use crate::name::ident_expr;
-use crate::step::access;
-use crate::step::add_error;
-use crate::step::consume;
-use crate::step::expect;
-use crate::step::is_literal;
-use crate::step::is_unary;
-use crate::step::kind_at;
-use crate::step::literal;
-use crate::step::looseness;
-use crate::step::push_node;
-use crate::step::separator;
-use crate::step::set_check;
-use crate::step::throw_past;
-use crate::step::top;
-use crate::step::with_count;
-use crate::walk::Limits;
-use crate::walk::Parsed;
-use crate::walk::Target;
-use crate::walk::Walk;
 use sifc_def::Why;
 use sifc_err::Refusal;
+use sifc_step::Limits;
+use sifc_step::Parsed;
+use sifc_step::Target;
+use sifc_step::Walk;
+use sifc_step::access;
+use sifc_step::add_error;
+use sifc_step::assign_to;
+use sifc_step::call_named;
+use sifc_step::consume;
+use sifc_step::expect;
+use sifc_step::ident_expr;
+use sifc_step::is_literal;
+use sifc_step::is_unary;
+use sifc_step::kind_at;
+use sifc_step::literal;
+use sifc_step::looseness;
+use sifc_step::push_node;
+use sifc_step::separator;
+use sifc_step::set_check;
+use sifc_step::throw_past;
+use sifc_step::top;
+use sifc_step::with_count;
 ghost use mathlib.Core.Path.{_≡_};
 ghost use Prim.Native.Nat.{_≤_, _<_};
 ghost use Rattle.sifc_def.specs.Expr.{fuel, levels, paramList, groupExpr, primaryExpr, callPart, dot, index};
 ghost use Rattle.sifc_def.specs.Walk.{walkers};
-ghost use Rattle.sifc_expr.specs.Abs.{inp, mem, Ready, Does, Counts, countOf};
-ghost use Rattle.sifc_expr.specs.Small.{nodeOf};
+ghost use Rattle.sifc_step.specs.Abs.{inp, mem, Ready, Does, Counts, countOf};
+ghost use Rattle.sifc_step.specs.Small.{nodeOf};
 
 const LEFT_PAREN: u32 = 1;
 
@@ -469,19 +469,19 @@ fn fn_call_expr(
     let to = top(head, load, x.nodes);
     let k = kind_at(words, x.at);
     if k == LEFT_PAREN {
-        return call_suffix(script, offs, words, symbols, head, load, lim, x, below, to);
+        return call(script, offs, words, symbols, head, load, lim, x, below, to);
     }
     if k == PERIOD {
-        return dot_suffix(script, offs, words, symbols, head, load, lim, x, below, to);
+        return dot(script, offs, words, symbols, head, load, lim, x, below, to);
     }
     if k == LEFT_BRACKET {
-        return index_suffix(script, offs, words, symbols, head, load, lim, x, below, to);
+        return index(script, offs, words, symbols, head, load, lim, x, below, to);
     }
     Parsed::Done(x)
 }
 
 // A call's arguments, then its name: panic 3 and the name's check come after `)`.
-fn call_suffix(
+fn call(
     script: &[u8],
     offs: &[u32],
     words: &[u32],
@@ -514,7 +514,7 @@ fn call_suffix(
 }
 
 // A table access. Names are not checked in the expression after `.`, and are checked after it.
-fn dot_suffix(
+fn dot(
     script: &[u8],
     offs: &[u32],
     words: &[u32],
@@ -544,7 +544,7 @@ fn dot_suffix(
 }
 
 // An array access.
-fn index_suffix(
+fn index(
     script: &[u8],
     offs: &[u32],
     words: &[u32],

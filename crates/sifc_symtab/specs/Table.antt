@@ -78,11 +78,11 @@ entered symbols k level i w = set (set (set (set symbols (4 * k) level) (4 * k +
 abbrev pub Holds : List ℕ → ℕ → Type 0
 Holds symbols n = n * 4 ≤ length symbols
 
--- What is stored fits its words: levels, tokens and parameters are fewer than 65,536.
+-- What is stored fits its words: levels and values are fewer than 65,536, and the name's token is a word.
 pub record Fits (symbols : List ℕ) (n level i : ℕ) (w : What) : Type 0 where
   pub holds : Holds symbols n
   pub level-fits : level < 65536
-  pub name-fits : i < 65536
+  pub name-fits : i < 4294967296
   pub value-fits : valueOf w < 65536
 
 -- what retrieve answers, as the definition has it

@@ -65,7 +65,7 @@ fn value_of(what: What) -> usize
 
 // Writes symbol k.
 pub fn put(symbols: &mut [u32], k: usize, level: usize, i: usize, what: What)
-    requires { ⌜ (k * 4 + 4 ≤ length (now symbols)) × (level < 65536) × (i < 65536) × (valueOf what < 65536) ⌝ }
+    requires { ⌜ (k * 4 + 4 ≤ length (now symbols)) × (level < 65536) × (i < 4294967296) × (valueOf what < 65536) ⌝ }
     ensures { λ _. ⌜ now (symbols .exit) ≡ entered (now (symbols .entry)) k level i what ⌝ }
 {
     let tag = tag_of(what);

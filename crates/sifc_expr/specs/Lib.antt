@@ -1,3 +1,0 @@
-pub mod Abs
-pub mod Small
-pub mod Name

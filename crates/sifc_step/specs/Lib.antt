@@ -1,0 +1,7 @@
+pub mod Abs
+pub mod Small
+pub mod Name
+pub mod Steps
+pub mod SmallLaws
+pub mod Loops
+pub mod Book

@@ -1,0 +1,37 @@
+// The small steps of a reading, and what an expression asks the symbol table.
+mod name;
+mod step;
+mod walk;
+
+pub use name::assign_to;
+pub use name::call_named;
+pub use name::ident_expr;
+pub use step::access;
+pub use step::add_error;
+pub use step::add_error_w_pos;
+pub use step::close_scope;
+pub use step::consume;
+pub use step::expect;
+pub use step::head_word;
+pub use step::init_scope;
+pub use step::is_literal;
+pub use step::is_unary;
+pub use step::kind_at;
+pub use step::listed;
+pub use step::literal;
+pub use step::looseness;
+pub use step::match_ident;
+pub use step::push_node;
+pub use step::separator;
+pub use step::set_check;
+pub use step::store_name;
+pub use step::throw_past;
+pub use step::top;
+pub use step::wide;
+pub use step::with_count;
+pub use walk::Last;
+pub use walk::Limits;
+pub use walk::Parsed;
+pub use walk::Target;
+pub use walk::Walk;
+pub use walk::Walked;
