@@ -1,0 +1,4 @@
+pub mod Fronts
+pub mod Spots
+pub mod Ends
+pub mod Calls
