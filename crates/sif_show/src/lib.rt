@@ -1,4 +1,9 @@
-// What the programs print of tokens.
+// What the programs print of tokens, and the lists of scripts that they replay.
+mod entries;
+
+pub use entries::Entry;
+pub use entries::after_newline;
+pub use entries::entry_at;
 use libc::STDOUT_FILENO;
 use sifc_err::Refusal;
 use sifc_lex::TokensAnswer;
@@ -10,11 +15,11 @@ pub enum Layout {
     List,
 }
 
-fn print(text: &[u8]) {
+pub fn print(text: &[u8]) {
     io::write_all(STDOUT_FILENO, text);
 }
 
-fn print_number(n: usize) {
+pub fn print_number(n: usize) {
     io::print_decimal(STDOUT_FILENO, n as u64);
 }
 
