@@ -1,8 +1,8 @@
-//! Times reading: the Rust, and the plain twin of the reading call. The library has no such call yet.
+//! Times reading: the Rust, the proved reading call, and its plain twin.
 
 use crate::inputs::{inputs, Input, SIZES};
 use crate::timing::{self, median};
-use compare::host::{Arrays, TWIN_READING};
+use compare::host::{Arrays, ReadingCall, OURS, READING, TWIN_READING};
 use compare::scripts::shapes;
 use reference::lex::Lexer;
 use reference::parser::Parser;
@@ -12,12 +12,14 @@ use std::process::ExitCode;
 
 /// The jobs that are timed, in the order of the table.
 const RUST: usize = 0;
-const TWIN: usize = 1;
+const LEFT: usize = 1;
+const TWIN: usize = 2;
 
 const HEADING: &str = "\
 Reading, in MB/s (1 MB = 1,000,000 bytes), and how many times as fast as the Rust; medians.
-Rust: `Parser::parse` over `Lexer::new` and `SymTab::new`, all built and dropped. twin: the reading call
-in plain Rust, arrays as the call before left them, each as long as a script of this size can need.
+Rust: `Parser::parse` over `Lexer::new` and `SymTab::new`, all built and dropped. ours: our call, arrays
+as the call before left them, each as long as a script of this size can need. twin: the same call in
+plain Rust.
 ";
 
 const SHAPES_HEADING: &str = "
@@ -32,16 +34,16 @@ const ERRORS: &str = "\nundeclared; ; 1 = 2;\n";
 const SHAPE_SIZES: [usize; 2] = [4_096, 65_535];
 
 /// The memory that a reading is lent.
-struct Memory([Vec<u32>; 7]);
+pub struct Memory([Vec<u32>; 7]);
 
 impl Memory {
     /// Enough for any script of this length.
-    fn new(script: &[u8]) -> Memory {
+    pub fn new(script: &[u8]) -> Memory {
         let len = script.len() + 1;
         Memory([len, len, len, len, 2 * len, len, len].map(|len| vec![0; len]))
     }
 
-    fn arrays(&mut self) -> Arrays<'_> {
+    pub fn arrays(&mut self) -> Arrays<'_> {
         let [offs, words, heads, loads, symbols, places, reasons] =
             self.0.each_mut().map(Vec::as_mut_slice);
         Arrays { offs, words, heads, loads, symbols, places, reasons }
@@ -50,14 +52,16 @@ impl Memory {
 
 pub fn time_all() -> ExitCode {
     reference::run(|| {
-        println!("{HEADING}");
+        println!("{HEADING}Our side: {OURS}.\n");
         print!("{:<24}{:>7}{:>8}{:>8}", "script", "bytes", "nodes", "errors");
-        println!("{:>9}{:>9}{:>7}", "Rust", "twin", "");
+        println!("{:>9}{:>9}{:>7}{:>9}{:>7}", "Rust", "ours", "", "twin", "");
         inputs().chain(error_laden()).for_each(|input| time(&input));
         println!("{SHAPES_HEADING}");
         let [small, large] = SHAPE_SIZES;
-        println!("{:<32}{:>12}{:>12}{:>12}{:>9}", "shape", "Rust", "twin", "twin", "growth");
-        println!("{:<32}{small:>12}{small:>12}{large:>12}", "bytes up to");
+        print!("{:<32}{:>12}{:>9}{:>9}{:>8}", "shape", "Rust", "ours", "ours", "growth");
+        println!("{:>9}{:>9}{:>8}", "twin", "twin", "growth");
+        print!("{:<32}{small:>12}{small:>9}{large:>9}{:>8}", "bytes up to", "");
+        println!("{small:>9}{large:>9}");
         let shapes = shapes::all(small).into_iter().zip(shapes::all(large));
         shapes.for_each(|((name, small), (_, large))| time_shape(name, &small, &large));
     });
@@ -76,28 +80,41 @@ fn error_laden() -> impl Iterator<Item = Input> {
 
 /// Times a script and prints its line.
 fn time(Input { name, script }: &Input) {
-    let mut memory = Memory::new(script);
-    let answer = TWIN_READING(script, memory.arrays());
+    let [mut left, mut twin] = [(); 2].map(|()| Memory::new(script));
+    let answer = READING(script, left.arrays());
+    assert_eq!(answer, TWIN_READING(script, twin.arrays()), "the answers on {name}");
     assert_eq!(answer.errors as usize, read_by_rust(script), "errors in {name}");
     print!("{name:<24}{:>7}{:>8}{:>8}", script.len(), answer.nodes, answer.errors);
-    let rounds = timing::rounds([&mut || read_by_rust(black_box(script)), &mut || {
-        read_by_twin(black_box(script), &mut memory)
-    }]);
+    let rounds = timing::rounds([
+        &mut || read_by_rust(black_box(script)),
+        &mut || read_by(READING, black_box(script), &mut left),
+        &mut || read_by(TWIN_READING, black_box(script), &mut twin),
+    ]);
     let rate = |job: usize| median(&rounds, |seconds| script.len() as f64 / seconds[job] / 1e6);
-    let ratio = median(&rounds, |seconds| seconds[RUST] / seconds[TWIN]);
-    println!("{:>9.1}{:>9.1}{ratio:>7.1}", rate(RUST), rate(TWIN));
+    let ratio = |job: usize| median(&rounds, |seconds| seconds[RUST] / seconds[job]);
+    print!("{:>9.1}", rate(RUST));
+    for job in [LEFT, TWIN] {
+        print!("{:>9.1}{:>7.1}", rate(job), ratio(job));
+    }
+    println!();
 }
 
 /// Times a shape in both sizes and prints its line.
 fn time_shape(name: &str, small: &[u8], large: &[u8]) {
     let rust = timing::once(|| read_by_rust(small)) / small.len() as f64 * 1e9;
-    let twin = |script: &[u8]| {
-        let mut memory = Memory::new(script);
-        let rounds = timing::rounds([&mut || read_by_twin(black_box(script), &mut memory)]);
-        median(&rounds, |[seconds]| seconds / script.len() as f64 * 1e9)
-    };
-    let (before, after) = (twin(small), twin(large));
-    println!("{name:<32}{rust:>12.1}{before:>12.1}{after:>12.1}{:>9.2}", after / before);
+    print!("{name:<32}{rust:>12.1}");
+    for call in [READING, TWIN_READING] {
+        let (before, after) = (per_byte(call, small), per_byte(call, large));
+        print!("{before:>9.1}{after:>9.1}{:>8.2}", after / before);
+    }
+    println!();
+}
+
+/// How many ns a call takes for each byte of a script.
+fn per_byte(call: ReadingCall, script: &[u8]) -> f64 {
+    let mut memory = Memory::new(script);
+    let rounds = timing::rounds([&mut || read_by(call, black_box(script), &mut memory)]);
+    median(&rounds, |[seconds]| seconds / script.len() as f64 * 1e9)
 }
 
 /// The number of listed errors, as the Rust reads the script.
@@ -107,6 +124,6 @@ fn read_by_rust(script: &[u8]) -> usize {
     black_box(result).errors.len()
 }
 
-fn read_by_twin(script: &[u8], memory: &mut Memory) -> usize {
-    TWIN_READING(script, memory.arrays()).errors as usize
+fn read_by(call: ReadingCall, script: &[u8], memory: &mut Memory) -> usize {
+    call(script, memory.arrays()).errors as usize
 }

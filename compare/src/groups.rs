@@ -2,7 +2,7 @@
 
 mod reading;
 
-use crate::host::{OURS, TWIN_READING};
+use crate::host::{OURS, READING, TWIN_READING};
 use crate::report::{Report, Tally};
 use crate::scripts::random::Random;
 use crate::scripts::short::{self, ARMS, FEWER};
@@ -50,10 +50,11 @@ pub fn run(form: &Form) -> bool {
     println!("our side: {OURS}");
     let mut report = Report::default();
     tokens(&mut report, form);
+    reading::run(&mut report, &form.reading, READING);
     report.finish()
 }
 
-/// Runs the groups of the reading call on the plain twin, which the library does not have yet.
+/// Runs the groups of the reading call on the plain twin.
 pub fn run_twin(form: &Form) -> bool {
     println!("our side: the plain twin");
     let mut report = Report::default();

@@ -5,8 +5,14 @@ use twin::tokens as call;
 
 pub use twin::{Answer as ReadingAnswer, Arrays, Early};
 
-/// A reading call: a script and the arrays that it is lent. The static library has none yet.
+/// A reading call: a script and the arrays that it is lent.
 pub type ReadingCall = fn(&[u8], Arrays<'_>) -> ReadingAnswer;
+
+/// The reading call of the static library.
+#[cfg(not(feature = "stand-in"))]
+pub const READING: ReadingCall = reading;
+#[cfg(feature = "stand-in")]
+pub const READING: ReadingCall = twin::reading;
 
 /// The reading call of the plain twin.
 pub const TWIN_READING: ReadingCall = twin::reading;
@@ -30,14 +36,50 @@ pub struct Answer {
     pub offset: u32,
 }
 
-/// What stands in count, kind and offset before a call: no call may leave it there.
+/// What stands in each number before a call: no call may leave it there.
 const UNWRITTEN: u32 = 0xA5A5_A5A5;
+
+/// A number that no right answer has.
+const WRONG: u32 = u32::MAX;
 
 /// The tokens call.
 pub fn tokens(script: &[u8], offs: &mut [u32], words: &mut [u32]) -> Answer {
     let (mut count, mut kind, mut offset) = (UNWRITTEN, UNWRITTEN, UNWRITTEN);
     let number = call(script, offs, words, &mut count, &mut kind, &mut offset);
     Answer { number, count, kind, offset }
+}
+
+/// The error that ended a reading, in the numbers of `sif_reading`.
+#[cfg_attr(feature = "stand-in", allow(dead_code))]
+#[derive(Clone, Copy, PartialEq)]
+struct Ended {
+    line: usize,
+    pos: usize,
+    number: u32,
+    offset: usize,
+    value: usize,
+}
+
+#[cfg_attr(feature = "stand-in", allow(dead_code))]
+impl Ended {
+    /// The two words that a listed error of these numbers has, where `offs` are the offsets of the
+    /// tokens. Numbers that no error has that ends a reading become words that none has.
+    fn words(self, offs: &[u32]) -> Early {
+        let Ended { line, pos, number, offset, value } = self;
+        let token = || offs.iter().position(|&off| off as usize == offset);
+        let carried = match number {
+            0 if [line, pos, offset, value] == [0; 4] => return NO_ERROR,
+            6 => token().and_then(|token| value.checked_mul(65_536)?.checked_add(token)),
+            7 if offset == 0 => Some(value),
+            _ => None,
+        };
+        let words = carried.and_then(|carried| {
+            let place = line.checked_sub(1)?.checked_mul(65_536)?.checked_add(pos)?;
+            let reason = carried.checked_mul(16)?.checked_add(number as usize)?;
+            Some((u32::try_from(place).ok()?, u32::try_from(reason).ok()?))
+        });
+        words.unwrap_or((WRONG, WRONG)).into()
+    }
 }
 
 #[cfg(not(feature = "stand-in"))]
@@ -53,6 +95,91 @@ extern "C" {
         kind: *mut u32,
         offset: *mut u32,
     ) -> u32;
+
+    fn sif_reading(
+        script: *const u8,
+        script_len: usize,
+        offs: *mut u32,
+        offs_len: usize,
+        words: *mut u32,
+        words_len: usize,
+        heads: *mut u32,
+        heads_len: usize,
+        loads: *mut u32,
+        loads_len: usize,
+        symbols: *mut u32,
+        symbols_len: usize,
+        places: *mut u32,
+        places_len: usize,
+        reasons: *mut u32,
+        reasons_len: usize,
+        tokens: *mut usize,
+        nodes: *mut usize,
+        errors: *mut usize,
+        flag: *mut u32,
+        early_line: *mut usize,
+        early_pos: *mut usize,
+        early_number: *mut u32,
+        early_offset: *mut usize,
+        early_value: *mut usize,
+        kind: *mut u32,
+        offset: *mut usize,
+    ) -> u32;
+}
+
+/// The reading call.
+#[cfg(not(feature = "stand-in"))]
+fn reading(script: &[u8], arrays: Arrays<'_>) -> ReadingAnswer {
+    let Arrays { offs, words, heads, loads, symbols, places, reasons } = arrays;
+    let unwritten = UNWRITTEN as usize;
+    let [mut tokens, mut nodes, mut errors, mut offset] = [unwritten; 4];
+    let [mut kind, mut flag] = [UNWRITTEN; 2];
+    let (line, pos, value) = (unwritten, unwritten, unwritten);
+    let mut early = Ended { line, pos, number: UNWRITTEN, offset: unwritten, value };
+    // SAFETY: each pointer comes from a reference and has the length that goes with it, and the call
+    // has no further requirement.
+    let number = unsafe {
+        sif_reading(
+            script.as_ptr(),
+            script.len(),
+            offs.as_mut_ptr(),
+            offs.len(),
+            words.as_mut_ptr(),
+            words.len(),
+            heads.as_mut_ptr(),
+            heads.len(),
+            loads.as_mut_ptr(),
+            loads.len(),
+            symbols.as_mut_ptr(),
+            symbols.len(),
+            places.as_mut_ptr(),
+            places.len(),
+            reasons.as_mut_ptr(),
+            reasons.len(),
+            &mut tokens,
+            &mut nodes,
+            &mut errors,
+            &mut flag,
+            &mut early.line,
+            &mut early.pos,
+            &mut early.number,
+            &mut early.offset,
+            &mut early.value,
+            &mut kind,
+            &mut offset,
+        )
+    };
+    let word = |count: usize| u32::try_from(count).unwrap_or(WRONG);
+    ReadingAnswer {
+        number: if flag > 1 { WRONG } else { number },
+        kind,
+        offset: word(offset),
+        tokens: word(tokens),
+        nodes: word(nodes),
+        errors: word(errors),
+        flag: flag == 1,
+        early: early.words(offs),
+    }
 }
 
 #[cfg(not(feature = "stand-in"))]
@@ -79,5 +206,42 @@ fn call(
             kind,
             offset,
         )
+    }
+}
+
+#[cfg(test)]
+mod tests {
+    use super::*;
+
+    const NONE: Ended = Ended { line: 0, pos: 0, number: 0, offset: 0, value: 0 };
+
+    #[test]
+    fn the_words_of_an_ending() {
+        let mismatch = Ended { line: 2, pos: 5, number: 6, offset: 9, value: 29 };
+        let offs = [0, 4, 9, 0];
+        let words = Early { place: 65_541, reason: 6 + 16 * 2 + 1_048_576 * 29 };
+        assert_eq!(mismatch.words(&offs), words);
+        let count = Ended { number: 7, offset: 0, value: 64, ..mismatch };
+        assert_eq!(count.words(&offs), Early { place: 65_541, reason: 7 + 16 * 64 });
+        assert_eq!(NONE.words(&offs), NO_ERROR);
+    }
+
+    #[test]
+    fn an_ending_that_cannot_be_is_found() {
+        let mismatch = Ended { line: 2, pos: 5, number: 6, offset: 9, value: 29 };
+        let wrong = [
+            Ended { line: 1, ..NONE },
+            Ended { pos: 1, ..NONE },
+            Ended { offset: 1, ..NONE },
+            Ended { value: 1, ..NONE },
+            Ended { line: 0, ..mismatch },
+            Ended { offset: 8, ..mismatch },
+            Ended { number: 7, ..mismatch },
+            Ended { number: 9, ..mismatch },
+            Ended { value: usize::MAX / 65_536, ..mismatch },
+        ];
+        for ended in wrong {
+            assert_eq!(ended.words(&[0, 4, 9]), Early { place: WRONG, reason: WRONG });
+        }
     }
 }

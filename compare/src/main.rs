@@ -1,6 +1,7 @@
 //! `compare` runs the short form, `compare --long` the long one; with `--twin` after either, not the
 //! library's calls are compared but the reading call of the plain twin. `compare --write-list DIR`
-//! writes the fixed list, and `compare --check-list DIR` says whether it is still what the Rust says.
+//! writes the fixed list of the program in DIR, and `compare --check-list DIR` says whether it is still
+//! what the Rust says.
 
 use compare::{groups, list};
 use std::env::args;

@@ -299,6 +299,7 @@ pub fn check_all_rooms(call: ReadingCall, script: &[u8]) -> Result<&'static str,
     Ok(case.ending())
 }
 
+pub mod listing;
 pub mod rooms;
 #[cfg(test)]
 mod tests;

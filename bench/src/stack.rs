@@ -1,0 +1,91 @@
+//! Measures the stack that a reading takes: it runs in a thread whose stack lies in memory of ours, which
+//! is full of a pattern beforehand.
+
+use crate::reading::Memory;
+use compare::host::{ReadingCall, OURS, READING, TWIN_READING};
+use compare::scripts::nesting;
+use std::ffi::{c_int, c_void};
+use std::process::ExitCode;
+
+/// What fills the stack beforehand, and its length in words.
+const PATTERN: u64 = 0xA5A5_5A5A_A5A5_5A5A;
+const STACK_WORDS: usize = 1 << 20;
+
+/// A shown script ends after this many bytes.
+const SHOWN_BYTES: usize = 30;
+
+/// Enough for `pthread_attr_t` on 64-bit Linux.
+#[repr(C, align(16))]
+struct Attributes([u8; 64]);
+
+extern "C" {
+    fn pthread_attr_init(attributes: *mut Attributes) -> c_int;
+    fn pthread_attr_setstack(attributes: *mut Attributes, at: *mut c_void, len: usize) -> c_int;
+    fn pthread_create(
+        thread: *mut usize,
+        attributes: *const Attributes,
+        start: extern "C" fn(*mut c_void) -> *mut c_void,
+        argument: *mut c_void,
+    ) -> c_int;
+    fn pthread_join(thread: usize, result: *mut *mut c_void) -> c_int;
+}
+
+/// What a thread does: the call on a script, or nothing.
+struct Job<'a> {
+    call: Option<ReadingCall>,
+    script: &'a [u8],
+    memory: Memory,
+}
+
+/// Prints the most stack that each call takes on scripts that nest as deep as is read, and deeper.
+pub fn measure_all() -> ExitCode {
+    println!("The most stack that a reading takes, in bytes, on scripts nested about the limit.");
+    println!("Our side: {OURS}.");
+    for (name, call) in [("ours", READING), ("twin", TWIN_READING)] {
+        let mut most = (0, String::new());
+        nesting::around_limit(false, |script| {
+            most = (taken(call, script), shown(script)).max(most.clone())
+        });
+        println!("{name}: {}, on {}..", most.0, most.1);
+    }
+    ExitCode::SUCCESS
+}
+
+/// How a script begins.
+fn shown(script: &[u8]) -> String {
+    script[..script.len().min(SHOWN_BYTES)].escape_ascii().to_string()
+}
+
+/// The bytes that a call takes beyond those of a thread that does nothing.
+fn taken(call: ReadingCall, script: &[u8]) -> usize {
+    let used = |call| used(Job { call, script, memory: Memory::new(script) });
+    used(Some(call)) - used(None)
+}
+
+/// The bytes of the stack that a thread with this job has written to.
+fn used(mut job: Job) -> usize {
+    let mut stack = vec![PATTERN; STACK_WORDS];
+    let mut attributes = Attributes([0; 64]);
+    let mut thread = 0;
+    // SAFETY: the stack and the job outlive the thread, which has ended before either is looked at.
+    unsafe {
+        assert_eq!(pthread_attr_init(&mut attributes), 0);
+        let (at, len) = (stack.as_mut_ptr().cast(), 8 * STACK_WORDS);
+        assert_eq!(pthread_attr_setstack(&mut attributes, at, len), 0);
+        let job: *mut Job = &mut job;
+        assert_eq!(pthread_create(&mut thread, &attributes, start, job.cast()), 0);
+        assert_eq!(pthread_join(thread, std::ptr::null_mut()), 0);
+    }
+    let untouched = stack.iter().position(|&word| word != PATTERN).unwrap_or(STACK_WORDS);
+    assert!(untouched > 0, "the stack is too short");
+    8 * (STACK_WORDS - untouched)
+}
+
+extern "C" fn start(job: *mut c_void) -> *mut c_void {
+    // SAFETY: `used` hands over its job, and waits for the end of the thread.
+    let Job { call, script, memory } = unsafe { &mut *job.cast::<Job>() };
+    if let Some(call) = call {
+        call(script, memory.arrays());
+    }
+    std::ptr::null_mut()
+}
