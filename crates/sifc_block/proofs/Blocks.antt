@@ -139,7 +139,7 @@ module _ {ps rs : List ℕ} {w : Walk} {e : Err} (h : Noting ps rs w e) where
 -- ── the names that a block binds ──
 
 -- what is stored fits
-pub fits-other : {I : Inp} {M : Mem} {w : Walk} {i : ℕ} → Ready I M w → i < 4294967296 → Fits (M .symbols) (w .symbols) (w .level) i Other
+pub fits-other : {I : Inp} {M : Mem} {w : Walk} {i : ℕ} → Ready I M w → i < 4294967296 → Fits (I .script) (I .offs) (I .words) (M .symbols) (w .symbols) (w .level) i Other
 unfolding valueOf
 fits-other p h = record { holds = p .holds; level-fits = omega (arith, p .level, p .stands .here, p .stands .toks .few); name-fits = h; value-fits = omega arith }
 

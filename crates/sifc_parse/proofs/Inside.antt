@@ -103,11 +103,11 @@ count-used {r} {x} h e = let z : countOf (Done x) ≤ usedBy (Done x) = subst (�
 level-fits : {I : Inp} {M : Mem} {w : Walk} → Ready I M w → w .level < 65536
 level-fits p = omega (arith, p .level, p .stands .here, p .stands .toks .few)
 
-pub fits-holder : {I : Inp} {M : Mem} {w : Walk} {i : ℕ} → Ready I M w → i < 65536 → Fits (M .symbols) (w .symbols) (w .level) i Placeholder
+pub fits-holder : {I : Inp} {M : Mem} {w : Walk} {i : ℕ} → Ready I M w → i < 65536 → Fits (I .script) (I .offs) (I .words) (M .symbols) (w .symbols) (w .level) i Placeholder
 unfolding valueOf
 fits-holder p h = record { holds = p .holds; level-fits = level-fits p; name-fits = omega arith; value-fits = omega arith }
 
-pub fits-function : {I : Inp} {M : Mem} {w : Walk} {i n : ℕ} → Ready I M w → i < 65536 → n ≤ 64 → Fits (M .symbols) (w .symbols) (w .level) i (Function n)
+pub fits-function : {I : Inp} {M : Mem} {w : Walk} {i n : ℕ} → Ready I M w → i < 65536 → n ≤ 64 → Fits (I .script) (I .offs) (I .words) (M .symbols) (w .symbols) (w .level) i (Function n)
 unfolding valueOf
 fits-function p h l = record { holds = p .holds; level-fits = level-fits p; name-fits = omega arith; value-fits = omega arith }
 

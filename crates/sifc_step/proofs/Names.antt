@@ -29,7 +29,7 @@ use Rattle.sifc_def.proofs.What as what-type
 use Rattle.sifc_symtab.specs.declared.symtab.Found.{Found}
 use Rattle.sifc_symtab.specs.declared.symtab.Found.the-variants.{Nothing, Declared}
 use Rattle.sifc_symtab.specs.Toks.{toksOf, toks-at, toks-past-words}
-use Rattle.sifc_symtab.specs.Table.{nameIn, whatOf, valueOf, symAt, listed, symsOf, foundOf, Retrieves}
+use Rattle.sifc_symtab.specs.Table.{nameIn, whatOf, valueOf, tagAt, valueAt, symAt, listed, symsOf, foundOf, Retrieves}
 use Rattle.sifc_step.specs.declared.walk.Limits.{Limits}
 use Rattle.sifc_step.specs.declared.walk.Walk.{Walk}
 use Rattle.sifc_step.specs.declared.walk.Target.{Target}
@@ -171,7 +171,7 @@ module _ (b : ℕ) (f : ℕ → Sym) (small : (k : ℕ) → valueOf (f k .what) 
 pub found-small : {s os ks ys : List ℕ} {n level i : ℕ} {f : Found} {ys′ : List ℕ} (b : ℕ) → 0 < b → ((k : ℕ) → getD ys k 0 < b) → Retrieves s os ks ys n level i f ys′ → valueIn f < b
 unfolding symsOf symAt SmallIn
 found-small {s} {os} {ks} {ys} {n} {level} {i} {f} {ys′} b z h d =
-    pick f (subst (λ (o : Option What). SmallIn b o) (sym (d .found)) (in-small b (symAt s os ks ys) (λ k. what-small b (getD ys (4 * k + 2) 0) (getD ys (4 * k + 3) 0) z (h (4 * k + 3))) level (nameIn s os ks i) n))
+    pick f (subst (λ (o : Option What). SmallIn b o) (sym (d .found)) (in-small b (symAt s os ks ys) (λ k. what-small b (tagAt ys k) (valueAt ys k) z (omega (arith, h (4 * k)))) level (nameIn s os ks i) n))
   where
     pick : (g : Found) → SmallIn b (foundOf g) → valueIn g < b
     pick Nothing q = z

@@ -140,7 +140,7 @@ pub record Ready (I : Inp) (M : Mem) (w : Walk) : Type 0 where
   pub stands : Stands (I .offs) (I .words) w
   pub even : length (M .head) ≡ length (M .load)
   pub used : w .nodes ≤ length (M .head)
-  pub holds : Holds (M .symbols) (w .symbols)
+  pub holds : Holds (I .script) (I .offs) (I .words) (M .symbols) (w .symbols)
   pub level : w .level ≤ w .at
   pub room : w .errors ≤ I .lim .errors
 
@@ -149,7 +149,7 @@ pub record Fine (I : Inp) (M : Mem) (lo n : ℕ) (w : Walk) : Type 0 where
   pub here : w .at < length (I .words)
   pub calm : kindAt (I .words) (w .at) ≡ LexPanic → ⊥
   pub used : w .nodes ≤ length (M .head)
-  pub holds : Holds (M .symbols) (w .symbols)
+  pub holds : Holds (I .script) (I .offs) (I .words) (M .symbols) (w .symbols)
   pub level : w .level ≤ w .at
   pub room : w .errors ≤ I .lim .errors
   pub errors : w .errors ≡ n
@@ -160,7 +160,7 @@ pub record Broke (I : Inp) (M : Mem) (lo n : ℕ) (w : Walk) : Type 0 where
   pub here : w .at < length (I .words)
   pub calm : kindAt (I .words) (w .at) ≡ LexPanic → ⊥
   pub used : w .nodes ≤ length (M .head)
-  pub holds : Holds (M .symbols) (w .symbols)
+  pub holds : Holds (I .script) (I .offs) (I .words) (M .symbols) (w .symbols)
   pub level : w .level ≤ w .at
   pub room : w .errors ≤ I .lim .errors
   pub errors : w .errors ≡ n

@@ -22,7 +22,7 @@ use Rattle.sifc_def.specs.Expr.{looseness, isUnary, isLiteral, separator, liter
 use Rattle.sifc_symtab.specs.declared.symtab.Stored.{Stored}
 use Rattle.sifc_symtab.specs.declared.symtab.Stored.the-variants.{At as Held, Full}
 use Rattle.sifc_symtab.specs.Table.{symsOf, Stores}
-use Rattle.sifc_symtab.specs.Laws.{store-at, store-full, holds-after}
+use Rattle.sifc_symtab.specs.Laws.{store-at, store-full}
 use Rattle.sifc_step.specs.declared.walk.Limits.{Limits}
 use Rattle.sifc_step.specs.declared.walk.Walk.{Walk}
 use Rattle.sifc_step.specs.declared.walk.Target.{Target}
@@ -381,13 +381,13 @@ pushed-as {I} {M} {w} {h} {k} {n} {tk} {f} {r} {hs} {ls} p hw d =
 -- ── symbols ──
 
 module _ {s os ks ys : List ℕ} {w : Walk} {i : ℕ} {what : What} {ys′ : List ℕ} where
-  pub put-done : {x : Stored} {n : ℕ} → Stores s os ks ys (w .symbols) (w .level) i what x ys′ → x ≡ Held n → length ys′ ≡ length ys → Puts s os ks ys w i what (Done (storedBy w n)) ys′
-  put-done {x} {n} g e el = let d : Stores s os ks ys (w .symbols) (w .level) i what (Held n) ys′ = subst (λ (y : Stored). Stores s os ks ys (w .symbols) (w .level) i what y ys′) e g in record {
+  pub put-done : {x : Stored} {n : ℕ} → Stores s os ks ys (w .symbols) (w .level) i what x ys′ → x ≡ Held n → Puts s os ks ys w i what (Done (storedBy w n)) ys′
+  put-done {x} {n} g e = let d : Stores s os ks ys (w .symbols) (w .level) i what (Held n) ys′ = subst (λ (y : Stored). Stores s os ks ys (w .symbols) (w .level) i what y ys′) e g in record {
     sure = tt;
     there = refl;
     does = λ l hs ls p. record {
       same = λ E q. sym (store-at (ctx (inp s os ks l) (roomsOf (mem ys hs ls))) os ks (abs (inp s os ks l) E w (mem ys hs ls)) ys (w .symbols) i (record { name = refl; table = refl }) refl what ys′ n d);
-      fine = record { here = p .stands .here; calm = p .stands .calm; used = p .used; holds = holds-after s os ks ys ys′ (w .symbols) (w .level) i n what d el; level = p .level; room = p .room; errors = refl; on = omega arith };
+      fine = record { here = p .stands .here; calm = p .stands .calm; used = p .used; holds = d .holds; level = p .level; room = p .room; errors = refl; on = omega arith };
     };
   }
 

@@ -69,7 +69,7 @@ fn sym_exists(
     level: usize,
     i: usize,
 ) -> bool
-    requires { ⌜ Holds (now symbols) n ⌝ }
+    requires { ⌜ Holds (now script) (now offs) (now words) (now symbols) n ⌝ }
     ensures { λ r. ⌜ Exists (now (script .entry)) (now (offs .entry)) (now (words .entry)) (now (symbols .entry)) n level i r (now (symbols .exit)) ⌝ }
 {
     let found = retrieve(script, offs, words, symbols, n, level, i);

@@ -386,7 +386,7 @@ pub fn store_name(
     i: usize,
     what: What,
 ) -> Parsed
-    requires { ⌜ Fits (now symbols) (w .symbols) (w .level) i what ⌝ }
+    requires { ⌜ Fits (now script) (now offs) (now words) (now symbols) (w .symbols) (w .level) i what ⌝ }
     ensures { λ r. ⌜ Puts (now (script .entry)) (now (offs .entry)) (now (words .entry)) (now (symbols .entry)) w i what r (now (symbols .exit)) ⌝ }
 {
     let stored = store(script, offs, words, symbols, w.symbols, w.level, i, what);

@@ -224,11 +224,11 @@ free p = record { stands = p .stands; even = p .even; used = p .used; holds = p 
 fits-level : {I : Inp} {N : Mem} {w : Walk} → Ready I N w → w .level < 65536
 fits-level p = omega (arith, p .level, p .stands .here, p .stands .toks .few)
 
-pub fits-variable : {I : Inp} {N : Mem} {w : Walk} (i : ℕ) (g : Bool) → Ready I N w → i < 65536 → Fits (N .symbols) (w .symbols) (w .level) i (Variable i g)
+pub fits-variable : {I : Inp} {N : Mem} {w : Walk} (i : ℕ) (g : Bool) → Ready I N w → i < 65536 → Fits (I .script) (I .offs) (I .words) (N .symbols) (w .symbols) (w .level) i (Variable i g)
 unfolding valueOf
 fits-variable i g p h = record { holds = p .holds; level-fits = fits-level p; name-fits = omega (arith, h); value-fits = h }
 
-pub fits-other : {I : Inp} {N : Mem} {w : Walk} (i : ℕ) → Ready I N w → i < 65536 → Fits (N .symbols) (w .symbols) (w .level) i Other
+pub fits-other : {I : Inp} {N : Mem} {w : Walk} (i : ℕ) → Ready I N w → i < 65536 → Fits (I .script) (I .offs) (I .words) (N .symbols) (w .symbols) (w .level) i Other
 unfolding valueOf
 fits-other i p h = record { holds = p .holds; level-fits = fits-level p; name-fits = omega (arith, h); value-fits = omega arith }
 

@@ -1,129 +1,298 @@
--- The words after a symbol is written, and the answers of store.
-use Prim.Native.Nat.{ℕ, _+_, _*_, _-_, _≤_, _<_}
-use mathlib.Core.Path.{_≡_, refl, sym, ap, ap₂, _∙_}
+-- The answers of store, and that the words hold the table that it leaves.
+use Prim.Native.Nat.{ℕ, suc, _+_, _*_, _-_, _/_, _%_, _≤_, _<_, min}
+use mathlib.Core.Path.{_≡_, refl, sym, ap, ap₂, subst, _∙_}
 use mathlib.Core.List.{List, [], _∷_, _++_}
 use mathlib.Core.Bool.{true, false}
 use native.Mathlib.Omega.{arith}
 use native.Mathlib.Nat.{zero-add}
 use native.Mathlib.Numerals.{add-one}
 use borrow.Author.Tests.{le-leb, lt-leb}
-use lib.ListN.{length, getD, set, length-set, length-append}
-use lib.Seq.{getD-set-same, getD-set-other}
-use Rattle.sifc_lex.specs.Base.{if_then_else_}
+use lib.ListN.{length, getD, length-append}
 use Rattle.sifc_def.specs.declared.What.{What}
-use Rattle.sifc_def.specs.declared.What.the-variants.{Placeholder, Function, Variable, Other}
 use Rattle.sifc_def.specs.State.{Sym}
 use Rattle.sifc_def.specs.Symbols.{putAt}
 use Rattle.sifc_symtab.specs.declared.symtab.Stored.the-variants.{At, Full}
-use Rattle.sifc_symtab.specs.Table.{nameIn, whatOf, tagOf, valueOf, symAt, listed, symsOf, roomOf, entered, Holds, newTable, Stores}
-use Rattle.sifc_symtab.specs.Scan.{scan}
+use Rattle.sifc_symtab.specs.declared.symtab.Spot.{Spot}
+use Rattle.sifc_symtab.specs.Chains.{First, In, Behind, Chains}
+use Rattle.sifc_symtab.specs.Table.{nameIn, levelAt, tokenIn, hashAt, nextAt, headAt, hashOf, symAt, listed, symsOf, roomOf, entered, withNext, withHead, bucketsOf, bucketAt, linked, Holds, Fits, newTable, Stores}
+use Rattle.sifc_symtab.specs.Seek.{Hit, Seeking, Sought, Nearest, Best, InsertAt, Inserts}
 use Rattle.sifc_symtab.specs.Laws.{listed-ext, listed-last, length-listed}
+use Rattle.sifc_symtab.proofs.Cases.{by-eq, by-lt}
+use Rattle.sifc_symtab.proofs.Chains.{Grown, chains-front, chains-behind, chains-same, all-below}
+use Rattle.sifc_symtab.proofs.Seek.{same-equal}
 use Rattle.sifc_symtab.proofs.Levels.{put-old, put-new}
+use Rattle.sifc_symtab.proofs.Hash.{bucket-in}
+use Rattle.sifc_symtab.proofs.Words.{Kept, kept-on, kept-level, kept-hash, kept-sym, entered-length, entered-kept, entered-next, entered-head, entered-level, entered-hash, entered-token, entered-sym, next-length, next-kept, next-other, next-here, next-head, head-length, head-kept, heads-other, heads-here, head-next}
 
--- the two words say what was stored
-pub what-back : (w : What) → whatOf (tagOf w) (valueOf w) ≡ w
-unfolding whatOf tagOf valueOf if_then_else_
-what-back Placeholder = refl
-what-back (Function n) = refl
-what-back (Variable i false) = refl
-what-back (Variable i true) = refl
-what-back Other = refl
+-- as many buckets in words of one length
+buckets-same : (words a b : List ℕ) → length b ≡ length a → bucketsOf words b ≡ bucketsOf words a
+buckets-same words a b e = ap (λ (x : ℕ). min (x / 4) (length words + 1)) e
 
-module _ (symbols : List ℕ) (k level i : ℕ) (w : What) where
-  first : List ℕ
-  first = set symbols (4 * k) level
+bucket-same : (words a b : List ℕ) (k : ℕ) → length b ≡ length a → hashAt b k ≡ hashAt a k → bucketAt words b k ≡ bucketAt words a k
+bucket-same words a b k e h = ap₂ _%_ h (buckets-same words a b e)
 
-  second : List ℕ
-  second = set first (4 * k + 1) i
+module _ (script offs words symbols : List ℕ) (n level i k : ℕ) (w : What) (h : ℕ) (s : List ℕ) (p : Fits script offs words symbols n level i w) (es : s ≡ nameIn script offs words i) (eh : h ≡ hashOf s)
+    (b : Best (symAt script offs words symbols) level level s n n k) where
+  entry-is : Sym
+  entry-is = record { level = level; name = s; what = w }
 
-  third : List ℕ
-  third = set second (4 * k + 2) (tagOf w)
+  -- what is written has the name
+  named : record { level = level; name = nameIn script offs words i; what = w } ≡ entry-is
+  unfolding entry-is
+  named = ap (λ (x : List ℕ). record { level = level; name = x; what = w }) (sym es)
 
-  -- a word of another symbol
-  other : (j : ℕ) → (j ≡ 4 * k → ⊥) → (j ≡ 4 * k + 1 → ⊥) → (j ≡ 4 * k + 2 → ⊥) → (j ≡ 4 * k + 3 → ⊥) → getD (entered symbols k level i w) j 0 ≡ getD symbols j 0
-  unfolding entered first second third
-  other j a b c d =
-      getD-set-other third (4 * k + 3) j (valueOf w) 0 d
-      ∙ getD-set-other second (4 * k + 2) j (tagOf w) 0 c
-      ∙ getD-set-other first (4 * k + 1) j i 0 b
-      ∙ getD-set-other symbols (4 * k) j level 0 a
+  table-is : newTable script offs words symbols n level i w ≡ putAt level s w (symsOf script offs words symbols n)
+  table-is = ap (λ (x : List ℕ). putAt level x w (symsOf script offs words symbols n)) (sym es)
 
-  module _ (h : k * 4 + 4 ≤ length symbols) where
-    at-level : getD (entered symbols k level i w) (4 * k) 0 ≡ level
-    unfolding entered first second third
-    at-level =
-        getD-set-other third (4 * k + 3) (4 * k) (valueOf w) 0 (λ e. omega arith)
-        ∙ getD-set-other second (4 * k + 2) (4 * k) (tagOf w) 0 (λ e. omega arith)
-        ∙ getD-set-other first (4 * k + 1) (4 * k) i 0 (λ e. omega arith)
-        ∙ getD-set-same symbols (4 * k) level 0 (omega arith)
+  -- ── an entry that is there ──
 
-    at-name : getD (entered symbols k level i w) (4 * k + 1) 0 ≡ i
-    unfolding entered first second third
-    at-name =
-        getD-set-other third (4 * k + 3) (4 * k + 1) (valueOf w) 0 (λ e. omega arith)
-        ∙ getD-set-other second (4 * k + 2) (4 * k + 1) (tagOf w) 0 (λ e. omega arith)
-        ∙ getD-set-same first (4 * k + 1) i 0 (simp length-set (omega arith))
+  module _ (l : k < n) where
+    near : Nearest (symAt script offs words symbols) level level s n k
+    near = b .some l
 
-    at-tag : getD (entered symbols k level i w) (4 * k + 2) 0 ≡ tagOf w
-    unfolding entered first second third
-    at-tag =
-        getD-set-other third (4 * k + 3) (4 * k + 2) (valueOf w) 0 (λ e. omega arith)
-        ∙ getD-set-same second (4 * k + 2) (tagOf w) 0 (simp length-set (omega arith))
+    room : k * 4 + 4 ≤ length symbols
+    room = omega (arith, p .holds .room)
 
-    at-value : getD (entered symbols k level i w) (4 * k + 3) 0 ≡ valueOf w
-    unfolding entered first second third
-    at-value = getD-set-same third (4 * k + 3) (valueOf w) 0 (simp length-set (omega arith))
+    level-old : levelAt symbols k ≡ level
+    unfolding symAt
+    level-old = omega (arith, near .hit .above, near .hit .below)
 
-    module _ (script offs words : List ℕ) where
-      pub sym-here : symAt script offs words (entered symbols k level i w) k ≡ record { level = level; name = nameIn script offs words i; what = w }
-      unfolding symAt
-      sym-here = rw (at-level, at-name, at-tag, at-value, what-back w) refl
+    hash-old : hashAt symbols k ≡ h
+    unfolding symAt
+    hash-old = p .holds .hashes k l ∙ ap hashOf (same-equal (nameIn script offs words (tokenIn symbols k)) s (near .hit .named)) ∙ sym eh
 
-  pub sym-there : (script offs words : List ℕ) (j : ℕ) → (j ≡ k → ⊥) → symAt script offs words (entered symbols k level i w) j ≡ symAt script offs words symbols j
-  unfolding symAt
-  sym-there script offs words j n =
-      rw (
-        other (4 * j) (λ e. n (omega arith)) (λ e. omega arith) (λ e. omega arith) (λ e. omega arith),
-        other (4 * j + 1) (λ e. omega arith) (λ e. n (omega arith)) (λ e. omega arith) (λ e. omega arith),
-        other (4 * j + 2) (λ e. omega arith) (λ e. omega arith) (λ e. n (omega arith)) (λ e. omega arith),
-        other (4 * j + 3) (λ e. omega arith) (λ e. omega arith) (λ e. omega arith) (λ e. n (omega arith)),
-      ) refl
+    new : List ℕ
+    new = entered symbols k level i w h
 
--- What store answers, where the pass over the symbols ends at r.
-module _ (script offs words symbols : List ℕ) (n level i r : ℕ) (w : What) (h : Holds symbols n)
-    (e : r ≡ scan level level (nameIn script offs words i) 0 n (symsOf script offs words symbols n)) where
-  pub stored-old : r < n → (symbols′ : List ℕ) → symbols′ ≡ entered symbols r level i w → Stores script offs words symbols n level i w (At n) symbols′
-  unfolding symsOf
-  stored-old l symbols′ c =
-      let p : putAt level (nameIn script offs words i) w (listed (symAt script offs words symbols) 0 n) ≡ listed (symAt script offs words (entered symbols r level i w)) 0 n =
-      put-old (symAt script offs words symbols) (symAt script offs words (entered symbols r level i w)) level (nameIn script offs words i) w n 0 n r (omega arith) (sym e) l
-      (λ j a b d. sym-there symbols r level i w script offs words j d) (sym-here symbols r level i w (omega arith) script offs words) in
-      let q = ap length p in
-      let m = length-listed (symAt script offs words (entered symbols r level i w)) n 0 in
-      record { room = le-leb _ (roomOf symbols) (omega arith); table = ap (λ (s : List ℕ). listed (symAt script offs words s) 0 n) c ∙ sym p }
+    new-level : (j : ℕ) → levelAt new j ≡ levelAt symbols j
+    unfolding new
+    new-level j = by-eq j k (λ e. ap (levelAt new) e ∙ entered-level symbols k level i w h room (p .level-fits) ∙ sym (ap (levelAt symbols) e ∙ level-old)) (λ e. kept-level (entered-kept symbols k level i w h j e))
 
-  module _ (l : n ≤ r) where
-    new-key : newTable script offs words symbols n level i w ≡ symsOf script offs words symbols n ++ (record { level = level; name = nameIn script offs words i; what = w } ∷ [])
+    new-hash : (j : ℕ) → hashAt new j ≡ hashAt symbols j
+    unfolding new
+    new-hash j = by-eq j k (λ e. ap (hashAt new) e ∙ entered-hash symbols k level i w h room (p .level-fits) ∙ sym (ap (hashAt symbols) e ∙ hash-old)) (λ e. kept-hash (entered-kept symbols k level i w h j e))
+
+    new-length : length new ≡ length symbols
+    unfolding new
+    new-length = entered-length symbols k level i w h
+
+    old-table : putAt level s w (listed (symAt script offs words symbols) 0 n) ≡ listed (symAt script offs words new) 0 n
+    unfolding new
+    old-table =
+        put-old (symAt script offs words symbols) (symAt script offs words new) level s w n k near (λ j d. kept-sym script offs words (entered-kept symbols k level i w h j d))
+        (entered-sym symbols k level i w h room (p .level-fits) script offs words ∙ (unfold entry-is in named))
+
+    old-holds : Holds script offs words new n
+    unfolding new
+    old-holds =
+        record {
+          room = omega (arith, p .holds .room, new-length);
+          hashes = λ j q. by-eq j k
+              (λ e. ap (hashAt new) e ∙ entered-hash symbols k level i w h room (p .level-fits) ∙ eh ∙ ap hashOf es ∙ ap (λ (x : ℕ). hashOf (nameIn script offs words x)) (sym (ap (tokenIn new) e ∙ entered-token symbols k level i w h room (p .level-fits))))
+              (λ e. let y = entered-kept symbols k level i w h j e in kept-hash y ∙ p .holds .hashes j q ∙ ap (λ (x : ℕ). hashOf (nameIn script offs words x)) (sym (y .second)));
+          chains = subst (λ (x : ℕ). Chains x (min n linked) (levelAt new) (bucketAt words new) (nextAt new) (headAt new)) (sym (buckets-same words symbols new new-length))
+              (chains-same (bucketsOf words symbols) (min n linked) (levelAt symbols) (bucketAt words symbols) (nextAt symbols) (headAt symbols) (levelAt new) (bucketAt words new) (nextAt new) (headAt new) (p .holds .chains)
+              (λ j q. new-level j) (λ j q. bucket-same words symbols new j new-length (new-hash j)) (λ j q. entered-next symbols k level i w h j) (λ d q. entered-head symbols k level i w h d));
+        }
+
+    pub stored-old : (symbols′ : List ℕ) → symbols′ ≡ entered symbols k level i w h → Stores script offs words symbols n level i w (At n) symbols′
+    unfolding symsOf new
+    stored-old symbols′ c =
+        let q = ap length (table-is ∙ old-table) in
+        let m = length-listed (symAt script offs words new) n 0 in
+        subst (Stores script offs words symbols n level i w (At n)) (sym c)
+        (record { room = le-leb _ (roomOf symbols) (omega (arith, p .holds .room)); table = sym (table-is ∙ old-table); holds = old-holds })
+
+  -- ── a new one ──
+
+  module _ (l : n ≤ k) where
+    miss : (j : ℕ) → j < n → Hit level level s (symAt script offs words symbols j) → ⊥
+    miss = b .none (omega (arith, b .within))
+
+    new-key : newTable script offs words symbols n level i w ≡ symsOf script offs words symbols n ++ (entry-is ∷ [])
+    unfolding symsOf entry-is
+    new-key = table-is ∙ put-new (symAt script offs words symbols) (symAt script offs words symbols) level s w n miss
+
+    long : length (newTable script offs words symbols n level i w) ≡ n + 1
     unfolding symsOf
-    new-key = put-new (symAt script offs words symbols) (symAt script offs words symbols) level (nameIn script offs words i) w n 0 n (omega arith) (omega (arith, l, e))
-
-    new-length : length (newTable script offs words symbols n level i w) ≡ n + 1
-    unfolding symsOf
-    new-length = ap length new-key ∙ length-append (listed (symAt script offs words symbols) 0 n) _ ∙ ap (λ (m : ℕ). m + 1) (length-listed (symAt script offs words symbols) n 0)
+    long = ap length new-key ∙ length-append (listed (symAt script offs words symbols) 0 n) _ ∙ ap (λ (m : ℕ). m + 1) (length-listed (symAt script offs words symbols) n 0)
 
     pub stored-full : roomOf symbols ≤ n → Stores script offs words symbols n level i w Full symbols
-    stored-full f = let z = new-length in record { room = lt-leb _ (roomOf symbols) (omega arith); kept = refl }
+    stored-full f = let z = long in record { room = lt-leb _ (roomOf symbols) (omega arith); kept = refl }
 
-    appended : n < roomOf symbols → symsOf script offs words (entered symbols n level i w) (n + 1) ≡ newTable script offs words symbols n level i w
-    unfolding symsOf
-    appended h′ =
-        let f = symAt script offs words (entered symbols n level i w) in
-        ap (listed f 0) (add-one n)
-        ∙ listed-last f n 0
-        ∙ ap₂ (λ (x : List Sym) (y : Sym). x ++ (y ∷ []))
-        (listed-ext f (symAt script offs words symbols) n 0 (λ j a b. sym-there symbols n level i w script offs words j (λ d. omega arith)))
-        (ap f (zero-add n) ∙ sym-here symbols n level i w (omega arith) script offs words)
-        ∙ sym new-key
+    module _ (f : n < roomOf symbols) where
+      fits : n * 4 + 4 ≤ length symbols
+      fits = omega arith
 
-    pub stored-new : n < roomOf symbols → (symbols′ : List ℕ) → symbols′ ≡ entered symbols n level i w → Stores script offs words symbols n level i w (At (n + 1)) symbols′
-    stored-new f symbols′ c = let z = new-length in record { room = le-leb _ (roomOf symbols) (omega arith); table = ap (λ (s : List ℕ). symsOf script offs words s (n + 1)) c ∙ appended f }
+      one : List ℕ
+      one = entered symbols n level i w h
+
+      one-length : length one ≡ length symbols
+      unfolding one
+      one-length = entered-length symbols n level i w h
+
+      -- The words after the links are written.
+      module _ (symbols′ : List ℕ) (el : length symbols′ ≡ length symbols) (kept : (j : ℕ) → Kept one symbols′ j) where
+        kept-old : (j : ℕ) → (j ≡ n → ⊥) → Kept symbols symbols′ j
+        unfolding one
+        kept-old j d = kept-on (entered-kept symbols n level i w h j d) (kept j)
+
+        hash-new : hashAt symbols′ n ≡ h
+        unfolding one
+        hash-new = kept-hash (kept n) ∙ entered-hash symbols n level i w h fits (p .level-fits)
+
+        level-new : levelAt symbols′ n ≡ level
+        unfolding one
+        level-new = kept-level (kept n) ∙ entered-level symbols n level i w h fits (p .level-fits)
+
+        appended : symsOf script offs words symbols′ (n + 1) ≡ newTable script offs words symbols n level i w
+        unfolding symsOf one
+        appended =
+            let g = symAt script offs words symbols′ in
+            ap (listed g 0) (add-one n)
+            ∙ listed-last g n 0
+            ∙ ap₂ (λ (x : List Sym) (y : Sym). x ++ (y ∷ []))
+            (listed-ext g (symAt script offs words symbols) n 0 (λ j a d. kept-sym script offs words (kept-old j (λ q. omega arith))))
+            (ap g (zero-add n) ∙ kept-sym script offs words (kept n) ∙ entered-sym symbols n level i w h fits (p .level-fits) script offs words ∙ named)
+            ∙ sym new-key
+
+        hashes : (j : ℕ) → j < n + 1 → hashAt symbols′ j ≡ hashOf (nameIn script offs words (tokenIn symbols′ j))
+        unfolding one
+        hashes j q =
+            by-eq j n
+            (λ e. ap (hashAt symbols′) e ∙ hash-new ∙ eh ∙ ap hashOf es ∙ ap (λ (x : ℕ). hashOf (nameIn script offs words x)) (sym (ap (tokenIn symbols′) e ∙ kept n .second ∙ entered-token symbols n level i w h fits (p .level-fits))))
+            (λ e. let y = kept-old j e in kept-hash y ∙ p .holds .hashes j (omega arith) ∙ ap (λ (x : ℕ). hashOf (nameIn script offs words x)) (sym (y .second)))
+
+        finished : Chains (bucketsOf words symbols) (min (n + 1) linked) (levelAt symbols′) (bucketAt words symbols′) (nextAt symbols′) (headAt symbols′)
+            → Stores script offs words symbols n level i w (At (n + 1)) symbols′
+        finished c =
+            let z = long in
+            record {
+              room = le-leb _ (roomOf symbols) (omega arith);
+              table = appended;
+              holds = record {
+                room = omega arith;
+                hashes = hashes;
+                chains = subst (λ (x : ℕ). Chains x (min (n + 1) linked) (levelAt symbols′) (bucketAt words symbols′) (nextAt symbols′) (headAt symbols′)) (sym (buckets-same words symbols symbols′ el)) c;
+              };
+            }
+
+        bucket-old : (j : ℕ) → (j ≡ n → ⊥) → bucketAt words symbols′ j ≡ bucketAt words symbols j
+        bucket-old j d = bucket-same words symbols symbols′ j el (kept-hash (kept-old j d))
+
+        bucket-new : bucketAt words symbols′ n ≡ h % bucketsOf words symbols
+        bucket-new = ap₂ _%_ hash-new (buckets-same words symbols symbols′ el)
+
+        grown : n < linked → Grown n (h % bucketsOf words symbols) level (levelAt symbols) (bucketAt words symbols) (levelAt symbols′) (bucketAt words symbols′)
+        grown z =
+            record {
+              few = omega arith;
+              old-level = λ j q. kept-level (kept-old j (λ e. omega arith));
+              old-bucket = λ j q. bucket-old j (λ e. omega arith);
+              new-level = level-new;
+              new-bucket = bucket-new;
+            }
+
+      -- past the linked ones
+      pub stored-past : linked ≤ n → Stores script offs words symbols n level i w (At (n + 1)) (entered symbols n level i w h)
+      unfolding one
+      stored-past z =
+          let kept : (j : ℕ) → Kept one one j = λ j. record { first = refl; second = refl; third = refl } in
+          finished one one-length kept
+          (subst (λ (x : ℕ). Chains (bucketsOf words symbols) x (levelAt one) (bucketAt words one) (nextAt one) (headAt one)) (let y : min n linked ≡ min (n + 1) linked = omega arith in y)
+          (chains-same (bucketsOf words symbols) (min n linked) (levelAt symbols) (bucketAt words symbols) (nextAt symbols) (headAt symbols) (levelAt one) (bucketAt words one) (nextAt one) (headAt one) (p .holds .chains)
+          (λ j q. kept-level (kept-old one one-length kept j (λ e. omega arith))) (λ j q. bucket-old one one-length kept j (λ e. omega arith)) (λ j q. entered-next symbols n level i w h j) (λ d q. entered-head symbols n level i w h d)))
+
+      -- in its chain
+      module _ (z : n < linked) (t : Spot) (u : Sought script offs words symbols n level level h s t) where
+        all : Chains (bucketsOf words symbols) n (levelAt symbols) (bucketAt words symbols) (nextAt symbols) (headAt symbols)
+        all = subst (λ (x : ℕ). Chains (bucketsOf words symbols) x (levelAt symbols) (bucketAt words symbols) (nextAt symbols) (headAt symbols)) (let y : min n linked ≡ n = omega arith in y) (p .holds .chains)
+
+        at-in : (m : ℕ) → t .at ≡ suc m → m < n
+        at-in m e = let y = u .seeks .here m e .below in omega arith
+
+        -- the walk has ended at a lower level
+        lower : (m : ℕ) → t .at ≡ suc m → levelAt symbols m < level
+        lower m e = by-lt (levelAt symbols m) level (λ y. y) (λ y. absurd (miss m (at-in m e) (u .stopped m e y)))
+
+        at-small : t .at < 65536
+        at-small = by-eq (t .at) 0 (λ e. omega arith) (λ e. let y = at-in (t .at - 1) (omega arith) in omega arith)
+
+        prev-in : (m : ℕ) → t .prev ≡ suc m → m < n
+        prev-in m e = let y = u .seeks .behind m e .one .below in omega arith
+
+        pub insert-fits : InsertAt (entered symbols n level i w h) n (t .prev) (t .at)
+        unfolding one
+        insert-fits =
+            record {
+              room = omega (arith, one-length);
+              few = z;
+              before = by-eq (t .prev) 0 (λ e. omega arith) (λ e. let y = prev-in (t .prev - 1) (omega arith) in omega (arith, one-length));
+              after = at-small;
+            }
+
+        fits-one : n * 4 + 4 ≤ length one
+        fits-one = omega (arith, one-length)
+
+        two : List ℕ
+        two = withNext one n (t .at)
+
+        two-length : length two ≡ length symbols
+        unfolding two
+        two-length = next-length one n (t .at) ∙ one-length
+
+        inside : h % bucketsOf words symbols < bucketsOf words symbols
+        inside = bucket-in words symbols h (omega arith)
+
+        same-buckets : bucketsOf words one ≡ bucketsOf words symbols
+        same-buckets = buckets-same words symbols one one-length
+
+        more : suc n ≡ min (n + 1) linked
+        more = omega arith
+
+        front : t .prev ≡ 0 → Stores script offs words symbols n level i w (At (n + 1)) (withHead two (h % bucketsOf words symbols) (n + 1))
+        unfolding one two
+        front e =
+            let bk = h % bucketsOf words symbols in
+            let three = withHead two bk (n + 1) in
+            let el : length three ≡ length symbols = head-length two bk (n + 1) ∙ two-length in
+            let kept : (j : ℕ) → Kept one three j = λ j. kept-on (next-kept one n (t .at) j) (head-kept two bk (n + 1) j) in
+            let room : bk * 4 + 4 ≤ length two = omega (arith, inside, two-length) in
+            let at-head : t .at ≡ headAt symbols bk = u .seeks .front e inside in
+            finished three el kept
+            (subst (λ (x : ℕ). Chains (bucketsOf words symbols) x (levelAt three) (bucketAt words three) (nextAt three) (headAt three)) more
+            (chains-front (bucketsOf words symbols) n bk level (levelAt symbols) (bucketAt words symbols) (nextAt symbols) (headAt symbols) (levelAt three) (bucketAt words three) (nextAt three) (headAt three) all (grown three el kept z)
+            (all-below (levelAt symbols) (In n (bucketAt words symbols) bk) (headAt symbols bk) level (all .heads bk inside) (λ j q. omega (arith, q .below)) (λ m q. lower m (at-head ∙ q)))
+            (heads-here two bk (n + 1) room ∙ add-one n)
+            (λ d q r. heads-other two bk (n + 1) d r ∙ next-head one n (t .at) fits-one at-small d ∙ entered-head symbols n level i w h d)
+            inside
+            (head-next two bk (n + 1) room n ∙ next-here one n (t .at) fits-one at-small ∙ at-head)
+            (λ j q. head-next two bk (n + 1) room j ∙ next-other one n (t .at) j (λ r. omega arith) ∙ entered-next symbols n level i w h j)))
+
+        behind : (m : ℕ) → t .prev ≡ suc m → Stores script offs words symbols n level i w (At (n + 1)) (withNext two m (n + 1))
+        unfolding one two
+        behind m e =
+            let bk = h % bucketsOf words symbols in
+            let three = withNext two m (n + 1) in
+            let mn : m < n = prev-in m e in
+            let fw = u .seeks .behind m e in
+            let el : length three ≡ length symbols = next-length two m (n + 1) ∙ two-length in
+            let kept : (j : ℕ) → Kept one three j = λ j. kept-on (next-kept one n (t .at) j) (next-kept two m (n + 1) j) in
+            let room : m * 4 + 4 ≤ length two = omega (arith, two-length) in
+            let small : n + 1 < 65536 = omega arith in
+            finished three el kept
+            (subst (λ (x : ℕ). Chains (bucketsOf words symbols) x (levelAt three) (bucketAt words three) (nextAt three) (headAt three)) more
+            (chains-behind (bucketsOf words symbols) n bk level (levelAt symbols) (bucketAt words symbols) (nextAt symbols) (headAt symbols) (levelAt three) (bucketAt words three) (nextAt three) (headAt three) all (grown three el kept z)
+            m (record { below = mn; bucket = fw .one .bucket }) (fw .level)
+            (all-below (levelAt symbols) (Behind n (levelAt symbols) (bucketAt words symbols) m) (nextAt symbols m) level (all .nexts m mn) (λ j q. omega (arith, q .below)) (λ j q. lower j (fw .link ∙ q)))
+            (λ d q. next-head two m (n + 1) room small d ∙ next-head one n (t .at) fits-one at-small d ∙ entered-head symbols n level i w h d)
+            (next-other two m (n + 1) n (λ q. omega arith) ∙ next-here one n (t .at) fits-one at-small ∙ fw .link)
+            (next-here two m (n + 1) room small ∙ add-one n)
+            (λ j q r. next-other two m (n + 1) j r ∙ next-other one n (t .at) j (λ y. omega arith) ∙ entered-next symbols n level i w h j)))
+
+        pub stored-linked : (symbols′ : List ℕ) → Inserts words (entered symbols n level i w h) n h (t .prev) (t .at) symbols′ → Stores script offs words symbols n level i w (At (n + 1)) symbols′
+        unfolding one two
+        stored-linked symbols′ q =
+            by-eq (t .prev) 0
+            (λ e. subst (Stores script offs words symbols n level i w (At (n + 1))) (sym (q .front e ∙ ap (λ (x : ℕ). withHead two (h % x) (n + 1)) same-buckets)) (front e))
+            (λ e. let m : t .prev ≡ suc (t .prev - 1) = omega arith in subst (Stores script offs words symbols n level i w (At (n + 1))) (sym (q .behind (t .prev - 1) m)) (behind (t .prev - 1) m))

@@ -1,4 +1,9 @@
-pub mod Names
+pub mod Cases
+pub mod Chains
+pub mod Seek
 pub mod Levels
-pub mod Looking
+pub mod Hash
+pub mod Words
+pub mod Walk
 pub mod Entries
+pub mod Names

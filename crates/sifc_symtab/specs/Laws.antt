@@ -17,7 +17,7 @@ use Rattle.sifc_def.specs.Symbols.{find, putAt, retrieve, store}
 use Rattle.sifc_symtab.specs.declared.symtab.Found.{Found}
 use Rattle.sifc_symtab.specs.declared.symtab.Stored.the-variants.{At, Full}
 use Rattle.sifc_symtab.specs.Toks.{toksOf}
-use Rattle.sifc_symtab.specs.Table.{nameIn, symAt, listed, symsOf, roomOf, Holds, foundOf, Retrieves, newTable, roomFor, Stores}
+use Rattle.sifc_symtab.specs.Table.{nameIn, symAt, listed, symsOf, roomOf, foundOf, Retrieves, newTable, roomFor, Stores}
 
 -- ── the symbols, number by number ──
 
@@ -48,14 +48,6 @@ module _ (script offs words : List ℕ) where
   pub length-syms : (symbols : List ℕ) (n : ℕ) → length (symsOf script offs words symbols n) ≡ n
   unfolding symsOf
   length-syms symbols n = length-listed (symAt script offs words symbols) n 0
-
-  -- after a store the words hold the symbols that there are then
-  pub holds-after : (symbols symbols′ : List ℕ) (n level i m : ℕ) (w : What) → Stores script offs words symbols n level i w (At m) symbols′ → length symbols′ ≡ length symbols → Holds symbols′ m
-  holds-after symbols symbols′ n level i m w s e =
-      let a = leb-true _ (roomOf symbols) (s .room) in
-      let b = ap length (s .table) in
-      let c = length-syms symbols′ m in
-      omega arith
 
 -- ── the definition's steps ──
 

@@ -1,4 +1,5 @@
 pub mod Toks
+pub mod Chains
 pub mod Table
-pub mod Scan
+pub mod Seek
 pub mod Laws

@@ -6,6 +6,7 @@ mod token;
 
 pub use symtab::Found;
 pub use symtab::Stored;
+pub use symtab::open;
 pub use symtab::retrieve;
 pub use symtab::store;
 pub use token::name;

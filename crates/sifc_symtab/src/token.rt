@@ -3,7 +3,7 @@ use sifc_lex::part;
 ghost use mathlib.Core.Path.{_≡_};
 ghost use Prim.Native.Nat.{_-_};
 ghost use lib.ListN.{length, take, drop};
-ghost use Rattle.sifc_symtab.specs.Table.{nameIn};
+ghost use Rattle.sifc_symtab.specs.Table.{nameIn, hashOf};
 
 // The bytes of token i's name, a part of the script: a Str's without its quotes. There is no name past
 // the end of the token arrays.
@@ -35,4 +35,17 @@ fn unquoted(text: &[u8]) -> &[u8]
         return part(text, 0, 0);
     }
     part(text, 1, len - 2)
+}
+
+// The hash of a name.
+pub fn hash_of(s: &[u8]) -> usize
+    ensures { λ r. ⌜ r ≡ hashOf (now (s .entry)) ⌝ }
+{
+    let mut hash: usize = 0;
+    let mut i = 0;
+    while i < s.len() {
+        hash = (hash * 16777619 + s[i] as usize) % 536870912;
+        i += 1;
+    }
+    hash
 }

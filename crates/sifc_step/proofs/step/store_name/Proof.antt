@@ -27,7 +27,7 @@ returns : tie.Need-returns
 returns c =
     let c-stored = c .before in
     let c-store = c-stored .before .before .before .before in
-    put-done (c-store .store .ensures) (c-stored .stored .given .1) (c-store .store .kept .1 .1 .1 .0)
+    put-done (c-store .store .ensures) (c-stored .stored .given .1)
 
 -- src/step.rt:379:1
 same-length-2 : tie.Need-same-length-2
