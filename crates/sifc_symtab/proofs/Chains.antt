@@ -43,9 +43,11 @@ pub record Grown (n b l : ℕ) (lev buc lev′ buc′ : ℕ → ℕ) : Type 0 wh
   pub new-bucket : buc′ n ≡ b
 
 module _ (B n b l : ℕ) (lev buc next head lev′ buc′ next′ head′ : ℕ → ℕ) (c : Chains B n lev buc next head) (g : Grown n b l lev buc lev′ buc′) where
+  -- an old entry stays in its bucket
   in-old : (d j : ℕ) → In n buc d j → In (suc n) buc′ d j
   in-old d j p = record { below = omega (arith, p .below); bucket = g .old-bucket j (p .below) ∙ p .bucket }
 
+  -- and an entry of the bucket is an old one, or the new one
   in-back : (d j : ℕ) → In (suc n) buc′ d j → (j ≡ n → Back lev′ (In n buc d) j) → Back lev′ (In n buc d) j
   in-back d j p f = by-eq j n f (λ e. let h : j < n = omega (arith, p .below) in record { was = j; one = record { below = h; bucket = sym (g .old-bucket j h) ∙ p .bucket }; order = omega arith })
 
@@ -53,6 +55,7 @@ module _ (B n b l : ℕ) (lev buc next head lev′ buc′ next′ head′ : ℕ 
   new-in : (d j : ℕ) → j ≡ n → buc′ j ≡ d → b ≡ d
   new-in d j e p = sym (g .new-bucket) ∙ ap buc′ (sym e) ∙ p
 
+  -- an old entry stays behind those that it stood behind
   behind-old : (k j : ℕ) → k < n → Behind n lev buc k j → Behind (suc n) lev′ buc′ k j
   behind-old k j h p =
       record {
@@ -61,6 +64,7 @@ module _ (B n b l : ℕ) (lev buc next head lev′ buc′ next′ head′ : ℕ 
         after = omega (arith, p .after, g .old-level j (p .below), g .old-level k h);
       }
 
+  -- and an entry behind k is an old one, or the new one
   behind-back : (k j : ℕ) → k < n → Behind (suc n) lev′ buc′ k j → (j ≡ n → Back lev′ (Behind n lev buc k) j) → Back lev′ (Behind n lev buc k) j
   behind-back k j h p f =
       by-eq j n f (λ e. let i : j < n = omega (arith, p .below) in
@@ -73,12 +77,14 @@ module _ (B n b l : ℕ) (lev buc next head lev′ buc′ next′ head′ : ℕ 
   -- Where the new entry is its bucket's first.
   module _ (low : (j : ℕ) → In n buc b j → lev j < l) (eb : head′ b ≡ suc n) (eh : (d : ℕ) → d < B → (d ≡ b → ⊥) → head′ d ≡ head d) (inside : b < B) (en : next′ n ≡ head b)
       (ek : (k : ℕ) → k < n → next′ k ≡ next k) where
+    -- the bucket begins with the new entry
     front-head : First lev′ (In (suc n) buc′ b) (head′ b)
     front-head =
         first-new lev′ (In (suc n) buc′ b) (head′ b) n eb (record { below = omega arith; bucket = g .new-bucket })
         (λ j p. by-eq j n (λ e. omega (arith, ap lev′ e)) (λ e. let h : j < n = omega (arith, p .below) in
         let y = low j (record { below = h; bucket = sym (g .old-bucket j h) ∙ p .bucket }) in omega (arith, g .old-level j h, g .new-level, g .few)))
 
+    -- which its old entries follow
     front-next : First lev′ (Behind (suc n) lev′ buc′ n) (next′ n)
     front-next =
         subst (First lev′ (Behind (suc n) lev′ buc′ n)) (sym en)
@@ -87,6 +93,7 @@ module _ (B n b l : ℕ) (lev buc next head lev′ buc′ next′ head′ : ℕ 
         (λ j p. g .old-level j (p .below))
         (λ j p. in-back b j (record { below = p .below; bucket = p .bucket ∙ g .new-bucket }) (λ e. absurd (let z : ⊥ = omega (arith, p .after, ap lev′ e) in z))))
 
+    -- the chains with the new entry
     pub chains-front : Chains B (suc n) lev′ buc′ next′ head′
     chains-front =
         record {
@@ -107,6 +114,7 @@ module _ (B n b l : ℕ) (lev buc next head lev′ buc′ next′ head′ : ℕ 
     m-back : (j : ℕ) → j ≡ n → 65536 * lev′ j + m ≤ 65536 * lev′ m + j
     m-back j e = omega (arith, ap lev′ e, g .old-level m (o .below), g .new-level, o .below, high)
 
+    -- what followed m follows the new entry
     behind-next : First lev′ (Behind (suc n) lev′ buc′ n) (next′ n)
     behind-next =
         subst (First lev′ (Behind (suc n) lev′ buc′ n)) (sym en)
@@ -120,6 +128,7 @@ module _ (B n b l : ℕ) (lev buc next head lev′ buc′ next′ head′ : ℕ 
           order = omega arith;
         })))
 
+    -- the new entry follows m
     behind-m : First lev′ (Behind (suc n) lev′ buc′ m) (next′ m)
     behind-m =
         let mm = g .old-level m (o .below) in
@@ -138,6 +147,7 @@ module _ (B n b l : ℕ) (lev buc next head lev′ buc′ next′ head′ : ℕ 
         (λ y. absurd (let x = low k (record { below = h; bucket = kb ∙ sym (o .bucket); after = omega (arith, g .few, o .below) }) in
         let z : ⊥ = omega (arith, p .after, ap lev′ e, g .old-level k h, g .new-level, g .few) in z))
 
+    -- the chains with the new entry behind m
     pub chains-behind : Chains B (suc n) lev′ buc′ next′ head′
     chains-behind =
         record {

@@ -15,17 +15,21 @@ pub record Hashing (s : List ℕ) (h i : ℕ) : Type 0 where
   pub small : h < 536870912
   pub rest : hashOf s ≡ hashFrom h (drop i s)
 
+-- no byte yet
 pub hashing-none : (s : List ℕ) → Hashing s 0 0
 hashing-none s = record { within = omega arith; small = omega arith; rest = refl }
 
+-- one byte more
 pub hashing-more : {s : List ℕ} {h i : ℕ} → Hashing s h i → i < length s → Hashing s (hashStep h (getD s i 0)) (i + 1)
 unfolding hashFrom
 hashing-more {s} {h} {i} p l = record { within = omega arith; small = omega arith; rest = p .rest ∙ ap (hashFrom h) (drop-cons s i 0 l) ∙ rw (add-one i) refl }
 
+-- all bytes
 pub hashing-end : {s : List ℕ} {h i : ℕ} → Hashing s h i → length s ≤ i → h ≡ hashOf s
 unfolding hashFrom
 hashing-end {s} {h} {i} p l = sym (p .rest ∙ ap (hashFrom h) (drop-of-length-le s l))
 
+-- from a small number on
 hash-from-small : (s : List ℕ) (h : ℕ) → h < 536870912 → hashFrom h s < 536870912
 unfolding hashFrom
 hash-from-small [] h l = l

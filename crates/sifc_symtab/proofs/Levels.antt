@@ -19,10 +19,12 @@ use Rattle.sifc_symtab.proofs.Seek.{false-true}
 
 -- ── the entry of a level and a name ──
 
+-- at its level the name decides
 isSym-at : (l : ℕ) (s : List ℕ) (x : Sym) → x .level ≡ l → isSym l s x ≡ same (x .name) s
 unfolding isSym
 isSym-at l s x e = rw (eq-eqb (x .level) l e) refl
 
+-- at another level it is not the one
 isSym-off : (l : ℕ) (s : List ℕ) (x : Sym) → (x .level ≡ l → ⊥) → isSym l s x ≡ false
 unfolding isSym
 isSym-off l s x e = rw (ne-eqb (x .level) l e) refl
@@ -35,22 +37,27 @@ isSym-not l s x h = by-eq (x .level) l (λ e. isSym-at l s x e ∙ no (same (x .
     no true f = absurd (f refl)
     no false f = refl
 
+-- the first entry is the one
 find-yes : (l : ℕ) (s : List ℕ) (x : Sym) (xs : List Sym) → isSym l s x ≡ true → findAt l s (x ∷ xs) ≡ some (x .what)
 unfolding findAt
 find-yes l s x xs e = rw (e, findAt) refl
 
+-- the first entry is another
 find-no : (l : ℕ) (s : List ℕ) (x : Sym) (xs : List Sym) → isSym l s x ≡ false → findAt l s (x ∷ xs) ≡ findAt l s xs
 unfolding findAt
 find-no l s x xs e = rw (e, findAt) refl
 
+-- the first entry is overwritten
 put-yes : (l : ℕ) (s : List ℕ) (w : What) (x : Sym) (xs : List Sym) → isSym l s x ≡ true → putAt l s w (x ∷ xs) ≡ record { level = l; name = s; what = w } ∷ xs
 unfolding putAt
 put-yes l s w x xs e = rw (e, putAt) refl
 
+-- the first entry stays
 put-no : (l : ℕ) (s : List ℕ) (w : What) (x : Sym) (xs : List Sym) → isSym l s x ≡ false → putAt l s w (x ∷ xs) ≡ x ∷ putAt l s w xs
 unfolding putAt
 put-no l s w x xs e = rw (e, putAt) refl
 
+-- the first of them
 listed-cons : (f : ℕ → Sym) (k m : ℕ) → listed f k (suc m) ≡ f k ∷ listed f (suc k) m
 unfolding listed
 listed-cons f k m = refl
@@ -58,6 +65,7 @@ listed-cons f k m = refl
 -- ── m entries from number k on ──
 
 module _ (f : ℕ → Sym) (l : ℕ) (s : List ℕ) where
+  -- none has the level and the name
   at-none : (m k : ℕ) → ((j : ℕ) → k ≤ j → j < k + m → isSym l s (f j) ≡ false) → findAt l s (listed f k m) ≡ none
   at-none zero k h = unfold listed findAt in refl
   at-none (suc m) k h = rw (listed-cons f k m) (find-no l s (f k) (listed f (suc k) m) (h k (omega arith) (omega arith)) ∙ at-none m (suc k) (λ j a b. h j (omega arith) (omega arith)))
@@ -73,29 +81,35 @@ module _ (f : ℕ → Sym) (l : ℕ) (s : List ℕ) where
 
 -- ── retrieve ──
 
+-- found at the level
 find-take : (l : ℕ) (s : List ℕ) (xs : List Sym) (w : What) → findAt (suc l) s xs ≡ some w → find (suc l) s xs ≡ some w
 unfolding find
 find-take l s xs w e = rw (e, find) refl
 
+-- found farther down
 find-skip : (l : ℕ) (s : List ℕ) (xs : List Sym) → findAt (suc l) s xs ≡ none → find (suc l) s xs ≡ find l s xs
 unfolding find
 find-skip l s xs e = rw (e, find) refl
 
+-- at the outermost level
 find-zero : (s : List ℕ) (xs : List Sym) → find zero s xs ≡ findAt zero s xs
 unfolding find
 find-zero s xs = refl
 
 module _ (f : ℕ → Sym) (n high : ℕ) (s : List ℕ) where
+  -- an entry of a level up to high
   hit-of : (l : ℕ) (j : ℕ) → l ≤ high → f j .level ≡ l → same (f j .name) s ≡ true → Hit 0 high s (f j)
   hit-of l j h e t = record { above = omega arith; below = omega arith; named = t }
 
   module _ (r : ℕ) (p : Nearest f 0 high s n r) where
+    -- r is found at its level
     its-level : (l : ℕ) → f r .level ≡ l → findAt l s (listed f 0 n) ≡ some (f r .what)
     its-level l e =
         let o = p .hit .below in
         at-first f l s n 0 r (omega arith) (omega (arith, p .below)) (isSym-at l s (f r) e ∙ p .hit .named)
         (λ j a b. isSym-not l s (f j) (λ q t. omega (arith, p .oldest j (omega (arith, p .below)) (hit-of l j (omega arith) q t) (omega arith))))
 
+    -- and from each level above
     down-to : (l : ℕ) → f r .level ≤ l → l ≤ high → find l s (listed f 0 n) ≡ some (f r .what)
     down-to zero a b = find-zero s (listed f 0 n) ∙ its-level 0 (omega arith)
     down-to (suc l) a b =
@@ -105,29 +119,36 @@ module _ (f : ℕ → Sym) (n high : ℕ) (s : List ℕ) where
         (at-none f (suc l) s n 0 (λ j c d. isSym-not (suc l) s (f j) (λ q t. omega (arith, p .highest j (omega arith) (hit-of (suc l) j b q t)))))
         ∙ down-to l (omega arith) (omega arith))
 
+    -- the definition finds r
     pub found-best : some (f r .what) ≡ find high s (listed f 0 n)
     found-best = sym (down-to high (p .hit .below) (omega arith))
 
   module _ (miss : (j : ℕ) → j < n → Hit 0 high s (f j) → ⊥) where
+    -- nothing at a level
     no-level : (l : ℕ) → l ≤ high → findAt l s (listed f 0 n) ≡ none
     no-level l h = at-none f l s n 0 (λ j a b. isSym-not l s (f j) (λ q t. miss j (omega arith) (hit-of l j h q t)))
 
+    -- nor at those below
     none-down : (l : ℕ) → l ≤ high → find l s (listed f 0 n) ≡ none
     none-down zero h = find-zero s (listed f 0 n) ∙ no-level 0 h
     none-down (suc l) h = find-skip l s (listed f 0 n) (no-level (suc l) h) ∙ none-down l (omega arith)
 
+    -- the definition finds nothing
     pub found-none : none ≡ find high s (listed f 0 n)
     found-none = sym (none-down high (omega arith))
 
 -- ── store ──
 
 module _ (f g : ℕ → Sym) (l : ℕ) (s : List ℕ) (w : What) where
+  -- what is stored
   abbrev pub theEntry : Sym
   theEntry = record { level = l; name = s; what = w }
 
+  -- an entry of the level l
   one-level : (j : ℕ) → f j .level ≡ l → same (f j .name) s ≡ true → Hit l l s (f j)
   one-level j e t = record { above = omega arith; below = omega arith; named = t }
 
+  -- entry r is the first of the level and the name
   put-first : (m k r : ℕ) → k ≤ r → r < k + m → isSym l s (f r) ≡ true → ((j : ℕ) → k ≤ j → j < r → isSym l s (f j) ≡ false)
       → ((j : ℕ) → (j ≡ r → ⊥) → g j ≡ f j) → g r ≡ theEntry → putAt l s w (listed f k m) ≡ listed g k m
   put-first zero k r a b t h o x = absurd (let z : ⊥ = omega arith in z)
@@ -139,6 +160,7 @@ module _ (f g : ℕ → Sym) (l : ℕ) (s : List ℕ) (w : What) where
       (λ e. put-no l s w (f k) (listed f (suc k) m) (h k (omega arith) (omega arith))
       ∙ ap₂ _∷_ (sym (o k e)) (put-first m (suc k) r (omega arith) (omega arith) t (λ j c d. h j (omega arith) (omega arith)) o x)))
 
+  -- no entry has the level and the name
   put-last : (m k : ℕ) → ((j : ℕ) → k ≤ j → j < k + m → isSym l s (f j) ≡ false) → putAt l s w (listed f k m) ≡ listed f k m ++ (theEntry ∷ [])
   put-last zero k h = unfold listed putAt in refl
   put-last (suc m) k h =

@@ -13,6 +13,7 @@ use Rattle.sifc_symtab.specs.Table.{levelAt, hashAt, hashOf, nameIn, tok
 use Rattle.sifc_symtab.specs.Seek.{Hit, Stops, Hashed, Ahead, Follows, Seeking, Nearest, Best, FoundAt, Nearer}
 use Rattle.sifc_symtab.proofs.Cases.{by-eq, by-lt}
 
+-- the two truth values differ
 pub false-true : false ≡ true → ⊥
 false-true e = let z : _≡_ {A = ℕ} 0 1 = cc in omega arith
 
@@ -33,20 +34,25 @@ same-equal (x ∷ xs) (y ∷ ys) e = go (eqb x y) refl e (same-equal xs ys)
 -- ── whether the walk ends at an entry ──
 
 module _ (low high : ℕ) (s : List ℕ) (x : Sym) where
+  -- the level is too low
   pub stops-low : x .level < low → Stops low high s x true
   stops-low h = record { yes = λ e a. absurd (let z : ⊥ = omega arith in z); no = λ e. absurd (false-true (sym e)); passed = λ e. absurd (false-true (sym e)) }
 
+  -- no hit
   pub stops-miss : low ≤ x .level → (Hit low high s x → ⊥) → Stops low high s x false
   stops-miss a m = record { yes = λ e. absurd (false-true e); no = λ e. m; passed = λ e. a }
 
+  -- the level is too high
   pub stops-high : low ≤ x .level → high < x .level → Stops low high s x false
   stops-high a h = stops-miss a (λ t. omega (arith, t .below))
 
+  -- the name decides
   pub stops-name : low ≤ x .level → x .level ≤ high → (r : Bool) → r ≡ same (x .name) s → Stops low high s x r
   stops-name a b r e = record { yes = λ q z. record { above = a; below = b; named = sym e ∙ q }; no = λ q t. false-true (sym q ∙ e ∙ t .named); passed = λ q. a }
 
 -- another hash is another name's
 module _ (script offs words symbols : List ℕ) (k h : ℕ) (s : List ℕ) (p : Hashed script offs words symbols k h s) where
+  -- which is no hit
   pub other-name : (low high : ℕ) → (hashAt symbols k ≡ h → ⊥) → Hit low high s (symAt script offs words symbols k) → ⊥
   unfolding symAt
   other-name low high n t = n (p .one ∙ ap hashOf (same-equal (nameIn script offs words (tokenIn symbols k)) s (t .named)) ∙ sym (p .other))
@@ -95,6 +101,7 @@ module _ (B n low high b : ℕ) (s : List ℕ) (f : ℕ → Sym) (lev buc next h
               record { on = λ z. nx .none z j q; order = λ k z. nx .some k z .first j q };
         }
 
+    -- the next link reaches less far
     pub reach-less : reach lev (next m) < reach lev at
     unfolding reach
     reach-less = subst (λ (i : ℕ). reach lev (next m) < reach lev i) (sym e) (go (next m) refl)
@@ -110,18 +117,23 @@ module _ (B n low high b : ℕ) (s : List ℕ) (f : ℕ → Sym) (lev buc next h
 
   module _ (N prev at r : ℕ) (p : Seeking B n low high b s f lev buc next head prev at) (nN : n ≤ N) (fl : (j : ℕ) → f j .level ≡ lev j)
       (stopped : (m : ℕ) → at ≡ suc m → low ≤ lev m → Hit low high s (f m)) (hb : (j : ℕ) → j < n → Hit low high s (f j) → buc j ≡ b) where
+    -- no hit at all
     best-none : r ≡ N → ((j : ℕ) → j < n → Hit low high s (f j) → ⊥) → Best f low high s N n r
     best-none e h = record { within = omega arith; none = λ z. h; some = λ z. absurd (let x : ⊥ = omega arith in x) }
 
+    -- each hit is still ahead
     ahead-of : (j : ℕ) → j < n → Hit low high s (f j) → Ahead lev at j
     ahead-of j h t = p .ahead j (record { below = h; bucket = hb j h t }) t
 
+    -- at the end of the chain
     pub best-end : at ≡ 0 → r ≡ N → Best f low high s N n r
     best-end z e = best-none e (λ j h t. ahead-of j h t .on z)
 
+    -- at an entry whose level is too low
     pub best-low : (m : ℕ) → at ≡ suc m → lev m < low → r ≡ N → Best f low high s N n r
     best-low m z l e = best-none e (λ j h t. omega (arith, ahead-of j h t .order m z, t .above, fl j))
 
+    -- at a hit
     pub best-here : (m : ℕ) → at ≡ suc m → low ≤ lev m → r ≡ m → Best f low high s N n r
     best-here m z l e =
         let o = p .here m z .below in
@@ -143,6 +155,7 @@ module _ (f : ℕ → Sym) (low high : ℕ) (s : List ℕ) (n k best : ℕ) (p :
   earlier : (j : ℕ) → j < k + 1 → (j ≡ k → ⊥) → j < k
   earlier j h e = omega arith
 
+  -- entry k is better
   pub best-take : k < n → Hit low high s (f k) → (best < n → f best .level < f k .level) → Best f low high s n (k + 1) k
   best-take h t better =
       record {
@@ -159,6 +172,7 @@ module _ (f : ℕ → Sym) (low high : ℕ) (s : List ℕ) (n k best : ℕ) (p :
       lower : (j : ℕ) → j < k → Hit low high s (f j) → f j .level < f k .level
       lower j i x = by-lt best n (λ b. let a = better b in omega (arith, p .some b .highest j i x)) (λ b. absurd (p .none (omega (arith, p .within)) j i x))
 
+  -- entry k is no better
   pub best-keep : (Hit low high s (f k) → (best < n) × (f k .level ≤ f best .level)) → Best f low high s n (k + 1) best
   best-keep miss =
       record {
@@ -173,14 +187,17 @@ module _ (f : ℕ → Sym) (low high : ℕ) (s : List ℕ) (n k best : ℕ) (p :
       }
 
 module _ (f : ℕ → Sym) (low high : ℕ) (s : List ℕ) (n k best : ℕ) where
+  -- entry k is no better
   pub nearer-miss : (Hit low high s (f k) → (best < n) × (f k .level ≤ f best .level)) → Nearer f low high s n best k false
   nearer-miss m = record { hit = λ e. absurd (false-true e); higher = λ e. absurd (false-true e); miss = λ e. m }
 
+  -- entry k is better
   pub nearer-hit : Hit low high s (f k) → (best < n → f best .level < f k .level) → Nearer f low high s n best k true
   nearer-hit t h = record { hit = λ e. t; higher = λ e. h; miss = λ e. absurd (false-true (sym e)) }
 
 -- what is left of a hit: its hash, and so its bucket
 module _ (script offs words symbols : List ℕ) (n h : ℕ) (s : List ℕ) (p : Holds script offs words symbols n) (e : h ≡ hashOf s) where
+  -- a hit is in the bucket of the hash
   pub hit-bucket : (low high j : ℕ) → j < n → Hit low high s (symAt script offs words symbols j) → bucketAt words symbols j ≡ h % bucketsOf words symbols
   unfolding symAt
   hit-bucket low high j i t =

@@ -19,6 +19,7 @@ use Rattle.sifc_symtab.proofs.Seek.{reach, seeking-start, seeking-none,
 module _ (script offs words symbols : List ℕ) (n low high h : ℕ) (s : List ℕ) (p : Holds script offs words symbols n) (e : h ≡ hashOf s) where
   -- ── the walk ──
 
+  -- no symbols
   pub walk-none : n ≡ 0 → Sought script offs words symbols n low high h s (record { prev = 0; at = 0 })
   walk-none z =
       record {
@@ -26,6 +27,7 @@ module _ (script offs words symbols : List ℕ) (n low high h : ℕ) (s : List �
         stopped = λ m q. absurd (let x : ⊥ = omega arith in x);
       }
 
+  -- at the head of the bucket
   pub walk-start : (B l : ℕ) → B ≡ bucketsOf words symbols → l ≡ headAt symbols (h % B) → 0 < n → Seeks script offs words symbols n low high h s 0 l
   walk-start B l eb el z =
       subst (Seeks script offs words symbols n low high h s 0) (sym (el ∙ ap (λ (x : ℕ). headAt symbols (h % x)) eb))
@@ -34,6 +36,7 @@ module _ (script offs words symbols : List ℕ) (n low high h : ℕ) (s : List �
 
   module _ (prev at : ℕ) (k : Seeks script offs words symbols n low high h s prev at) where
     module _ (z : 0 < at) where
+      -- the number of the symbol there, and its link
       link : at ≡ suc (at - 1)
       link = omega arith
 
@@ -41,12 +44,15 @@ module _ (script offs words symbols : List ℕ) (n low high h : ℕ) (s : List �
       pub walk-in : at - 1 < n
       walk-in = let o = k .here (at - 1) link .below in omega arith
 
+      -- it has its words
       pub walk-room : (at - 1) * 4 + 4 ≤ length symbols
       walk-room = let o = walk-in in omega (arith, p .room)
 
+      -- and its name's hash
       pub walk-hashed : Hashed script offs words symbols (at - 1) h s
       walk-hashed = record { room = walk-room; one = p .hashes (at - 1) walk-in; other = e }
 
+      -- the walk ends there
       pub walk-stop : (r : Bool) → Stops low high s (symAt script offs words symbols (at - 1)) r → r ≡ true → Sought script offs words symbols n low high h s (record { prev = prev; at = at })
       unfolding symAt
       walk-stop r t q =
@@ -56,6 +62,7 @@ module _ (script offs words symbols : List ℕ) (n low high h : ℕ) (s : List �
                 subst (λ (i : ℕ). low ≤ levelAt symbols i → Hit low high s (symAt script offs words symbols i)) x (t .yes q) l;
           }
 
+      -- the walk goes on
       pub walk-on : (r : Bool) → Stops low high s (symAt script offs words symbols (at - 1)) r → r ≡ false → (l : ℕ) → l ≡ nextAt symbols (at - 1) → Seeks script offs words symbols n low high h s at l
       unfolding symAt
       walk-on r t q l el =
@@ -63,21 +70,25 @@ module _ (script offs words symbols : List ℕ) (n low high h : ℕ) (s : List �
           (seeking-next (bucketsOf words symbols) (min n linked) low high (h % bucketsOf words symbols) s (symAt script offs words symbols) (levelAt symbols) (bucketAt words symbols) (nextAt symbols) (headAt symbols) (p .chains) (omega arith)
           prev at (at - 1) k link (t .passed q) (t .no q))
 
+      -- the next link reaches less far
       pub walk-less : (l : ℕ) → l ≡ nextAt symbols (at - 1) → reach (levelAt symbols) l < reach (levelAt symbols) at
       walk-less l el =
           subst (λ (x : ℕ). reach (levelAt symbols) x < reach (levelAt symbols) at) (sym el)
           (reach-less (bucketsOf words symbols) (min n linked) low high (h % bucketsOf words symbols) s (symAt script offs words symbols) (levelAt symbols) (bucketAt words symbols) (nextAt symbols) (headAt symbols) (p .chains) (omega arith)
           prev at (at - 1) k link)
 
+    -- the chain ends
     pub walk-end : at ≤ 0 → Sought script offs words symbols n low high h s (record { prev = prev; at = at })
     walk-end z = record { seeks = k; stopped = λ m q. absurd (let x : ⊥ = omega arith in x) }
 
   -- ── what it has found ──
 
   module _ (t : Spot) (k : Sought script offs words symbols n low high h s t) where
+    -- the link leads to a symbol
     pub spot-room : t .at * 4 ≤ length symbols
     spot-room = by-eq (t .at) 0 (λ z. omega arith) (λ z. omega (arith, walk-room (t .prev) (t .at) (k .seeks) (omega arith)))
 
+    -- the best of those that are linked
     pub look-start : (r : ℕ) → FoundAt symbols n low (t .at) r → Best (symAt script offs words symbols) low high s n (min n linked) r
     unfolding symAt
     look-start r f =
@@ -96,6 +107,7 @@ module _ (script offs words symbols : List ℕ) (n low high h : ℕ) (s : List �
 
   -- ── one by one ──
 
+  -- each symbol has its name's hash
   pub rest-hashed : (k : ℕ) → k < n → Hashed script offs words symbols k h s
   rest-hashed k i = record { room = omega (arith, p .room); one = p .hashes k i; other = e }
 

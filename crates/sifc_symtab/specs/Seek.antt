@@ -47,6 +47,7 @@ pub record Seeking (B n low high b : ℕ) (s : List ℕ) (f : ℕ → Sym) (lev 
   pub ahead : (j : ℕ) → In n buc b j → Hit low high s (f j) → Ahead lev at j
 
 module _ (script offs words symbols : List ℕ) (n low high h : ℕ) (s : List ℕ) where
+  -- the same over the words, in the bucket of the hash h
   abbrev pub Seeks : ℕ → ℕ → Type 0
   Seeks prev at =
       Seeking (bucketsOf words symbols) (min n linked) low high (h % bucketsOf words symbols) s (symAt script offs words symbols) (levelAt symbols) (bucketAt words symbols) (nextAt symbols) (headAt symbols) prev at

@@ -53,6 +53,7 @@ valueOf Other = 0
 unfoldable pub levelAt : List ℕ → ℕ → ℕ
 levelAt symbols k = getD symbols (4 * k) 0 % 65536
 
+-- and the value
 abbrev pub valueAt : List ℕ → ℕ → ℕ
 valueAt symbols k = getD symbols (4 * k) 0 / 65536
 
@@ -64,6 +65,7 @@ tokenIn symbols k = getD symbols (4 * k + 1) 0
 abbrev pub tagAt : List ℕ → ℕ → ℕ
 tagAt symbols k = getD symbols (4 * k + 2) 0 % 8
 
+-- and the hash
 unfoldable pub hashAt : List ℕ → ℕ → ℕ
 hashAt symbols k = getD symbols (4 * k + 2) 0 / 8
 
@@ -72,6 +74,7 @@ hashAt symbols k = getD symbols (4 * k + 2) 0 / 8
 unfoldable pub nextAt : List ℕ → ℕ → ℕ
 nextAt symbols k = getD symbols (4 * k + 3) 0 % 65536
 
+-- and the head
 unfoldable pub headAt : List ℕ → ℕ → ℕ
 headAt symbols k = getD symbols (4 * k + 3) 0 / 65536
 
@@ -81,18 +84,22 @@ headAt symbols k = getD symbols (4 * k + 3) 0 / 65536
 abbrev pub hashStep : ℕ → ℕ → ℕ
 hashStep h b = (h * 16777619 + b) % 536870912
 
+-- all bytes, from h on
 unfoldable pub hashFrom : ℕ → List ℕ → ℕ
 hashFrom h [] = h
 hashFrom h (b ∷ bs) = hashFrom (hashStep h b) bs
 
+-- the hash of a name, less than 2 ^ 29
 abbrev pub hashOf : List ℕ → ℕ
 hashOf s = hashFrom 0 s
 
 -- ── the symbols that the words stand for ──
 
+-- what symbol k was declared as
 abbrev pub whatAt : List ℕ → ℕ → What
 whatAt symbols k = whatOf (tagAt symbols k) (valueAt symbols k)
 
+-- symbol k
 unfoldable pub symAt : List ℕ → List ℕ → List ℕ → List ℕ → ℕ → Sym
 symAt script offs words symbols k = record { level = levelAt symbols k; name = nameIn script offs words (tokenIn symbols k); what = whatAt symbols k }
 
@@ -129,6 +136,7 @@ withHead symbols b l = set symbols (4 * b + 3) (nextAt symbols b + 65536 * l)
 abbrev pub bucketsOf : List ℕ → List ℕ → ℕ
 bucketsOf words symbols = min (roomOf symbols) (length words + 1)
 
+-- the bucket of symbol k, by its name's hash
 abbrev pub bucketAt : List ℕ → List ℕ → ℕ → ℕ
 bucketAt words symbols k = hashAt symbols k % bucketsOf words symbols
 
