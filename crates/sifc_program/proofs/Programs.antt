@@ -30,7 +30,7 @@ use Rattle.sifc_def.specs.StepLaws.{Toks, Well, Each, FairErr, clash}
 use Rattle.sifc_def.specs.StmtLaws.{Broke as Failing, Decl, decl-does}
 use Rattle.sifc_def.specs.TokLaws.{worth, lexed-toks}
 use Rattle.sifc_def.specs.WalkLaws.{good-walkers, Far, FarOf, After, top-far}
-use Rattle.sifc_symtab.specs.Table.{listed, symsOf}
+use Rattle.sifc_symtab.specs.Table.{listed, symsOf, Holds as Held}
 use Rattle.sifc_symtab.specs.Toks.{toksOf, length-toks}
 use Rattle.sifc_step.specs.declared.walk.Limits.{Limits}
 use Rattle.sifc_step.specs.declared.walk.Walk.{Walk}
@@ -216,9 +216,9 @@ module _ (s os ks : List ℕ) (l : Limits) (M : Mem) where
         walk-arrives c depthLimit (λ (z : Out End). z ≡ refuse (SourceFault (l .fault) o)) (λ t. ap (λ (i : ℕ). refuse (SourceFault (l .fault) i)) off)
         (λ t. absurd (clash (eq-eqb (tokAt c 0 .kind) 48 (front ∙ k)) t))
 
-    pub parsing : (kindAt ks 0 ≡ 48 → ⊥) → {x : Walk} → x ≡ startWalk → Parsing s os ks l M ps rs M ps rs x 0 false
+    pub parsing : (kindAt ks 0 ≡ 48 → ⊥) → Held s os ks (M .symbols) 0 → {x : Walk} → x ≡ startWalk → Parsing s os ks l M ps rs M ps rs x 0 false
     unfolding Each
-    parsing ne {x} ex =
+    parsing ne h {x} ex =
         let c : Ctx = ctxOf (inp s os ks l) M in
         let calm : eqb (tokAt c 0 .kind) 48 ≡ false = ne-eqb (tokAt c 0 .kind) 48 (λ z. ne (sym front ∙ z)) in
         rw ex (record {
@@ -232,7 +232,7 @@ module _ (s os ks : List ℕ) (l : Limits) (M : Mem) where
             stands = record { toks = st .toks; here = some-token; calm = ne };
             even = st .even;
             used = omega arith;
-            holds = omega arith;
+            holds = h;
             level = omega arith;
             room = omega arith;
           };
@@ -437,6 +437,21 @@ module _ {s os ks : List ℕ} {l : Limits} {M₀ : Mem} {ps₀ rs₀ : List ℕ}
             let o = d′ .does I (M′ .symbols) back-ready eh el (withErr many z (said .errs)) counts in
             let q = subst (λ (c : Ctx). ClosedOf I (endRead c n true (some z) (abs I (withErr many z (said .errs)) (backTo y (x .nodes)) M′)) (withErr many z (said .errs)) (y .errors) v (mem (M′ .symbols) hs ls)) (ap (λ (m : Rooms). ctx I m) (rooms-kept kept-all)) o in
             ended (withErr many z (said .errs)) v (mem (M′ .symbols) hs ls) ps″ rs″ (y .errors) (turned ∙ ap (λ (b : Bool). (if b then program c₀ (t .f - 1) (declare c₀) n true else endRead c₀ n true (some z)) (abs I (withErr many z (said .errs)) (backTo y (x .nodes)) M′)) (goes-on-is c₀ (z .why) ∙ g)) q noted counts (omega (arith, broke-of .room, t .book .room, ep, ep″))
+
+-- ── the symbol words before the walk ──
+
+-- only how many they are counts
+pub walks-room : (I : Inp) (ys ys′ hs ls : List ℕ) (M : Mem) (ps rs : List ℕ) (r : Walked) → length ys′ ≡ length ys → Walks I (mem ys′ hs ls) r M ps rs → Walks I (mem ys hs ls) r M ps rs
+walks-room I ys ys′ hs ls M ps rs (Finished x flag last) e w =
+    record {
+      listed = w .listed;
+      notes = w .notes;
+      errors = w .errors;
+      is = subst (λ (n : ℕ). walk (ctx I (record { nodes = length hs; words = n })) depthLimit ≡ done (end flag (lastOf last)) (abs I (w .listed) x M)) e (w .is);
+      fine = w .fine;
+      room = w .room;
+    }
+walks-room I ys ys′ hs ls M ps rs (NoWalk f) e w = subst (λ (n : ℕ). walk (ctx I (record { nodes = length hs; words = n })) depthLimit ≡ refuse f) e w
 
 -- ── the Program node ──
 

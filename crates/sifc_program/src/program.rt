@@ -13,9 +13,11 @@ use sifc_step::head_word;
 use sifc_step::kind_at;
 use sifc_step::push_node;
 use sifc_step::wide;
+use sifc_symtab::open;
 ghost use mathlib.Core.Path.{_≡_};
 ghost use lib.ListN.{length};
 ghost use Prim.Native.Nat.{_≤_};
+ghost use Rattle.sifc_symtab.specs.Table.{Holds};
 ghost use Rattle.sifc_step.specs.Abs.{inp, mem, kindAt};
 ghost use Rattle.sifc_step.specs.Book.{Walks};
 ghost use Rattle.sifc_block.specs.Lists.{Noting, Noted};
@@ -106,7 +108,7 @@ fn program(
     reasons: &mut [u32],
     lim: Limits,
 ) -> Walked
-    requires { ⌜ Starts (now script) (now offs) (now words) (now head) (now load) (now places) (now reasons) lim × (kindAt (now words) 0 ≡ 48 → ⊥) ⌝ }
+    requires { ⌜ Starts (now script) (now offs) (now words) (now head) (now load) (now places) (now reasons) lim × (kindAt (now words) 0 ≡ 48 → ⊥) × Holds (now script) (now offs) (now words) (now symbols) 0 ⌝ }
     ensures { λ r. ⌜ Walks (inp (now (script .entry)) (now (offs .entry)) (now (words .entry)) lim) (mem (now (symbols .entry)) (now (head .entry)) (now (load .entry))) r (mem (now (symbols .exit)) (now (head .exit)) (now (load .exit))) (now (places .exit)) (now (reasons .exit)) ⌝ }
 {
     let mut x = start();
@@ -151,7 +153,7 @@ fn program(
     }
 }
 
-// All declarations of the tokens: a lexing panic in front is met at once.
+// All declarations of the tokens, from an empty symbol table on: a lexing panic in front is met at once.
 pub fn parse(
     script: &[u8],
     offs: &[u32],
@@ -170,6 +172,7 @@ pub fn parse(
         let off = wide(offs[0]);
         return Walked::Refused(Refusal::SourceFault(lim.fault, off));
     }
+    open(words, symbols);
     program(
         script,
         offs,
