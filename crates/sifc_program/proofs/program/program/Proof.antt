@@ -33,7 +33,7 @@ start-requires c κs = search needs
 loop-holds : tie.Need-loop-holds Inv-loop μ-loop
 loop-holds c =
     let start = c .before .before .before .before .before .before .before .before .before in
-    parsing _ _ _ _ (mem (start .args .symbols .now) (start .args .head .now) (start .args .load .now)) (start .pre .0) (start .pre .1) (c .start .ensures)
+    parsing _ _ _ _ (mem (start .args .symbols .now) (start .args .head .now) (start .args .load .now)) (start .pre .0) (start .pre .1) (start .pre .2) (c .start .ensures)
 
 -- src/program.rt:123:12
 kind-at-requires : tie.Need-kind-at-requires Inv-loop μ-loop
