@@ -64,7 +64,7 @@ for m in order:
     res.append(f'\nabbrev {m}-below : ℕ → In {NL} {m}-kinds.ps\n{m}-below t = and {NL} {m}-kinds.ps (falls {NL} {m}-kinds.ps _<_ μ-{m} t) {m}.Pre')
 for m in order:
     res.append(f'\nabbrev {m}-calls : ℕ → {m}-lts.Claims\n{m}-calls t = ({tup[m][1]})')
-LENT={'push-node':{5:'.0',6:'.1 .0'},'literal':{5:'.1 .1 .0',6:'.1 .1 .1 .0'},'access':{5:'.1 .0',6:'.1 .1 .0'},
+LENT={'push-node':{5:'.0',6:'.1 .0'},'literal':{5:'.1 .1 .0',6:'.1 .1 .1 .0'},'end-dot':{5:'.1 .0',6:'.1 .1 .0'},'end-index':{5:'.1 .0',6:'.1 .1 .0'},
  'store-name':{4:'.1 .1 .1 .0'},'bind':{4:'.1 .1 .1 .0'},'end-block':{5:'.1 .1 .1 .1 .0',6:'.1 .1 .1 .1 .1 .0'},'end-if':{5:'.0',6:'.1 .0',7:'.1 .1 .0',8:'.1 .1 .1 .0'}}
 WHOLE={k:'.1 '*(k-1)+'.0' for k in range(4,9)}
 SIX={k:WHOLE[k] for k in (4,5,6)}

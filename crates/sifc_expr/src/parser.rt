@@ -6,11 +6,12 @@ use sifc_step::Limits;
 use sifc_step::Parsed;
 use sifc_step::Target;
 use sifc_step::Walk;
-use sifc_step::access;
 use sifc_step::add_error;
 use sifc_step::assign_to;
 use sifc_step::call_named;
 use sifc_step::consume;
+use sifc_step::end_dot;
+use sifc_step::end_index;
 use sifc_step::expect;
 use sifc_step::ident_expr;
 use sifc_step::is_literal;
@@ -50,10 +51,6 @@ const IDENT: u32 = 31;
 const EOF: u32 = 47;
 
 // Head words: kind + 64 × children.
-const TABLE_ACCESS: u32 = 143;
-
-const ARRAY_ACCESS: u32 = 146;
-
 const BINARY_EXPR: u32 = 150;
 
 const UNARY_EXPR: u32 = 87;
@@ -539,8 +536,7 @@ fn dot(
     let Parsed::Done(y) = field else {
         return field;
     };
-    let on = set_check(y, true);
-    access(offs, head, load, on, to, TABLE_ACCESS, 4, at)
+    end_dot(offs, head, load, y, to, at)
 }
 
 // An array access.
@@ -572,7 +568,7 @@ fn index(
     let Parsed::Done(z) = closed else {
         return closed;
     };
-    access(offs, head, load, z, to, ARRAY_ACCESS, 5, at)
+    end_index(offs, head, load, z, to, at)
 }
 
 // The arguments of a call: Done's count is how many there are.

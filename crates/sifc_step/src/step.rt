@@ -11,6 +11,7 @@ use sifc_err::Refusal;
 use sifc_symtab::Stored;
 use sifc_symtab::store;
 ghost use mathlib.Core.Path.{_≡_};
+ghost use mathlib.Core.Bool.{true};
 ghost use Prim.Native.Nat.{_<_, _≤_, _+_, _-_};
 ghost use lib.ListN.{length};
 ghost use Rattle.sifc_def.specs.Expr.{looseness as loosenessOf, isUnary, isLiteral};
@@ -30,6 +31,11 @@ const LEX_PANIC: u32 = 48;
 
 // A node's head word is kind + 32 × mark + 64 × children.
 const PRIMARY_EXPR: u32 = 24;
+
+// Head words: kind + 64 × children.
+const TABLE_ACCESS: u32 = 143;
+
+const ARRAY_ACCESS: u32 = 146;
 
 // The kind of the token at an index.
 pub fn kind_at(words: &[u32], at: usize) -> u32
@@ -325,7 +331,7 @@ pub fn top(head: &[u32], load: &[u32], n: usize) -> Target
 
 // The end of a table or an array access whose sign is token i: the target must be a single token,
 // or it is a panic.
-pub fn access(
+fn access(
     offs: &[u32],
     head: &mut [u32],
     load: &mut [u32],
@@ -343,6 +349,37 @@ pub fn access(
         return Parsed::Refused(Refusal::SourceFault(fault, off));
     }
     push_node(head, load, w, word, 0)
+}
+
+// The end of a table access, after its expression: names are checked again.
+pub fn end_dot(
+    offs: &[u32],
+    head: &mut [u32],
+    load: &mut [u32],
+    w: Walk,
+    target: Target,
+    i: usize,
+) -> Parsed
+    requires { ⌜ (i < length (now offs)) × (length (now head) ≡ length (now load)) × (w .nodes ≤ length (now head)) ⌝ }
+    ensures { λ r. ⌜ Accesses (now (offs .entry)) (now (head .entry)) (now (load .entry)) (checkedBy w true) target 143 4 i r (now (head .exit)) (now (load .exit)) ⌝ }
+{
+    let on = set_check(w, true);
+    access(offs, head, load, on, target, TABLE_ACCESS, 4, i)
+}
+
+// The end of an array access, after its `]`.
+pub fn end_index(
+    offs: &[u32],
+    head: &mut [u32],
+    load: &mut [u32],
+    w: Walk,
+    target: Target,
+    i: usize,
+) -> Parsed
+    requires { ⌜ (i < length (now offs)) × (length (now head) ≡ length (now load)) × (w .nodes ≤ length (now head)) ⌝ }
+    ensures { λ r. ⌜ Accesses (now (offs .entry)) (now (head .entry)) (now (load .entry)) w target 146 5 i r (now (head .exit)) (now (load .exit)) ⌝ }
+{
+    access(offs, head, load, w, target, ARRAY_ACCESS, 5, i)
 }
 
 // The first word of a node.

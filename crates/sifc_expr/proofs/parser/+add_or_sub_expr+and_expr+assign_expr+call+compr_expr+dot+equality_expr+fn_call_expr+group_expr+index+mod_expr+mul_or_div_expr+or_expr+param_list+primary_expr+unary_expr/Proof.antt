@@ -71,11 +71,11 @@ use AndExpr.{and-expr-equality-expr-requires, and-expr-enum-known-lhs, and-expr-
 use AssignExpr.{assign-expr-returns, assign-expr-sub-below, assign-expr-or-expr-requires, assign-expr-enum-known-lhs, assign-expr-same-length, assign-expr-same-length-2, assign-expr-same-length-3, assign-expr-returns-2, assign-expr-top-requires, assign-expr-kind-at-requires, assign-expr-same-length-4, assign-expr-same-length-5, assign-expr-same-length-6, assign-expr-returns-3, assign-expr-consume-requires, assign-expr-enum-known-passed, assign-expr-same-length-7, assign-expr-same-length-8, assign-expr-same-length-9, assign-expr-returns-4, assign-expr-assign-expr-requires, assign-expr-enum-known-rhs, assign-expr-same-length-10, assign-expr-same-length-11, assign-expr-same-length-12, assign-expr-returns-5, assign-expr-assign-to-requires, assign-expr-same-length-13, assign-expr-same-length-14, assign-expr-same-length-15, assign-expr-returns-6}
 use Call.{call-consume-requires, call-enum-known-passed, call-returns, call-param-list-requires, call-enum-known-items, call-same-length, call-same-length-2, call-same-length-3, call-returns-2, call-expect-requires, call-enum-known-closed, call-same-length-4, call-same-length-5, call-same-length-6, call-returns-3, call-call-named-requires, call-same-length-7, call-same-length-8, call-same-length-9, call-returns-4}
 use ComprExpr.{compr-expr-add-or-sub-expr-requires, compr-expr-enum-known-lhs, compr-expr-same-length, compr-expr-same-length-2, compr-expr-same-length-3, compr-expr-returns, compr-expr-loop-holds, compr-expr-kind-at-requires, compr-expr-looseness-requires, compr-expr-same-length-4, compr-expr-same-length-5, compr-expr-same-length-6, compr-expr-returns-2, compr-expr-consume-requires, compr-expr-enum-known-passed, compr-expr-same-length-7, compr-expr-same-length-8, compr-expr-same-length-9, compr-expr-returns-3, compr-expr-add-or-sub-expr-requires-2, compr-expr-enum-known-rhs, compr-expr-same-length-10, compr-expr-same-length-11, compr-expr-same-length-12, compr-expr-returns-4, compr-expr-cast-push-node, compr-expr-push-node-requires, compr-expr-enum-known-made, compr-expr-same-length-13, compr-expr-same-length-14, compr-expr-same-length-15, compr-expr-returns-5, compr-expr-loop-less, compr-expr-loop-again, compr-expr-Inv-loop, compr-expr-μ-loop}
-use Dot.{dot-consume-requires, dot-enum-known-passed, dot-returns, dot-set-check-requires, dot-assign-expr-requires, dot-enum-known-field, dot-same-length, dot-same-length-2, dot-same-length-3, dot-returns-2, dot-set-check-requires-2, dot-access-requires, dot-same-length-4, dot-same-length-5, dot-same-length-6, dot-returns-3}
+use Dot.{dot-consume-requires, dot-enum-known-passed, dot-returns, dot-set-check-requires, dot-assign-expr-requires, dot-enum-known-field, dot-same-length, dot-same-length-2, dot-same-length-3, dot-returns-2, dot-end-dot-requires, dot-same-length-4, dot-same-length-5, dot-same-length-6, dot-returns-3}
 use EqualityExpr.{equality-expr-compr-expr-requires, equality-expr-enum-known-lhs, equality-expr-same-length, equality-expr-same-length-2, equality-expr-same-length-3, equality-expr-returns, equality-expr-loop-holds, equality-expr-kind-at-requires, equality-expr-looseness-requires, equality-expr-same-length-4, equality-expr-same-length-5, equality-expr-same-length-6, equality-expr-returns-2, equality-expr-consume-requires, equality-expr-enum-known-passed, equality-expr-same-length-7, equality-expr-same-length-8, equality-expr-same-length-9, equality-expr-returns-3, equality-expr-compr-expr-requires-2, equality-expr-enum-known-rhs, equality-expr-same-length-10, equality-expr-same-length-11, equality-expr-same-length-12, equality-expr-returns-4, equality-expr-cast-push-node, equality-expr-push-node-requires, equality-expr-enum-known-made, equality-expr-same-length-13, equality-expr-same-length-14, equality-expr-same-length-15, equality-expr-returns-5, equality-expr-loop-less, equality-expr-loop-again, equality-expr-Inv-loop, equality-expr-μ-loop}
 use FnCallExpr.{fn-call-expr-returns, fn-call-expr-sub-below, fn-call-expr-primary-expr-requires, fn-call-expr-enum-known-first, fn-call-expr-same-length, fn-call-expr-same-length-2, fn-call-expr-same-length-3, fn-call-expr-returns-2, fn-call-expr-top-requires, fn-call-expr-kind-at-requires, fn-call-expr-call-requires, fn-call-expr-same-length-4, fn-call-expr-same-length-5, fn-call-expr-same-length-6, fn-call-expr-returns-3, fn-call-expr-dot-requires, fn-call-expr-same-length-7, fn-call-expr-same-length-8, fn-call-expr-same-length-9, fn-call-expr-returns-4, fn-call-expr-index-requires, fn-call-expr-same-length-10, fn-call-expr-same-length-11, fn-call-expr-same-length-12, fn-call-expr-returns-5, fn-call-expr-same-length-13, fn-call-expr-same-length-14, fn-call-expr-same-length-15, fn-call-expr-returns-6}
 use GroupExpr.{group-expr-consume-requires, group-expr-enum-known-passed, group-expr-returns, group-expr-assign-expr-requires, group-expr-enum-known-inner, group-expr-same-length, group-expr-same-length-2, group-expr-same-length-3, group-expr-returns-2, group-expr-expect-requires, group-expr-same-length-4, group-expr-same-length-5, group-expr-same-length-6, group-expr-returns-3}
-use Index.{index-consume-requires, index-enum-known-passed, index-returns, index-assign-expr-requires, index-enum-known-inner, index-same-length, index-same-length-2, index-same-length-3, index-returns-2, index-expect-requires, index-enum-known-closed, index-same-length-4, index-same-length-5, index-same-length-6, index-returns-3, index-access-requires, index-same-length-7, index-same-length-8, index-same-length-9, index-returns-4}
+use Index.{index-consume-requires, index-enum-known-passed, index-returns, index-assign-expr-requires, index-enum-known-inner, index-same-length, index-same-length-2, index-same-length-3, index-returns-2, index-expect-requires, index-enum-known-closed, index-same-length-4, index-same-length-5, index-same-length-6, index-returns-3, index-end-index-requires, index-same-length-7, index-same-length-8, index-same-length-9, index-returns-4}
 use ModExpr.{mod-expr-unary-expr-requires, mod-expr-enum-known-lhs, mod-expr-same-length, mod-expr-same-length-2, mod-expr-same-length-3, mod-expr-returns, mod-expr-loop-holds, mod-expr-kind-at-requires, mod-expr-looseness-requires, mod-expr-same-length-4, mod-expr-same-length-5, mod-expr-same-length-6, mod-expr-returns-2, mod-expr-consume-requires, mod-expr-enum-known-passed, mod-expr-same-length-7, mod-expr-same-length-8, mod-expr-same-length-9, mod-expr-returns-3, mod-expr-unary-expr-requires-2, mod-expr-enum-known-rhs, mod-expr-same-length-10, mod-expr-same-length-11, mod-expr-same-length-12, mod-expr-returns-4, mod-expr-cast-push-node, mod-expr-push-node-requires, mod-expr-enum-known-made, mod-expr-same-length-13, mod-expr-same-length-14, mod-expr-same-length-15, mod-expr-returns-5, mod-expr-loop-less, mod-expr-loop-again, mod-expr-Inv-loop, mod-expr-μ-loop}
 use MulOrDivExpr.{mul-or-div-expr-mod-expr-requires, mul-or-div-expr-enum-known-lhs, mul-or-div-expr-same-length, mul-or-div-expr-same-length-2, mul-or-div-expr-same-length-3, mul-or-div-expr-returns, mul-or-div-expr-loop-holds, mul-or-div-expr-kind-at-requires, mul-or-div-expr-looseness-requires, mul-or-div-expr-same-length-4, mul-or-div-expr-same-length-5, mul-or-div-expr-same-length-6, mul-or-div-expr-returns-2, mul-or-div-expr-consume-requires, mul-or-div-expr-enum-known-passed, mul-or-div-expr-same-length-7, mul-or-div-expr-same-length-8, mul-or-div-expr-same-length-9, mul-or-div-expr-returns-3, mul-or-div-expr-mod-expr-requires-2, mul-or-div-expr-enum-known-rhs, mul-or-div-expr-same-length-10, mul-or-div-expr-same-length-11, mul-or-div-expr-same-length-12, mul-or-div-expr-returns-4, mul-or-div-expr-cast-push-node, mul-or-div-expr-push-node-requires, mul-or-div-expr-enum-known-made, mul-or-div-expr-same-length-13, mul-or-div-expr-same-length-14, mul-or-div-expr-same-length-15, mul-or-div-expr-returns-5, mul-or-div-expr-loop-less, mul-or-div-expr-loop-again, mul-or-div-expr-Inv-loop, mul-or-div-expr-μ-loop}
 use OrExpr.{or-expr-and-expr-requires, or-expr-enum-known-lhs, or-expr-same-length, or-expr-same-length-2, or-expr-same-length-3, or-expr-returns, or-expr-loop-holds, or-expr-kind-at-requires, or-expr-looseness-requires, or-expr-same-length-4, or-expr-same-length-5, or-expr-same-length-6, or-expr-returns-2, or-expr-consume-requires, or-expr-enum-known-passed, or-expr-same-length-7, or-expr-same-length-8, or-expr-same-length-9, or-expr-returns-3, or-expr-and-expr-requires-2, or-expr-enum-known-rhs, or-expr-same-length-10, or-expr-same-length-11, or-expr-same-length-12, or-expr-returns-4, or-expr-cast-push-node, or-expr-push-node-requires, or-expr-enum-known-made, or-expr-same-length-13, or-expr-same-length-14, or-expr-same-length-15, or-expr-returns-5, or-expr-loop-less, or-expr-loop-again, or-expr-Inv-loop, or-expr-μ-loop}
@@ -107,11 +107,11 @@ pub +add-or-sub-expr+and-expr+assign-expr+call+compr-expr+dot+equality-expr+fn-c
     (λ t. assign-expr-lts.spec (assign-expr-calls t) (assign-expr-at t) assign-expr.Post (assign-expr-returns t) (assign-expr-sub-below t) (assign-expr-or-expr-requires t) (assign-expr-enum-known-lhs t) (assign-expr-same-length t) (assign-expr-same-length-2 t) (assign-expr-same-length-3 t) (assign-expr-returns-2 t) (assign-expr-top-requires t) (assign-expr-kind-at-requires t) (assign-expr-same-length-4 t) (assign-expr-same-length-5 t) (assign-expr-same-length-6 t) (assign-expr-returns-3 t) (assign-expr-consume-requires t) (assign-expr-enum-known-passed t) (assign-expr-same-length-7 t) (assign-expr-same-length-8 t) (assign-expr-same-length-9 t) (assign-expr-returns-4 t) (assign-expr-assign-expr-requires t) (assign-expr-enum-known-rhs t) (assign-expr-same-length-10 t) (assign-expr-same-length-11 t) (assign-expr-same-length-12 t) (assign-expr-returns-5 t) (assign-expr-assign-to-requires t) (assign-expr-same-length-13 t) (assign-expr-same-length-14 t) (assign-expr-same-length-15 t) (assign-expr-returns-6 t))
     (λ t. call-lts.spec (call-calls t) (call-at t) call.Post (call-consume-requires t) (call-enum-known-passed t) (call-returns t) (call-param-list-requires t) (call-enum-known-items t) (call-same-length t) (call-same-length-2 t) (call-same-length-3 t) (call-returns-2 t) (call-expect-requires t) (call-enum-known-closed t) (call-same-length-4 t) (call-same-length-5 t) (call-same-length-6 t) (call-returns-3 t) (call-call-named-requires t) (call-same-length-7 t) (call-same-length-8 t) (call-same-length-9 t) (call-returns-4 t))
     (λ t. compr-expr-lts.spec (compr-expr-calls t) (compr-expr-at t) compr-expr.Post compr-expr-Inv-loop compr-expr-μ-loop (compr-expr-add-or-sub-expr-requires t) (compr-expr-enum-known-lhs t) (compr-expr-same-length t) (compr-expr-same-length-2 t) (compr-expr-same-length-3 t) (compr-expr-returns t) (compr-expr-loop-holds t) (compr-expr-kind-at-requires t) (compr-expr-looseness-requires t) (compr-expr-same-length-4 t) (compr-expr-same-length-5 t) (compr-expr-same-length-6 t) (compr-expr-returns-2 t) (compr-expr-consume-requires t) (compr-expr-enum-known-passed t) (compr-expr-same-length-7 t) (compr-expr-same-length-8 t) (compr-expr-same-length-9 t) (compr-expr-returns-3 t) (compr-expr-add-or-sub-expr-requires-2 t) (compr-expr-enum-known-rhs t) (compr-expr-same-length-10 t) (compr-expr-same-length-11 t) (compr-expr-same-length-12 t) (compr-expr-returns-4 t) (compr-expr-cast-push-node t) (compr-expr-push-node-requires t) (compr-expr-enum-known-made t) (compr-expr-same-length-13 t) (compr-expr-same-length-14 t) (compr-expr-same-length-15 t) (compr-expr-returns-5 t) (compr-expr-loop-less t) (compr-expr-loop-again t))
-    (λ t. dot-lts.spec (dot-calls t) (dot-at t) dot.Post (dot-consume-requires t) (dot-enum-known-passed t) (dot-returns t) (dot-set-check-requires t) (dot-assign-expr-requires t) (dot-enum-known-field t) (dot-same-length t) (dot-same-length-2 t) (dot-same-length-3 t) (dot-returns-2 t) (dot-set-check-requires-2 t) (dot-access-requires t) (dot-same-length-4 t) (dot-same-length-5 t) (dot-same-length-6 t) (dot-returns-3 t))
+    (λ t. dot-lts.spec (dot-calls t) (dot-at t) dot.Post (dot-consume-requires t) (dot-enum-known-passed t) (dot-returns t) (dot-set-check-requires t) (dot-assign-expr-requires t) (dot-enum-known-field t) (dot-same-length t) (dot-same-length-2 t) (dot-same-length-3 t) (dot-returns-2 t) (dot-end-dot-requires t) (dot-same-length-4 t) (dot-same-length-5 t) (dot-same-length-6 t) (dot-returns-3 t))
     (λ t. equality-expr-lts.spec (equality-expr-calls t) (equality-expr-at t) equality-expr.Post equality-expr-Inv-loop equality-expr-μ-loop (equality-expr-compr-expr-requires t) (equality-expr-enum-known-lhs t) (equality-expr-same-length t) (equality-expr-same-length-2 t) (equality-expr-same-length-3 t) (equality-expr-returns t) (equality-expr-loop-holds t) (equality-expr-kind-at-requires t) (equality-expr-looseness-requires t) (equality-expr-same-length-4 t) (equality-expr-same-length-5 t) (equality-expr-same-length-6 t) (equality-expr-returns-2 t) (equality-expr-consume-requires t) (equality-expr-enum-known-passed t) (equality-expr-same-length-7 t) (equality-expr-same-length-8 t) (equality-expr-same-length-9 t) (equality-expr-returns-3 t) (equality-expr-compr-expr-requires-2 t) (equality-expr-enum-known-rhs t) (equality-expr-same-length-10 t) (equality-expr-same-length-11 t) (equality-expr-same-length-12 t) (equality-expr-returns-4 t) (equality-expr-cast-push-node t) (equality-expr-push-node-requires t) (equality-expr-enum-known-made t) (equality-expr-same-length-13 t) (equality-expr-same-length-14 t) (equality-expr-same-length-15 t) (equality-expr-returns-5 t) (equality-expr-loop-less t) (equality-expr-loop-again t))
     (λ t. fn-call-expr-lts.spec (fn-call-expr-calls t) (fn-call-expr-at t) fn-call-expr.Post (fn-call-expr-returns t) (fn-call-expr-sub-below t) (fn-call-expr-primary-expr-requires t) (fn-call-expr-enum-known-first t) (fn-call-expr-same-length t) (fn-call-expr-same-length-2 t) (fn-call-expr-same-length-3 t) (fn-call-expr-returns-2 t) (fn-call-expr-top-requires t) (fn-call-expr-kind-at-requires t) (fn-call-expr-call-requires t) (fn-call-expr-same-length-4 t) (fn-call-expr-same-length-5 t) (fn-call-expr-same-length-6 t) (fn-call-expr-returns-3 t) (fn-call-expr-dot-requires t) (fn-call-expr-same-length-7 t) (fn-call-expr-same-length-8 t) (fn-call-expr-same-length-9 t) (fn-call-expr-returns-4 t) (fn-call-expr-index-requires t) (fn-call-expr-same-length-10 t) (fn-call-expr-same-length-11 t) (fn-call-expr-same-length-12 t) (fn-call-expr-returns-5 t) (fn-call-expr-same-length-13 t) (fn-call-expr-same-length-14 t) (fn-call-expr-same-length-15 t) (fn-call-expr-returns-6 t))
     (λ t. group-expr-lts.spec (group-expr-calls t) (group-expr-at t) group-expr.Post (group-expr-consume-requires t) (group-expr-enum-known-passed t) (group-expr-returns t) (group-expr-assign-expr-requires t) (group-expr-enum-known-inner t) (group-expr-same-length t) (group-expr-same-length-2 t) (group-expr-same-length-3 t) (group-expr-returns-2 t) (group-expr-expect-requires t) (group-expr-same-length-4 t) (group-expr-same-length-5 t) (group-expr-same-length-6 t) (group-expr-returns-3 t))
-    (λ t. index-lts.spec (index-calls t) (index-at t) index.Post (index-consume-requires t) (index-enum-known-passed t) (index-returns t) (index-assign-expr-requires t) (index-enum-known-inner t) (index-same-length t) (index-same-length-2 t) (index-same-length-3 t) (index-returns-2 t) (index-expect-requires t) (index-enum-known-closed t) (index-same-length-4 t) (index-same-length-5 t) (index-same-length-6 t) (index-returns-3 t) (index-access-requires t) (index-same-length-7 t) (index-same-length-8 t) (index-same-length-9 t) (index-returns-4 t))
+    (λ t. index-lts.spec (index-calls t) (index-at t) index.Post (index-consume-requires t) (index-enum-known-passed t) (index-returns t) (index-assign-expr-requires t) (index-enum-known-inner t) (index-same-length t) (index-same-length-2 t) (index-same-length-3 t) (index-returns-2 t) (index-expect-requires t) (index-enum-known-closed t) (index-same-length-4 t) (index-same-length-5 t) (index-same-length-6 t) (index-returns-3 t) (index-end-index-requires t) (index-same-length-7 t) (index-same-length-8 t) (index-same-length-9 t) (index-returns-4 t))
     (λ t. mod-expr-lts.spec (mod-expr-calls t) (mod-expr-at t) mod-expr.Post mod-expr-Inv-loop mod-expr-μ-loop (mod-expr-unary-expr-requires t) (mod-expr-enum-known-lhs t) (mod-expr-same-length t) (mod-expr-same-length-2 t) (mod-expr-same-length-3 t) (mod-expr-returns t) (mod-expr-loop-holds t) (mod-expr-kind-at-requires t) (mod-expr-looseness-requires t) (mod-expr-same-length-4 t) (mod-expr-same-length-5 t) (mod-expr-same-length-6 t) (mod-expr-returns-2 t) (mod-expr-consume-requires t) (mod-expr-enum-known-passed t) (mod-expr-same-length-7 t) (mod-expr-same-length-8 t) (mod-expr-same-length-9 t) (mod-expr-returns-3 t) (mod-expr-unary-expr-requires-2 t) (mod-expr-enum-known-rhs t) (mod-expr-same-length-10 t) (mod-expr-same-length-11 t) (mod-expr-same-length-12 t) (mod-expr-returns-4 t) (mod-expr-cast-push-node t) (mod-expr-push-node-requires t) (mod-expr-enum-known-made t) (mod-expr-same-length-13 t) (mod-expr-same-length-14 t) (mod-expr-same-length-15 t) (mod-expr-returns-5 t) (mod-expr-loop-less t) (mod-expr-loop-again t))
     (λ t. mul-or-div-expr-lts.spec (mul-or-div-expr-calls t) (mul-or-div-expr-at t) mul-or-div-expr.Post mul-or-div-expr-Inv-loop mul-or-div-expr-μ-loop (mul-or-div-expr-mod-expr-requires t) (mul-or-div-expr-enum-known-lhs t) (mul-or-div-expr-same-length t) (mul-or-div-expr-same-length-2 t) (mul-or-div-expr-same-length-3 t) (mul-or-div-expr-returns t) (mul-or-div-expr-loop-holds t) (mul-or-div-expr-kind-at-requires t) (mul-or-div-expr-looseness-requires t) (mul-or-div-expr-same-length-4 t) (mul-or-div-expr-same-length-5 t) (mul-or-div-expr-same-length-6 t) (mul-or-div-expr-returns-2 t) (mul-or-div-expr-consume-requires t) (mul-or-div-expr-enum-known-passed t) (mul-or-div-expr-same-length-7 t) (mul-or-div-expr-same-length-8 t) (mul-or-div-expr-same-length-9 t) (mul-or-div-expr-returns-3 t) (mul-or-div-expr-mod-expr-requires-2 t) (mul-or-div-expr-enum-known-rhs t) (mul-or-div-expr-same-length-10 t) (mul-or-div-expr-same-length-11 t) (mul-or-div-expr-same-length-12 t) (mul-or-div-expr-returns-4 t) (mul-or-div-expr-cast-push-node t) (mul-or-div-expr-push-node-requires t) (mul-or-div-expr-enum-known-made t) (mul-or-div-expr-same-length-13 t) (mul-or-div-expr-same-length-14 t) (mul-or-div-expr-same-length-15 t) (mul-or-div-expr-returns-5 t) (mul-or-div-expr-loop-less t) (mul-or-div-expr-loop-again t))
     (λ t. or-expr-lts.spec (or-expr-calls t) (or-expr-at t) or-expr.Post or-expr-Inv-loop or-expr-μ-loop (or-expr-and-expr-requires t) (or-expr-enum-known-lhs t) (or-expr-same-length t) (or-expr-same-length-2 t) (or-expr-same-length-3 t) (or-expr-returns t) (or-expr-loop-holds t) (or-expr-kind-at-requires t) (or-expr-looseness-requires t) (or-expr-same-length-4 t) (or-expr-same-length-5 t) (or-expr-same-length-6 t) (or-expr-returns-2 t) (or-expr-consume-requires t) (or-expr-enum-known-passed t) (or-expr-same-length-7 t) (or-expr-same-length-8 t) (or-expr-same-length-9 t) (or-expr-returns-3 t) (or-expr-and-expr-requires-2 t) (or-expr-enum-known-rhs t) (or-expr-same-length-10 t) (or-expr-same-length-11 t) (or-expr-same-length-12 t) (or-expr-returns-4 t) (or-expr-cast-push-node t) (or-expr-push-node-requires t) (or-expr-enum-known-made t) (or-expr-same-length-13 t) (or-expr-same-length-14 t) (or-expr-same-length-15 t) (or-expr-returns-5 t) (or-expr-loop-less t) (or-expr-loop-again t))

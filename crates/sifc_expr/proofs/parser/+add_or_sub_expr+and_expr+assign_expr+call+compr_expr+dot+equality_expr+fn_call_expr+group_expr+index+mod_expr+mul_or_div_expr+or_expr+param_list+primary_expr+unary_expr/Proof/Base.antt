@@ -52,9 +52,10 @@ use Rattle.sifc_expr.proofs.parser.+add_or_sub_expr+and_expr+assign_exp
 use Rattle.sifc_step.proofs.assign_to.Reads as assign-to-reads
 use Rattle.sifc_step.proofs.call_named.Reads as call-named-reads
 use Rattle.sifc_step.proofs.ident_expr.Reads as ident-expr-reads
-use Rattle.sifc_step.proofs.access.Reads as access-reads
 use Rattle.sifc_step.proofs.add_error.Reads as add-error-reads
 use Rattle.sifc_step.proofs.consume.Reads as consume-reads
+use Rattle.sifc_step.proofs.end_dot.Reads as end-dot-reads
+use Rattle.sifc_step.proofs.end_index.Reads as end-index-reads
 use Rattle.sifc_step.proofs.expect.Reads as expect-reads
 use Rattle.sifc_step.proofs.is_literal.Reads as is-literal-reads
 use Rattle.sifc_step.proofs.is_unary.Reads as is-unary-reads
@@ -229,7 +230,7 @@ abbrev pub compr-expr-calls : ℕ → compr-expr-lts.Claims
 compr-expr-calls t = (add-or-sub-expr-below t, add-or-sub-expr.Post, kind-at-reads.Asked, kind-at-reads.Learnt, looseness-reads.Asked, looseness-reads.Learnt, consume-reads.Asked, consume-reads.Learnt, push-node-reads.Asked, push-node-reads.Learnt)
 
 abbrev pub dot-calls : ℕ → dot-lts.Claims
-dot-calls t = (consume-reads.Asked, consume-reads.Learnt, set-check-reads.Asked, set-check-reads.Learnt, assign-expr-below t, assign-expr.Post, access-reads.Asked, access-reads.Learnt)
+dot-calls t = (consume-reads.Asked, consume-reads.Learnt, set-check-reads.Asked, set-check-reads.Learnt, assign-expr-below t, assign-expr.Post, end-dot-reads.Asked, end-dot-reads.Learnt)
 
 abbrev pub equality-expr-calls : ℕ → equality-expr-lts.Claims
 equality-expr-calls t = (compr-expr-below t, compr-expr.Post, kind-at-reads.Asked, kind-at-reads.Learnt, looseness-reads.Asked, looseness-reads.Learnt, consume-reads.Asked, consume-reads.Learnt, push-node-reads.Asked, push-node-reads.Learnt)
@@ -241,7 +242,7 @@ abbrev pub group-expr-calls : ℕ → group-expr-lts.Claims
 group-expr-calls t = (consume-reads.Asked, consume-reads.Learnt, assign-expr-below t, assign-expr.Post, expect-reads.Asked, expect-reads.Learnt)
 
 abbrev pub index-calls : ℕ → index-lts.Claims
-index-calls t = (consume-reads.Asked, consume-reads.Learnt, assign-expr-below t, assign-expr.Post, expect-reads.Asked, expect-reads.Learnt, access-reads.Asked, access-reads.Learnt)
+index-calls t = (consume-reads.Asked, consume-reads.Learnt, assign-expr-below t, assign-expr.Post, expect-reads.Asked, expect-reads.Learnt, end-index-reads.Asked, end-index-reads.Learnt)
 
 abbrev pub mod-expr-calls : ℕ → mod-expr-lts.Claims
 mod-expr-calls t = (unary-expr-below t, unary-expr.Post, kind-at-reads.Asked, kind-at-reads.Learnt, looseness-reads.Asked, looseness-reads.Learnt, consume-reads.Asked, consume-reads.Learnt, push-node-reads.Asked, push-node-reads.Learnt)

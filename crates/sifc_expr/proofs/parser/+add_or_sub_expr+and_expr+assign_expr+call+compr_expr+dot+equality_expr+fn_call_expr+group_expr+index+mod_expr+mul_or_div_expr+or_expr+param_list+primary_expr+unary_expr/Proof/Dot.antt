@@ -87,14 +87,10 @@ dot-returns-2 t c =
     let p2 = switched false _ p1 (c-set-check .set-check .ensures) in
     stop 1 (λ x. walkers x (start .args .depth) .assign) _ p2 refl (omega arith) (c-assign-expr .assign-expr .ensures) (not-done _ (c .match2 .keys2)))
 
-pub dot-set-check-requires-2 : (t : ℕ) → dot-lts.Need-set-check-requires-2 (dot-calls t) (dot-at t) dot.Post
-dot-set-check-requires-2 t c κs = search needs
-
-pub dot-access-requires : (t : ℕ) → dot-lts.Need-access-requires (dot-calls t) (dot-at t) dot.Post
+pub dot-end-dot-requires : (t : ℕ) → dot-lts.Need-end-dot-requires (dot-calls t) (dot-at t) dot.Post
 unfolding dot
-dot-access-requires t c κs =
-    let c-set-check2 = c .before .before in
-    let c-field = c-set-check2 .before .before in
+dot-end-dot-requires t c κs =
+    let c-field = c .before .before .before in
     let c-assign-expr = c-field .before .before .before .before .before .before .before .before in
     let c-set-check = c-assign-expr .before .before .before .before in
     let c-passed = c-set-check .before .before in
@@ -106,32 +102,31 @@ dot-access-requires t c κs =
     let p1 = go 0 (λ x. consume x) _ p0 refl (pass-any (p0 .is) (c-consume .consume .ensures)) same (c-passed .passed .given .1) in
     let p2 = switched false _ p1 (c-set-check .set-check .ensures) in
     let p3 = go 1 (λ x. walkers x (start .args .depth) .assign) _ p2 refl (c-assign-expr .assign-expr .ensures) (kept (c-assign-expr .assign-expr .kept)) (c-field .field .given .1) in
-    let p4 = switched true _ p3 (c-set-check2 .set-check2 .ensures) in
+    let p4 = switched true _ p3 refl in
     (omega (arith, start .pre .1 .stands .here, start .pre .1 .stands .toks .even), p4 .is .even, p4 .is .used)
 
 pub dot-same-length-4 : (t : ℕ) → dot-lts.Need-same-length-4 (dot-calls t) (dot-at t) dot.Post
 dot-same-length-4 t c =
-    let c-assign-expr = c .before .before .before .before .before .before .before .before .before .before .before .before .before .before .before .before .before in
+    let c-assign-expr = c .before .before .before .before .before .before .before .before .before .before .before .before .before .before .before .before in
     c-assign-expr .assign-expr .kept .1 .1 .1 .0
 
 pub dot-same-length-5 : (t : ℕ) → dot-lts.Need-same-length-5 (dot-calls t) (dot-at t) dot.Post
 dot-same-length-5 t c =
-    let c-access = c .before .before .before .before in
-    let c-assign-expr = c-access .before .before .before .before .before .before .before .before .before .before .before .before .before in
-    c-access .access .kept .1 .0 ∙ c-assign-expr .assign-expr .kept .1 .1 .1 .1 .0
+    let c-end-dot = c .before .before .before .before in
+    let c-assign-expr = c-end-dot .before .before .before .before .before .before .before .before .before .before .before .before in
+    c-end-dot .end-dot .kept .1 .0 ∙ c-assign-expr .assign-expr .kept .1 .1 .1 .1 .0
 
 pub dot-same-length-6 : (t : ℕ) → dot-lts.Need-same-length-6 (dot-calls t) (dot-at t) dot.Post
 dot-same-length-6 t c =
-    let c-access = c .before .before .before .before in
-    let c-assign-expr = c-access .before .before .before .before .before .before .before .before .before .before .before .before .before in
-    c-access .access .kept .1 .1 .0 ∙ c-assign-expr .assign-expr .kept .1 .1 .1 .1 .1 .0
+    let c-end-dot = c .before .before .before .before in
+    let c-assign-expr = c-end-dot .before .before .before .before .before .before .before .before .before .before .before .before in
+    c-end-dot .end-dot .kept .1 .1 .0 ∙ c-assign-expr .assign-expr .kept .1 .1 .1 .1 .1 .0
 
 pub dot-returns-3 : (t : ℕ) → dot-lts.Need-returns-3 (dot-calls t) (dot-at t) dot.Post
 unfolding dot
 dot-returns-3 t c =
-    let c-access = c .before .before .before .before in
-    let c-set-check2 = c-access .before .before .before in
-    let c-field = c-set-check2 .before .before in
+    let c-end-dot = c .before .before .before .before in
+    let c-field = c-end-dot .before .before .before .before in
     let c-assign-expr = c-field .before .before .before .before .before .before .before .before in
     let c-set-check = c-assign-expr .before .before .before .before in
     let c-passed = c-set-check .before .before in
@@ -141,5 +136,5 @@ dot-returns-3 t c =
     let p1 = go 0 (λ x. consume x) _ p0 refl (pass-any (p0 .is) (c-consume .consume .ensures)) same (c-passed .passed .given .1) in
     let p2 = switched false _ p1 (c-set-check .set-check .ensures) in
     let p3 = go 1 (λ x. walkers x (start .args .depth) .assign) _ p2 refl (c-assign-expr .assign-expr .ensures) (kept (c-assign-expr .assign-expr .kept)) (c-field .field .given .1) in
-    let p4 = switched true _ p3 (c-set-check2 .set-check2 .ensures) in
-    last 0 (λ x s. go-on (single x (nodeOf (start .args .to)) 4 (start .args .w .at) s) (λ a. push x 15 false 2 0)) p4 refl (omega arith) (accessed (p4 .is) (start .pre .1 .stands .here) (c-access .access .ensures)))
+    let p4 = switched true _ p3 refl in
+    last 0 (λ x s. go-on (single x (nodeOf (start .args .to)) 4 (start .args .w .at) s) (λ a. push x 15 false 2 0)) p4 refl (omega arith) (accessed (p4 .is) (start .pre .1 .stands .here) (c-end-dot .end-dot .ensures)))

@@ -127,9 +127,9 @@ index-returns-3 t c =
     let p2 = go 1 (λ x. walkers x (start .args .depth) .assign) _ p1 refl (c-assign-expr .assign-expr .ensures) (kept (c-assign-expr .assign-expr .kept)) (c-inner .inner .given .1) in
     stop 0 (λ x. expect x 6) _ p2 refl (omega arith) (expected (p2 .is) (c-expect .expect .ensures)) (not-done _ (c .match3 .keys2)))
 
-pub index-access-requires : (t : ℕ) → index-lts.Need-access-requires (index-calls t) (index-at t) index.Post
+pub index-end-index-requires : (t : ℕ) → index-lts.Need-end-index-requires (index-calls t) (index-at t) index.Post
 unfolding index
-index-access-requires t c κs =
+index-end-index-requires t c κs =
     let c-closed = c .before .before .before in
     let c-expect = c-closed .before .before in
     let c-inner = c-expect .before .before in
@@ -152,21 +152,21 @@ index-same-length-7 t c =
 
 pub index-same-length-8 : (t : ℕ) → index-lts.Need-same-length-8 (index-calls t) (index-at t) index.Post
 index-same-length-8 t c =
-    let c-access = c .before .before .before .before in
-    let c-assign-expr = c-access .before .before .before .before .before .before .before .before .before .before .before .before .before .before .before .before in
-    c-access .access .kept .1 .0 ∙ c-assign-expr .assign-expr .kept .1 .1 .1 .1 .0
+    let c-end-index = c .before .before .before .before in
+    let c-assign-expr = c-end-index .before .before .before .before .before .before .before .before .before .before .before .before .before .before .before .before in
+    c-end-index .end-index .kept .1 .0 ∙ c-assign-expr .assign-expr .kept .1 .1 .1 .1 .0
 
 pub index-same-length-9 : (t : ℕ) → index-lts.Need-same-length-9 (index-calls t) (index-at t) index.Post
 index-same-length-9 t c =
-    let c-access = c .before .before .before .before in
-    let c-assign-expr = c-access .before .before .before .before .before .before .before .before .before .before .before .before .before .before .before .before in
-    c-access .access .kept .1 .1 .0 ∙ c-assign-expr .assign-expr .kept .1 .1 .1 .1 .1 .0
+    let c-end-index = c .before .before .before .before in
+    let c-assign-expr = c-end-index .before .before .before .before .before .before .before .before .before .before .before .before .before .before .before .before in
+    c-end-index .end-index .kept .1 .1 .0 ∙ c-assign-expr .assign-expr .kept .1 .1 .1 .1 .1 .0
 
 pub index-returns-4 : (t : ℕ) → index-lts.Need-returns-4 (index-calls t) (index-at t) index.Post
 unfolding index
 index-returns-4 t c =
-    let c-access = c .before .before .before .before in
-    let c-closed = c-access .before .before .before .before in
+    let c-end-index = c .before .before .before .before in
+    let c-closed = c-end-index .before .before .before .before in
     let c-expect = c-closed .before .before in
     let c-inner = c-expect .before .before in
     let c-assign-expr = c-inner .before .before .before .before .before .before .before .before in
@@ -177,4 +177,4 @@ index-returns-4 t c =
     let p1 = go 0 (λ x. consume x) _ p0 refl (pass-any (p0 .is) (c-consume .consume .ensures)) same (c-passed .passed .given .1) in
     let p2 = go 1 (λ x. walkers x (start .args .depth) .assign) _ p1 refl (c-assign-expr .assign-expr .ensures) (kept (c-assign-expr .assign-expr .kept)) (c-inner .inner .given .1) in
     let p3 = go 0 (λ x. expect x 6) _ p2 refl (expected (p2 .is) (c-expect .expect .ensures)) same (c-closed .closed .given .1) in
-    last 0 (λ x s. go-on (single x (nodeOf (start .args .to)) 5 (start .args .w .at) s) (λ a. push x 18 false 2 0)) p3 refl (omega arith) (accessed (p3 .is) (start .pre .1 .stands .here) (c-access .access .ensures)))
+    last 0 (λ x s. go-on (single x (nodeOf (start .args .to)) 5 (start .args .w .at) s) (λ a. push x 18 false 2 0)) p3 refl (omega arith) (accessed (p3 .is) (start .pre .1 .stands .here) (c-end-index .end-index .ensures)))
