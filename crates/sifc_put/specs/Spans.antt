@@ -8,20 +8,20 @@ use Rattle.sifc_def.specs.Typed.{Expr, prim, un, bin, call, dot, idx, set, mut,
 use Rattle.sifc_put.specs.Place.{Inp, Nothing, Then, Along, Over, Told}
 
 -- a single token, as an operand, a target, a parameter or a loop's name
-abbrev pub Prim : Inp → W → ℕ → ℕ → Type 0
-Prim I x lo hi = Told I PrimaryExpr 0 x Nothing lo hi
+abbrev pub Single : Inp → W → ℕ → ℕ → Type 0
+Single I x lo hi = Told I PrimaryExpr 0 x Nothing lo hi
 
 -- an expression, and expressions one after another
 unfoldable mutual
   pub Spans : Inp → Expr → ℕ → ℕ → Type 0
-  Spans I (prim x) lo hi = Prim I x lo hi
+  Spans I (prim x) lo hi = Single I x lo hi
   Spans I (un o e) lo hi = Told I UnaryExpr 1 o (λ a b. Spans I e a b) lo hi
   Spans I (bin o l r) lo hi = Told I BinaryExpr 2 o (λ a b. Then (λ c d. Spans I l c d) (λ c d. Spans I r c d) a b) lo hi
-  Spans I (call x es) lo hi = Over I FnCallExpr (suc (many es)) (λ a b. Then (λ c d. Prim I x c d) (λ c d. SpansAll I es c d) a b) lo hi
-  Spans I (dot x e) lo hi = Over I TableAccess 2 (λ a b. Then (λ c d. Prim I x c d) (λ c d. Spans I e c d) a b) lo hi
-  Spans I (idx x e) lo hi = Over I ArrayAccess 2 (λ a b. Then (λ c d. Prim I x c d) (λ c d. Spans I e c d) a b) lo hi
-  Spans I (set x g e) lo hi = Over I VarAssignExpr 2 (λ a b. Then (λ c d. Prim I x c d) (λ c d. Spans I e c d) a b) lo hi
-  Spans I (mut x i e) lo hi = Over I ArrayMutExpr 3 (λ a b. Then (λ c d. Then (λ f g. Prim I x f g) (λ f g. Spans I i f g) c d) (λ c d. Spans I e c d) a b) lo hi
+  Spans I (call x es) lo hi = Over I FnCallExpr (suc (many es)) (λ a b. Then (λ c d. Single I x c d) (λ c d. SpansAll I es c d) a b) lo hi
+  Spans I (dot x e) lo hi = Over I TableAccess 2 (λ a b. Then (λ c d. Single I x c d) (λ c d. Spans I e c d) a b) lo hi
+  Spans I (idx x e) lo hi = Over I ArrayAccess 2 (λ a b. Then (λ c d. Single I x c d) (λ c d. Spans I e c d) a b) lo hi
+  Spans I (set x g e) lo hi = Over I VarAssignExpr 2 (λ a b. Then (λ c d. Single I x c d) (λ c d. Spans I e c d) a b) lo hi
+  Spans I (mut x i e) lo hi = Over I ArrayMutExpr 3 (λ a b. Then (λ c d. Then (λ f g. Single I x f g) (λ f g. Spans I i f g) c d) (λ c d. Spans I e c d) a b) lo hi
 
   pub SpansAll : Inp → Exprs → ℕ → ℕ → Type 0
   SpansAll I nil lo hi = Nothing lo hi
@@ -46,11 +46,11 @@ SpansTable I is lo hi = Over I Table 1 (λ a b. Over I ItemList (manyItems is) (
 
 -- the parameters of a function
 abbrev pub SpansNames : Inp → List W → ℕ → ℕ → Type 0
-SpansNames I ns lo hi = Over I FnParams (length ns) (λ a b. Along (Prim I) ns a b) lo hi
+SpansNames I ns lo hi = Over I FnParams (length ns) (λ a b. Along (Single I) ns a b) lo hi
 
 -- the two names of a loop
 abbrev pub SpansPair : Inp → W → W → ℕ → ℕ → Type 0
-SpansPair I x y lo hi = Over I IdentPair 2 (λ a b. Then (λ c d. Prim I x c d) (λ c d. Prim I y c d) a b) lo hi
+SpansPair I x y lo hi = Over I IdentPair 2 (λ a b. Then (λ c d. Single I x c d) (λ c d. Single I y c d) a b) lo hi
 
 -- a statement, statements one after another, and the further branches of an `if`
 unfoldable mutual
