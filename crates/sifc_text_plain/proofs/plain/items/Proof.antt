@@ -75,8 +75,8 @@ separator-requires c κs =
     here p (start .pre) .room
 
 -- src/plain.rt:146:23
-enum-known-comma : tie.Need-enum-known-comma Inv-loop μ-loop
-enum-known-comma c = search needs
+enum-known-between : tie.Need-enum-known-between Inv-loop μ-loop
+enum-known-between c = search needs
 
 -- src/plain.rt:147:13
 enum-told-2 : tie.Need-enum-told-2 Inv-loop μ-loop
@@ -111,15 +111,15 @@ loop-less c =
 -- src/plain.rt:139:5
 loop-again : tie.Need-loop-again Inv-loop μ-loop
 loop-again c =
-    let c-comma = c .before in
-    let c-separator = c-comma .before .before .before .before in
+    let c-between = c .before in
+    let c-separator = c-between .before .before .before .before in
     let c-next = c-separator .before .before .before in
     let c-item = c-next .before .before .before .before in
     let c-loop-test = c-item .before .before in
     let c-loop = c-loop-test .before in
     let start = c-loop .before .before .before .before .before .before .before in
     let p = put (seq (listL (itemL (inp (start .args .script .now) (start .args .offs .now) (start .args .words .now) (start .args .heads .now) (start .args .loads .now))) (c-loop .loop .left - 1)) (fixed (comma (c-loop .loop .left - 1)))) (itemL (inp (start .args .script .now) (start .args .offs .now) (start .args .words .now) (start .args .heads .now) (start .args .loads .now))) (c-loop .loop .inv) (cut-list (itemL (inp (start .args .script .now) (start .args .offs .now) (start .args .words .now) (start .args .heads .now) (start .args .loads .now))) (c-loop .loop .left) _ (some-left (c-loop-test .loop-test .taken))) (start .pre) (item-low (inp (start .args .script .now) (start .args .offs .now) (start .args .words .now) (start .args .heads .now) (start .args .loads .now))) (c-item .item .ensures) (c-item .item .kept .1 .1 .1 .1 .1 .0) (c-next .next .given .1) in
-    put (listL (itemL (inp (start .args .script .now) (start .args .offs .now) (start .args .words .now) (start .args .heads .now) (start .args .loads .now))) (c-loop .loop .left - 1)) (fixed (comma (c-loop .loop .left - 1))) p (cut-seq (listL (itemL (inp (start .args .script .now) (start .args .offs .now) (start .args .words .now) (start .args .heads .now) (start .args .loads .now))) (c-loop .loop .left - 1)) (fixed (comma (c-loop .loop .left - 1))) _) (start .pre) (fixed-low (comma (c-loop .loop .left - 1))) (c-separator .separator .ensures) (c-separator .separator .kept .0) (c-comma .comma .given .1)
+    put (listL (itemL (inp (start .args .script .now) (start .args .offs .now) (start .args .words .now) (start .args .heads .now) (start .args .loads .now))) (c-loop .loop .left - 1)) (fixed (comma (c-loop .loop .left - 1))) p (cut-seq (listL (itemL (inp (start .args .script .now) (start .args .offs .now) (start .args .words .now) (start .args .heads .now) (start .args .loads .now))) (c-loop .loop .left - 1)) (fixed (comma (c-loop .loop .left - 1))) _) (start .pre) (fixed-low (comma (c-loop .loop .left - 1))) (c-separator .separator .ensures) (c-separator .separator .kept .0) (c-between .between .given .1)
 
 -- src/plain.rt:122:1
 same-length-3 : tie.Need-same-length-3 Inv-loop μ-loop
@@ -149,7 +149,7 @@ items-spec =
     returns
     sub-left
     separator-requires
-    enum-known-comma
+    enum-known-between
     enum-told-2
     same-length-2
     returns-2
