@@ -8,9 +8,9 @@ use lib.Dec.{eqb}
 use borrow.Author.Tests.{ne-eqb}
 use Rattle.sifc_lex.specs.Base.{if_then_else_}
 use Rattle.sifc_def.specs.State.{W}
-use Rattle.sifc_def.specs.Ast.{ReturnStmt, ExprStmt}
+use Rattle.sifc_def.specs.Ast.{ReturnStmt, ExprStmt, VarDecl}
 use Rattle.sifc_def.specs.Typed.{Expr, prim, un, bin, call, dot, idx, set, mut, Exprs, nil, more, many, Items, noItem, item, manyItems, lb, rb, eq, semi, arrow, dlb, drb, varWord, returnWord, pr, prs, prItems, prNames, betweenItems, betweenNames, comma}
-use Rattle.sifc_put.specs.Place.{Inp, Carries, Along}
+use Rattle.sifc_put.specs.Place.{Inp, Node, Carries, Along}
 use Rattle.sifc_put.specs.Post.{Lang, fixed, seq, commas}
 use Rattle.sifc_put.specs.Bytes.{worded, spaced, spaced-append, Puts, puts-E, puts-Es, puts-I, bytesOf, spaced-puts}
 use Rattle.sifc_put.specs.Spans.{Single, Spans, SpansItems, SpansArray, SpansTable}
@@ -94,12 +94,22 @@ unfoldable pub lead : ℕ → List ℕ
 lead k = if eqb k ReturnStmt then worded returnWord else []
 
 module _ (I : Inp) where
-  -- the kind of the node before hi, and its children
+  -- the kind of the node before hi
   abbrev pub kindAt : ℕ → ℕ
   kindAt hi = getD (I .heads) (hi - 1) 0 % 32
 
+  -- its children
   abbrev pub kidsAt : ℕ → ℕ
   kidsAt hi = getD (I .heads) (hi - 1) 0 / 64
+
+  -- the node before hi can be read
+  pub record Root (hi : ℕ) : Type 0 where
+    pub some : 0 < hi
+    pub inHeads : hi - 1 < length (I .heads)
+
+  -- A node that stands there can.
+  pub root-of : {hi kind kids : ℕ} → Node (I .heads) (I .loads) hi kind kids → Root hi
+  root-of n = record { some = n .some; inHeads = n .inHeads }
 
   -- A single token is a node that is a name.
   pub name-of : {x : W} {lo hi : ℕ} → Single I x lo hi → (lo ≡ hi - 1) × Carries (I .script) (I .offs) (I .words) (I .loads) hi x
@@ -111,6 +121,7 @@ module _ (I : Inp) where
   names-along [] lo hi s = s
   names-along (x ∷ xs) lo hi s = record { mid = s .mid; front = name-of (s .front); last = names-along xs (s .mid) hi (s .last) }
 
+  -- Items stand in a row.
   pub items-along : (is : Items) (lo hi : ℕ) → SpansItems I is lo hi → Along (itemL I .S) (itemList is) lo hi
   unfolding SpansItems Along itemList
   items-along noItem lo hi s = s
@@ -118,28 +129,34 @@ module _ (I : Inp) where
 
   -- ── nothing ends before it begins ──
 
+  -- an item
   pub item-low : Low (itemL I)
   item-low x lo hi s = omega (arith, expr-low I (x .1) lo (hi - 1) (s .below))
 
+  -- items in a row
   items-low : (is : Items) (lo hi : ℕ) → SpansItems I is lo hi → lo ≤ hi
   unfolding SpansItems
   items-low noItem lo hi s = omega (arith, s)
   items-low (item x e is) lo hi s = omega (arith, item-low (x, e) lo (s .mid) (s .front), items-low is (s .mid) hi (s .last))
 
+  -- an array
   pub array-low : (es : Exprs) (lo hi : ℕ) → SpansArray I es lo hi → lo ≤ hi
   unfolding SpansArray
   array-low nil lo hi s = omega (arith, s .below)
   array-low (more e es) lo hi s = omega (arith, lower-all I (more e es) lo (hi - 1 - 1) (s .below .below))
 
+  -- a table
   pub table-low : (is : Items) (lo hi : ℕ) → SpansTable I is lo hi → lo ≤ hi
   table-low is lo hi s = omega (arith, items-low is lo (hi - 1 - 1) (s .below .below))
 
+  -- what a variable is set to
   pub value-low : Low (valueL I)
   unfolding SpansValue
   value-low (expression e) lo hi s = expr-low I e lo hi s
   value-low (anArray es) lo hi s = array-low es lo hi s
   value-low (aTable is) lo hi s = table-low is lo hi s
 
+  -- the two names of a loop
   pub pair-low : Low (pairL I)
   pair-low x lo hi s = omega (arith, s .below .front .below, s .below .last .below)
 
@@ -198,17 +215,17 @@ module _ (I : Inp) where
         text = ap (λ (b : List ℕ). worded lb ++ b) (spaced-puts (puts-Es (more e es)) (rb ∷ []) ∙ ap (λ (b : List ℕ). b ++ worded rb) (listed-bytes (more e es)));
       }
 
-  -- The list node below a table or an array with items can be read.
-  pub array-list : (es : Exprs) (lo hi : ℕ) → SpansArray I es lo hi → (kidsAt hi ≡ 0 → ⊥) → (0 < hi - 1) × (hi - 1 - 1 < length (I .heads))
+  -- The list node below an array with items can be read.
+  pub array-list : (es : Exprs) (lo hi : ℕ) → SpansArray I es lo hi → (kidsAt hi ≡ 0 → ⊥) → Root (hi - 1)
   unfolding SpansArray
   array-list nil lo hi s z = absurd (z (s .top .counted))
-  array-list (more e es) lo hi s z = (s .below .top .some, s .below .top .inHeads)
+  array-list (more e es) lo hi s z = root-of (s .below .top)
 
-  -- an array's own node can be read
-  pub array-root : (es : Exprs) (lo hi : ℕ) → SpansArray I es lo hi → (0 < hi) × (hi - 1 < length (I .heads))
+  -- An array's own node can be read.
+  pub array-root : (es : Exprs) (lo hi : ℕ) → SpansArray I es lo hi → Root hi
   unfolding SpansArray
-  array-root nil lo hi s = (s .top .some, s .top .inHeads)
-  array-root (more e es) lo hi s = (s .top .some, s .top .inHeads)
+  array-root nil lo hi s = root-of (s .top)
+  array-root (more e es) lo hi s = root-of (s .top)
 
   -- ── what a variable is set to ──
 
@@ -224,29 +241,34 @@ module _ (I : Inp) where
   expr-kind (set x g e) lo hi s k = omega (arith, s .top .kinded)
   expr-kind (mut x i e) lo hi s k = omega (arith, s .top .kinded)
 
+  -- An array's node says so.
   array-kind : (es : Exprs) (lo hi : ℕ) → SpansArray I es lo hi → kindAt hi ≡ 16
   unfolding SpansArray
   array-kind nil lo hi s = s .top .kinded
   array-kind (more e es) lo hi s = s .top .kinded
 
-  pub value-root : (v : Value) (lo hi : ℕ) → SpansValue I v lo hi → (0 < hi) × (hi - 1 < length (I .heads))
+  -- The last node of a value can be read.
+  pub value-root : (v : Value) (lo hi : ℕ) → SpansValue I v lo hi → Root hi
   unfolding SpansValue
-  value-root (expression e) lo hi s = (readable I e lo hi s .some, readable I e lo hi s .inHeads)
+  value-root (expression e) lo hi s = record { some = readable I e lo hi s .some; inHeads = readable I e lo hi s .inHeads }
   value-root (anArray es) lo hi s = array-root es lo hi s
-  value-root (aTable is) lo hi s = (s .top .some, s .top .inHeads)
+  value-root (aTable is) lo hi s = root-of (s .top)
 
+  -- a value that is an array
   pub is-array-value : (hi : ℕ) → kindAt hi ≡ 16 → Narrow (valueL I) (arrayL I) hi hi
   unfolding SpansValue prValue
   is-array-value hi k (expression e) lo s = absurd (omega (arith, expr-kind e lo hi s (omega (arith, k)), k))
   is-array-value hi k (anArray es) lo s = record { tree = es; spans = s; text = refl }
   is-array-value hi k (aTable is) lo s = absurd (omega (arith, s .top .kinded, k))
 
+  -- one that is a table
   pub is-table-value : (hi : ℕ) → kindAt hi ≡ 14 → Narrow (valueL I) (tableL I) hi hi
   unfolding SpansValue prValue
   is-table-value hi k (expression e) lo s = absurd (omega (arith, expr-kind e lo hi s (omega (arith, k)), k))
   is-table-value hi k (anArray es) lo s = absurd (omega (arith, array-kind es lo hi s, k))
   is-table-value hi k (aTable is) lo s = record { tree = is; spans = s; text = refl }
 
+  -- one that is neither
   pub is-expr-value : (hi : ℕ) → (kindAt hi ≡ 16 → ⊥) → (kindAt hi ≡ 14 → ⊥) → Narrow (valueL I) (exprL I) hi hi
   unfolding SpansValue prValue
   is-expr-value hi k j (expression e) lo s = record { tree = e; spans = s; text = refl }
@@ -260,6 +282,7 @@ module _ (I : Inp) where
   VarBefore hi (unset x) lo h = (lo ≡ h) × (kidsAt hi ≡ 0) × Carries (I .script) (I .offs) (I .words) (I .loads) hi x
   VarBefore hi (setTo x v) lo h = SpansValue I v lo h × (kidsAt hi ≡ 1) × Carries (I .script) (I .offs) (I .words) (I .loads) hi x
 
+  -- a declaration without its `;`
   abbrev pub beforeL : ℕ → Lang
   beforeL hi = record { T = Var; S = λ v lo h. VarBefore hi v lo h; P = λ v. varBytes v }
 
@@ -270,6 +293,7 @@ module _ (I : Inp) where
   value-semi (anArray es) = ap (λ (b : List ℕ). worded lb ++ b) (spaced-after (puts-Es es) (rb ∷ []) (semi ∷ []))
   value-semi (aTable is) = ap (λ (b : List ℕ). worded dlb ++ b) (spaced-after (puts-I is) (drb ∷ []) (semi ∷ []))
 
+  -- A declaration ends in its `;`.
   pub is-ended : (hi : ℕ) → Narrow (varL I) (seq (beforeL hi) (wordL semi)) hi (hi - 1)
   unfolding SpansVar VarBefore varBytes prVar spaced
   is-ended hi (unset x) lo s =
@@ -304,22 +328,37 @@ module _ (I : Inp) where
         text = ap (λ (b : List ℕ). worded varWord ++ b) (sym (append-assoc (worded x) (worded eq) (bytesOf (prValue v))));
       }
 
-  -- a declaration's node can be read
-  pub var-root : (v : Var) (lo hi : ℕ) → SpansVar I v lo hi → (0 < hi) × (hi - 1 < length (I .heads)) × (kindAt hi ≡ 8)
+  -- The node of a declaration can be read,
+  pub var-root : (v : Var) (lo hi : ℕ) → SpansVar I v lo hi → Root hi
   unfolding SpansVar
-  var-root (unset x) lo hi s = (s .top .some, s .top .inHeads, s .top .kinded)
-  var-root (setTo x v) lo hi s = (s .top .some, s .top .inHeads, s .top .kinded)
+  var-root (unset x) lo hi s = root-of (s .top)
+  var-root (setTo x v) lo hi s = root-of (s .top)
+
+  -- and says what it is.
+  var-kind : (v : Var) (lo hi : ℕ) → SpansVar I v lo hi → kindAt hi ≡ VarDecl
+  unfolding SpansVar
+  var-kind (unset x) lo hi s = s .top .kinded
+  var-kind (setTo x v) lo hi s = s .top .kinded
 
   -- ── statements ──
 
-  -- the root of a statement without a block can be read
-  pub plain-root : (p : Plain) (lo hi : ℕ) → SpansPlain I p lo hi → (0 < hi) × (hi - 1 < length (I .heads))
+  -- The last node of a statement without a block can be read,
+  pub plain-root : (p : Plain) (lo hi : ℕ) → SpansPlain I p lo hi → Root hi
   unfolding SpansPlain
-  plain-root (variable v) lo hi s = (var-root v lo hi s .0, var-root v lo hi s .1)
-  plain-root returned lo hi s = (s .top .some, s .top .inHeads)
-  plain-root (returnOf e) lo hi s = (s .top .some, s .top .inHeads)
-  plain-root (evaluated e) lo hi s = (s .top .some, s .top .inHeads)
+  plain-root (variable v) lo hi s = var-root v lo hi s
+  plain-root returned lo hi s = root-of (s .top)
+  plain-root (returnOf e) lo hi s = root-of (s .top)
+  plain-root (evaluated e) lo hi s = root-of (s .top)
 
+  -- and is of one of three kinds.
+  pub plain-kind : (p : Plain) (lo hi : ℕ) → SpansPlain I p lo hi → (6 ≤ kindAt hi) × (kindAt hi ≤ 8)
+  unfolding SpansPlain
+  plain-kind (variable v) lo hi s = omega (arith, var-kind v lo hi s)
+  plain-kind returned lo hi s = omega (arith, s .top .kinded)
+  plain-kind (returnOf e) lo hi s = omega (arith, s .top .kinded)
+  plain-kind (evaluated e) lo hi s = omega (arith, s .top .kinded)
+
+  -- one that declares a variable
   pub is-var : (hi : ℕ) → kindAt hi ≡ 8 → Narrow (plainL I) (varL I) hi hi
   unfolding SpansPlain prPlain
   is-var hi k (variable v) lo s = record { tree = v; spans = s; text = refl }
@@ -333,12 +372,14 @@ module _ (I : Inp) where
   BodyAt hi (result e) lo h = Spans I e lo h × (kidsAt hi ≡ 1) × (kindAt hi ≡ ReturnStmt)
   BodyAt hi (alone e) lo h = Spans I e lo h × (kidsAt hi ≡ 1) × (kindAt hi ≡ ExprStmt)
 
+  -- such a statement without its `;`
   abbrev pub bodyL : ℕ → Lang
   bodyL hi = record { T = Body; S = λ b lo h. BodyAt hi b lo h; P = λ b. bodyBytes b }
 
+  -- It ends in its `;`.
   pub is-body : (hi : ℕ) → (kindAt hi ≡ 8 → ⊥) → Narrow (plainL I) (seq (bodyL hi) (wordL semi)) hi (hi - 1)
   unfolding SpansPlain prPlain BodyAt bodyBytes spaced
-  is-body hi k (variable v) lo s = absurd (k (var-root v lo hi s .2))
+  is-body hi k (variable v) lo s = absurd (k (var-kind v lo hi s))
   is-body hi k returned lo s = record { tree = (nothing, tt); spans = record { mid = hi - 1; front = (s .below, s .top .counted); last = refl }; text = refl }
   is-body hi k (returnOf e) lo s =
       record {
@@ -360,6 +401,7 @@ module _ (I : Inp) where
   is-nothing hi h k (result e) lo s = absurd (omega (arith, s .1, k))
   is-nothing hi h k (alone e) lo s = absurd (omega (arith, s .1, k))
 
+  -- an expression, and what stands before it
   pub is-led : (hi h : ℕ) → (kidsAt hi ≡ 0 → ⊥) → Narrow (bodyL hi) (seq (fixed (lead (kindAt hi))) (exprL I)) h h
   unfolding BodyAt bodyBytes lead if_then_else_
   is-led hi h k nothing lo s = absurd (k (s .1))

@@ -1,5 +1,5 @@
 -- How statements with blocks and programs are made of their pieces, from the last to the first.
-use Prim.Native.Nat.{ℕ, suc, _+_, _-_, _≤_, _<_}
+use Prim.Native.Nat.{ℕ, suc, _+_, _-_, _≤_}
 use native.Mathlib.Omega.{arith}
 use mathlib.Core.Path.{_≡_, refl, sym, ap, _∙_}
 use mathlib.Core.List.{List, [], _∷_, _++_, append-assoc}
@@ -20,10 +20,11 @@ use Rattle.sifc_text_expr.proofs.Roots.{expr-low}
 use Rattle.sifc_text_expr.proofs.Forms.{ownL, targetL}
 use Rattle.sifc_text_plain.specs.Kinds.{namesL, pairL, expression, anArray, aTable, prValue, SpansValue, unset, setTo, prVar, SpansVar, Plain, variable, returned, returnOf, evaluated, prPlain, SpansPlain, plainL}
 use Rattle.sifc_text_stmt.specs.Kinds.{stmtL, stmtsL, prBlock, blockL, guardedL, Branch, elif, els, prBranch, SpansBranch, branchL, branchesL, lineL, programL}
-use Rattle.sifc_text_plain.proofs.Forms.{wordL, names-bytes, kindAt, kidsAt, names-along, array-low, table-low, pair-low}
+use Rattle.sifc_text_plain.proofs.Forms.{wordL, names-bytes, kindAt, kidsAt, Root, root-of, names-along, array-low, table-low, pair-low, plain-root, plain-kind}
 
 -- ── statements and branches as lists ──
 
+-- statements as a list
 unfoldable pub stmtList : Stmts → List Stmt
 stmtList stop = []
 stmtList (next t ts) = t ∷ stmtList ts
@@ -40,6 +41,7 @@ unfolding stmtList prSs cat spaced
 stmts-bytes stop = refl
 stmts-bytes (next t ts) = spaced-puts (puts-S t) (prSs ts []) ∙ ap (λ (b : List ℕ). bytesOf (prS t) ++ b) (stmts-bytes ts)
 
+-- branches as a list
 unfoldable pub branchList : Branches → List Branch
 branchList noBranch = []
 branchList (elifOf e ss bs) = elif e ss ∷ branchList bs
@@ -100,11 +102,13 @@ prShape (looped x y e ss) = prS (loop x y e ss)
 prShape (named x ns ss) = prS (func x ns ss)
 
 module _ (I : Inp) where
+  -- Statements stand in a row,
   pub stmts-along : (ts : Stmts) (lo hi : ℕ) → SpansSs I ts lo hi → Along (stmtL I .S) (stmtList ts) lo hi
   unfolding SpansSs Along stmtList
   stmts-along stop lo hi s = s
   stmts-along (next t ts) lo hi s = record { mid = s .mid; front = s .front; last = stmts-along ts (s .mid) hi (s .last) }
 
+  -- and so do branches.
   pub branches-along : (bs : Branches) (lo hi : ℕ) → SpansBs I bs lo hi → Along (branchL I .S) (branchList bs) lo hi
   unfolding SpansBs SpansBranch Along branchList
   branches-along noBranch lo hi s = s
@@ -113,9 +117,11 @@ module _ (I : Inp) where
 
   -- ── nothing ends before it begins ──
 
+  -- names in a row
   names-low : (ns : List W) (lo hi : ℕ) → Along (targetL I .S) ns lo hi → lo ≤ hi
   names-low = along-low (targetL I) (λ x lo hi s. omega (arith, s .0))
 
+  -- a statement, statements in a row, and branches
   mutual
     unfolding SpansS SpansSs SpansBs
 
@@ -145,12 +151,15 @@ module _ (I : Inp) where
         omega (arith, expr-low I e lo (s .front .below .mid) (s .front .below .front), stmts-low ss (s .front .below .mid) (s .mid - 1 - 1) (s .front .below .last .below), branches-low bs (s .mid) hi (s .last))
     branches-low (elseOf ss bs) lo hi s = omega (arith, stmts-low ss lo (s .mid - 1) (s .front .below), branches-low bs (s .mid) hi (s .last))
 
+  -- a block
   pub block-low : Low (blockL I)
   block-low ss lo hi s = omega (arith, stmts-low ss lo (hi - 1) (s .below))
 
+  -- an expression and then a block
   pub guarded-low : Low (guardedL I)
   guarded-low x lo hi s = omega (arith, expr-low I (x .0) lo (s .mid) (s .front), block-low (x .1) (s .mid) hi (s .last))
 
+  -- a branch
   pub branch-low : Low (branchL I)
   unfolding SpansBranch
   branch-low (elif e ss) lo hi s = omega (arith, guarded-low (e, ss) lo (hi - 1) (s .below))
@@ -166,9 +175,11 @@ module _ (I : Inp) where
   SpansShape (looped x y e ss) lo hi = SpansS I (loop x y e ss) lo hi
   SpansShape (named x ns ss) lo hi = SpansS I (func x ns ss) lo hi
 
+  -- statements of a shape
   abbrev pub shapeL : Lang
   shapeL = record { T = Shape; S = λ x lo hi. SpansShape x lo hi; P = λ x. bytesOf (prShape x) }
 
+  -- Each statement has one.
   shaped : (hi : ℕ) → Narrow (stmtL I) shapeL hi hi
   unfolding SpansS SpansShape SpansPlain SpansVar SpansValue prS prShape prPlain prVar prValue
   shaped hi (varNone x) lo s = record { tree = flat (variable (unset x)); spans = s; text = refl }
@@ -190,48 +201,33 @@ module _ (I : Inp) where
       let b = f (a .tree) lo (a .spans) in
       record { tree = b .tree; spans = b .spans; text = a .text ∙ b .text }
 
-  -- a root that can be read
-  pub record Root (hi : ℕ) : Type 0 where
-    pub some : 0 < hi
-    pub inHeads : hi - 1 < length (I .heads)
+  -- The last node of a statement can be read,
+  pub stmt-root : (t : Stmt) (lo hi : ℕ) → SpansS I t lo hi → Root I hi
+  unfolding SpansShape SpansS
+  stmt-root t lo hi s = go (shaped hi t lo s .tree) (shaped hi t lo s .spans)
+    where
+      go : (x : Shape) → SpansShape x lo hi → Root I hi
+      go (flat p) z = plain-root I p lo hi z
+      go (braced ss) z = root-of I (z .top)
+      go (branched e ss bs) z = root-of I (z .top)
+      go (looped x y e ss) z = root-of I (z .top)
+      go (named x ns ss) z = root-of I (z .top)
 
-  -- the kinds of statements without a block
-  plain-kind : (p : Plain) (lo hi : ℕ) → SpansPlain I p lo hi → (6 ≤ kindAt I hi) × (kindAt I hi ≤ 8)
-  unfolding SpansPlain SpansVar
-  plain-kind (variable (unset x)) lo hi s = omega (arith, s .top .kinded)
-  plain-kind (variable (setTo x v)) lo hi s = omega (arith, s .top .kinded)
-  plain-kind returned lo hi s = omega (arith, s .top .kinded)
-  plain-kind (returnOf e) lo hi s = omega (arith, s .top .kinded)
-  plain-kind (evaluated e) lo hi s = omega (arith, s .top .kinded)
-
-  pub stmt-root : (t : Stmt) (lo hi : ℕ) → SpansS I t lo hi → Root hi
-  unfolding SpansS
-  stmt-root (varNone x) lo hi s = record { some = s .top .some; inHeads = s .top .inHeads }
-  stmt-root (varExpr x e) lo hi s = record { some = s .top .some; inHeads = s .top .inHeads }
-  stmt-root (varArray x es) lo hi s = record { some = s .top .some; inHeads = s .top .inHeads }
-  stmt-root (varTable x is) lo hi s = record { some = s .top .some; inHeads = s .top .inHeads }
-  stmt-root (func x ns ss) lo hi s = record { some = s .top .some; inHeads = s .top .inHeads }
-  stmt-root (block ss) lo hi s = record { some = s .top .some; inHeads = s .top .inHeads }
-  stmt-root (cond e ss bs) lo hi s = record { some = s .top .some; inHeads = s .top .inHeads }
-  stmt-root (loop x y e ss) lo hi s = record { some = s .top .some; inHeads = s .top .inHeads }
-  stmt-root ret lo hi s = record { some = s .top .some; inHeads = s .top .inHeads }
-  stmt-root (retExpr e) lo hi s = record { some = s .top .some; inHeads = s .top .inHeads }
-  stmt-root (exprStmt e) lo hi s = record { some = s .top .some; inHeads = s .top .inHeads }
-
-  -- The root of a branch can be read.
-  pub branch-root : (x : Branch) (lo hi : ℕ) → SpansBranch I x lo hi → Root hi
+  -- and that of a branch.
+  pub branch-root : (x : Branch) (lo hi : ℕ) → SpansBranch I x lo hi → Root I hi
   unfolding SpansBranch
-  branch-root (elif e ss) lo hi s = record { some = s .top .some; inHeads = s .top .inHeads }
-  branch-root (els ss) lo hi s = record { some = s .top .some; inHeads = s .top .inHeads }
+  branch-root (elif e ss) lo hi s = root-of I (s .top)
+  branch-root (els ss) lo hi s = root-of I (s .top)
 
   -- ── blocks ──
 
+  -- a statement that is a block
   pub is-block : (hi : ℕ) → kindAt I hi ≡ 2 → Narrow (stmtL I) (blockL I) hi hi
   unfolding SpansShape prShape SpansS prS
   is-block hi k = by-shape hi hi go
     where
       go : Narrow shapeL (blockL I) hi hi
-      go (flat p) lo s = absurd (omega (arith, plain-kind p lo hi s .0, k))
+      go (flat p) lo s = absurd (omega (arith, plain-kind I p lo hi s .0, k))
       go (braced ss) lo s = record { tree = ss; spans = s; text = refl }
       go (branched e ss bs) lo s = absurd (omega (arith, s .top .kinded, k))
       go (looped x y e ss) lo s = absurd (omega (arith, s .top .kinded, k))
@@ -261,6 +257,7 @@ module _ (I : Inp) where
 
   -- ── branches ──
 
+  -- a branch with a condition
   pub is-elif : (hi : ℕ) → kindAt I hi ≡ 4 → Narrow (branchL I) (seq (wordL elifWord) (guardedL I)) hi (hi - 1)
   unfolding SpansBranch prBranch spaced
   is-elif hi k (elif e ss) lo s =
@@ -271,6 +268,7 @@ module _ (I : Inp) where
       }
   is-elif hi k (els ss) lo s = absurd (omega (arith, s .top .kinded, k))
 
+  -- one without
   pub is-else : (hi : ℕ) → (kindAt I hi ≡ 4 → ⊥) → Narrow (branchL I) (seq (wordL elseWord) (blockL I)) hi hi
   unfolding SpansBranch prBranch spaced
   is-else hi k (elif e ss) lo s = absurd (k (s .top .kinded))
@@ -282,7 +280,7 @@ module _ (I : Inp) where
   is-if hi n k j = by-shape hi (hi - 1) go
     where
       go : Narrow shapeL (seq (seq (wordL ifWord) (guardedL I)) (branchesL I n)) hi (hi - 1)
-      go (flat p) lo s = absurd (omega (arith, plain-kind p lo hi s .0, k))
+      go (flat p) lo s = absurd (omega (arith, plain-kind I p lo hi s .0, k))
       go (braced ss) lo s = absurd (omega (arith, s .top .kinded, k))
       go (branched e ss bs) lo s =
           record {
@@ -303,7 +301,7 @@ module _ (I : Inp) where
   two-kids t lo hi s k = go (shaped hi t lo s .tree) (shaped hi t lo s .spans)
     where
       go : (x : Shape) → SpansShape x lo hi → 2 ≤ kidsAt I hi
-      go (flat p) z = absurd (omega (arith, plain-kind p lo hi z .0, k))
+      go (flat p) z = absurd (omega (arith, plain-kind I p lo hi z .0, k))
       go (braced ss) z = absurd (omega (arith, z .top .kinded, k))
       go (branched e ss bs) z = omega (arith, z .top .counted)
       go (looped x y e ss) z = absurd (omega (arith, z .top .kinded, k))
@@ -311,12 +309,13 @@ module _ (I : Inp) where
 
   -- ── loops ──
 
+  -- a loop: its names, what it goes over and its block
   pub is-for : (hi : ℕ) → kindAt I hi ≡ 5 → Narrow (stmtL I) (seq (seq (seq (wordL forWord) (pairL I)) (wordL inWord)) (guardedL I)) hi (hi - 1)
   unfolding SpansShape prShape SpansS prS spaced
   is-for hi k = by-shape hi (hi - 1) go
     where
       go : Narrow shapeL (seq (seq (seq (wordL forWord) (pairL I)) (wordL inWord)) (guardedL I)) hi (hi - 1)
-      go (flat p) lo s = absurd (omega (arith, plain-kind p lo hi s .0, k))
+      go (flat p) lo s = absurd (omega (arith, plain-kind I p lo hi s .0, k))
       go (braced ss) lo s = absurd (omega (arith, s .top .kinded, k))
       go (branched e ss bs) lo s = absurd (omega (arith, s .top .kinded, k))
       go (looped x y e ss) lo s =
@@ -345,12 +344,13 @@ module _ (I : Inp) where
         P = λ x. worded fnWord ++ (worded (x .0) ++ (worded lp ++ bytesOf (prNames (x .1))));
       }
 
+  -- a function: its name and parameters, and its block
   pub is-fn : (hi : ℕ) → kindAt I hi ≡ 9 → Narrow (stmtL I) (seq (seq (paramsL hi) (wordL rp)) (blockL I)) hi (hi - 1)
   unfolding SpansShape prShape SpansS prS spaced
   is-fn hi k = by-shape hi (hi - 1) go
     where
       go : Narrow shapeL (seq (seq (paramsL hi) (wordL rp)) (blockL I)) hi (hi - 1)
-      go (flat p) lo s = absurd (omega (arith, plain-kind p lo hi s .1, k))
+      go (flat p) lo s = absurd (omega (arith, plain-kind I p lo hi s .1, k))
       go (braced ss) lo s = absurd (omega (arith, s .top .kinded, k))
       go (branched e ss bs) lo s = absurd (omega (arith, s .top .kinded, k))
       go (looped x y e ss) lo s = absurd (omega (arith, s .top .kinded, k))

@@ -35,6 +35,7 @@ ended w (x ∷ xs) =
       lined = ap (λ (b : List ℕ). w .text ++ 32 ∷ b) (r .lined) ∙ simp append-assoc;
     }
 
+-- So it is for some words,
 ended-some : (ws : List W) → 0 < length ws → Ended ws
 ended-some [] h = absurd (omega (arith, h))
 ended-some (w ∷ ws) h = ended w ws
@@ -54,6 +55,7 @@ some-word ret = omega arith
 some-word (retExpr e) = omega arith
 some-word (exprStmt e) = omega (arith, simp length-append at (ap length (puts-E e .before (semi ∷ []))))
 
+-- and for those of a declaration.
 ended-stmt : (t : Stmt) → Ended (prS t [])
 ended-stmt t = ended-some (prS t []) (some-word t)
 

@@ -22,19 +22,19 @@ use Rattle.sifc_text_expr.proofs.exprs.Reads as exprs-reads
 sub-list : tie.Need-sub-list
 sub-list c =
     let start = c .before .before .before .before .before .before in
-    omega (arith, array-root (inp (start .args .script .now) (start .args .offs .now) (start .args .words .now) (start .args .heads .now) (start .args .loads .now)) (start .pre .tree) (start .pre .lo) (start .args .hi) (start .pre .spans) .0)
+    omega (arith, array-root (inp (start .args .script .now) (start .args .offs .now) (start .args .words .now) (start .args .heads .now) (start .args .loads .now)) (start .pre .tree) (start .pre .lo) (start .args .hi) (start .pre .spans) .some)
 
 -- src/plain.rt:198:8
 mul-if1 : tie.Need-mul-if1
 mul-if1 c =
     let start = c .before .before .before .before .before .before in
-    omega (arith, array-root (inp (start .args .script .now) (start .args .offs .now) (start .args .words .now) (start .args .heads .now) (start .args .loads .now)) (start .pre .tree) (start .pre .lo) (start .args .hi) (start .pre .spans) .1, start .good .1 .1 .1 .0 .1)
+    omega (arith, array-root (inp (start .args .script .now) (start .args .offs .now) (start .args .words .now) (start .args .heads .now) (start .args .loads .now)) (start .pre .tree) (start .pre .lo) (start .args .hi) (start .pre .spans) .inHeads, start .good .1 .1 .1 .0 .1)
 
 -- src/plain.rt:198:8
 shared-slice-read-if1 : tie.Need-shared-slice-read-if1
 shared-slice-read-if1 c =
     let start = c .before .before .before .before .before .before .before in
-    array-root (inp (start .args .script .now) (start .args .offs .now) (start .args .words .now) (start .args .heads .now) (start .args .loads .now)) (start .pre .tree) (start .pre .lo) (start .args .hi) (start .pre .spans) .1
+    array-root (inp (start .args .script .now) (start .args .offs .now) (start .args .words .now) (start .args .heads .now) (start .args .loads .now)) (start .pre .tree) (start .pre .lo) (start .args .hi) (start .pre .spans) .inHeads
 
 -- src/plain.rt:199:13
 put-sign-requires : tie.Need-put-sign-requires
@@ -92,20 +92,20 @@ returns-2 c =
 sub-m : tie.Need-sub-m
 sub-m c =
     let start = c .before .before .before .before .before .before .before .before in
-    omega (arith, array-list (inp (start .args .script .now) (start .args .offs .now) (start .args .words .now) (start .args .heads .now) (start .args .loads .now)) (start .pre .tree) (start .pre .lo) (start .args .hi) (start .pre .spans) (c .if1 .left) .0)
+    omega (arith, array-list (inp (start .args .script .now) (start .args .offs .now) (start .args .words .now) (start .args .heads .now) (start .args .loads .now)) (start .pre .tree) (start .pre .lo) (start .args .hi) (start .pre .spans) (c .if1 .left) .some)
 
 -- src/plain.rt:206:22
 mul-wide : tie.Need-mul-wide
 mul-wide c =
     let start = c .before .before .before .before .before .before .before .before in
-    omega (arith, array-list (inp (start .args .script .now) (start .args .offs .now) (start .args .words .now) (start .args .heads .now) (start .args .loads .now)) (start .pre .tree) (start .pre .lo) (start .args .hi) (start .pre .spans) (c .if1 .left) .1, start .good .1 .1 .1 .0 .1)
+    omega (arith, array-list (inp (start .args .script .now) (start .args .offs .now) (start .args .words .now) (start .args .heads .now) (start .args .loads .now)) (start .pre .tree) (start .pre .lo) (start .args .hi) (start .pre .spans) (c .if1 .left) .inHeads, start .good .1 .1 .1 .0 .1)
 
 -- src/plain.rt:206:22
 shared-slice-read-wide : tie.Need-shared-slice-read-wide
 shared-slice-read-wide c =
     let c-if1 = c .before in
     let start = c-if1 .before .before .before .before .before .before .before .before in
-    array-list (inp (start .args .script .now) (start .args .offs .now) (start .args .words .now) (start .args .heads .now) (start .args .loads .now)) (start .pre .tree) (start .pre .lo) (start .args .hi) (start .pre .spans) (c-if1 .if1 .left) .1
+    array-list (inp (start .args .script .now) (start .args .offs .now) (start .args .words .now) (start .args .heads .now) (start .args .loads .now)) (start .pre .tree) (start .pre .lo) (start .args .hi) (start .pre .spans) (c-if1 .if1 .left) .inHeads
 
 -- src/plain.rt:206:9
 wide-requires : tie.Need-wide-requires

@@ -24,19 +24,19 @@ use Rattle.sifc_text_plain.proofs.plain.var_decl.Reads as var-decl-read
 sub-m : tie.Need-sub-m
 sub-m c =
     let start = c .before .before .before .before .before .before in
-    omega (arith, plain-root (inp (start .args .script .now) (start .args .offs .now) (start .args .words .now) (start .args .heads .now) (start .args .loads .now)) (start .pre .tree) (start .pre .lo) (start .args .hi) (start .pre .spans) .0)
+    omega (arith, plain-root (inp (start .args .script .now) (start .args .offs .now) (start .args .words .now) (start .args .heads .now) (start .args .loads .now)) (start .pre .tree) (start .pre .lo) (start .args .hi) (start .pre .spans) .some)
 
 -- src/plain.rt:298:16
 mul-kind : tie.Need-mul-kind
 mul-kind c =
     let start = c .before .before .before .before .before .before in
-    omega (arith, plain-root (inp (start .args .script .now) (start .args .offs .now) (start .args .words .now) (start .args .heads .now) (start .args .loads .now)) (start .pre .tree) (start .pre .lo) (start .args .hi) (start .pre .spans) .1, start .good .1 .1 .1 .0 .1)
+    omega (arith, plain-root (inp (start .args .script .now) (start .args .offs .now) (start .args .words .now) (start .args .heads .now) (start .args .loads .now)) (start .pre .tree) (start .pre .lo) (start .args .hi) (start .pre .spans) .inHeads, start .good .1 .1 .1 .0 .1)
 
 -- src/plain.rt:298:16
 shared-slice-read-kind : tie.Need-shared-slice-read-kind
 shared-slice-read-kind c =
     let start = c .before .before .before .before .before .before .before in
-    plain-root (inp (start .args .script .now) (start .args .offs .now) (start .args .words .now) (start .args .heads .now) (start .args .loads .now)) (start .pre .tree) (start .pre .lo) (start .args .hi) (start .pre .spans) .1
+    plain-root (inp (start .args .script .now) (start .args .offs .now) (start .args .words .now) (start .args .heads .now) (start .args .loads .now)) (start .pre .tree) (start .pre .lo) (start .args .hi) (start .pre .spans) .inHeads
 
 -- src/plain.rt:300:9
 var-decl-requires : tie.Need-var-decl-requires
@@ -88,13 +88,13 @@ returns-2 c =
 mul-if2 : tie.Need-mul-if2
 mul-if2 c =
     let start = c .before .before .before .before .before .before .before .before .before .before .before .before .before .before .before in
-    omega (arith, plain-root (inp (start .args .script .now) (start .args .offs .now) (start .args .words .now) (start .args .heads .now) (start .args .loads .now)) (start .pre .tree) (start .pre .lo) (start .args .hi) (start .pre .spans) .1, start .good .1 .1 .1 .0 .1)
+    omega (arith, plain-root (inp (start .args .script .now) (start .args .offs .now) (start .args .words .now) (start .args .heads .now) (start .args .loads .now)) (start .pre .tree) (start .pre .lo) (start .args .hi) (start .pre .spans) .inHeads, start .good .1 .1 .1 .0 .1)
 
 -- src/plain.rt:306:8
 shared-slice-read-if2 : tie.Need-shared-slice-read-if2
 shared-slice-read-if2 c =
     let start = c .before .before .before .before .before .before .before .before .before .before .before .before .before .before .before .before in
-    plain-root (inp (start .args .script .now) (start .args .offs .now) (start .args .words .now) (start .args .heads .now) (start .args .loads .now)) (start .pre .tree) (start .pre .lo) (start .args .hi) (start .pre .spans) .1
+    plain-root (inp (start .args .script .now) (start .args .offs .now) (start .args .words .now) (start .args .heads .now) (start .args .loads .now)) (start .pre .tree) (start .pre .lo) (start .args .hi) (start .pre .spans) .inHeads
 
 -- src/plain.rt:307:24
 slice-aggregate-keyword : tie.Need-slice-aggregate-keyword

@@ -18,19 +18,19 @@ use Rattle.sifc_text_plain.proofs.plain.table.Reads as table-reads
 sub-kind : tie.Need-sub-kind
 sub-kind c =
     let start = c .before .before .before .before .before .before in
-    omega (arith, value-root (inp (start .args .script .now) (start .args .offs .now) (start .args .words .now) (start .args .heads .now) (start .args .loads .now)) (start .pre .tree) (start .pre .lo) (start .args .hi) (start .pre .spans) .0)
+    omega (arith, value-root (inp (start .args .script .now) (start .args .offs .now) (start .args .words .now) (start .args .heads .now) (start .args .loads .now)) (start .pre .tree) (start .pre .lo) (start .args .hi) (start .pre .spans) .some)
 
 -- src/plain.rt:232:16
 mul-kind : tie.Need-mul-kind
 mul-kind c =
     let start = c .before .before .before .before .before .before in
-    omega (arith, value-root (inp (start .args .script .now) (start .args .offs .now) (start .args .words .now) (start .args .heads .now) (start .args .loads .now)) (start .pre .tree) (start .pre .lo) (start .args .hi) (start .pre .spans) .1, start .good .1 .1 .1 .0 .1)
+    omega (arith, value-root (inp (start .args .script .now) (start .args .offs .now) (start .args .words .now) (start .args .heads .now) (start .args .loads .now)) (start .pre .tree) (start .pre .lo) (start .args .hi) (start .pre .spans) .inHeads, start .good .1 .1 .1 .0 .1)
 
 -- src/plain.rt:232:16
 shared-slice-read-kind : tie.Need-shared-slice-read-kind
 shared-slice-read-kind c =
     let start = c .before .before .before .before .before .before .before in
-    value-root (inp (start .args .script .now) (start .args .offs .now) (start .args .words .now) (start .args .heads .now) (start .args .loads .now)) (start .pre .tree) (start .pre .lo) (start .args .hi) (start .pre .spans) .1
+    value-root (inp (start .args .script .now) (start .args .offs .now) (start .args .words .now) (start .args .heads .now) (start .args .loads .now)) (start .pre .tree) (start .pre .lo) (start .args .hi) (start .pre .spans) .inHeads
 
 -- src/plain.rt:234:9
 array-requires : tie.Need-array-requires

@@ -24,7 +24,7 @@ use Rattle.sifc_text_plain.proofs.plain.value.Reads as value-reads
 sub-m : tie.Need-sub-m
 sub-m c =
     let start = c .before .before .before .before .before .before in
-    omega (arith, var-root (inp (start .args .script .now) (start .args .offs .now) (start .args .words .now) (start .args .heads .now) (start .args .loads .now)) (start .pre .tree) (start .pre .lo) (start .args .hi) (start .pre .spans) .0)
+    omega (arith, var-root (inp (start .args .script .now) (start .args .offs .now) (start .args .words .now) (start .args .heads .now) (start .args .loads .now)) (start .pre .tree) (start .pre .lo) (start .args .hi) (start .pre .spans) .some)
 
 -- src/plain.rt:257:9
 put-sign-requires : tie.Need-put-sign-requires
@@ -54,13 +54,13 @@ returns c =
 mul-if1 : tie.Need-mul-if1
 mul-if1 c =
     let start = c .before .before .before .before .before .before .before .before .before .before .before .before .before in
-    omega (arith, var-root (inp (start .args .script .now) (start .args .offs .now) (start .args .words .now) (start .args .heads .now) (start .args .loads .now)) (start .pre .tree) (start .pre .lo) (start .args .hi) (start .pre .spans) .1, start .good .1 .1 .1 .0 .1)
+    omega (arith, var-root (inp (start .args .script .now) (start .args .offs .now) (start .args .words .now) (start .args .heads .now) (start .args .loads .now)) (start .pre .tree) (start .pre .lo) (start .args .hi) (start .pre .spans) .inHeads, start .good .1 .1 .1 .0 .1)
 
 -- src/plain.rt:261:8
 shared-slice-read-if1 : tie.Need-shared-slice-read-if1
 shared-slice-read-if1 c =
     let start = c .before .before .before .before .before .before .before .before .before .before .before .before .before .before in
-    var-root (inp (start .args .script .now) (start .args .offs .now) (start .args .words .now) (start .args .heads .now) (start .args .loads .now)) (start .pre .tree) (start .pre .lo) (start .args .hi) (start .pre .spans) .1
+    var-root (inp (start .args .script .now) (start .args .offs .now) (start .args .words .now) (start .args .heads .now) (start .args .loads .now)) (start .pre .tree) (start .pre .lo) (start .args .hi) (start .pre .spans) .inHeads
 
 -- src/plain.rt:262:13
 put-token-requires : tie.Need-put-token-requires
