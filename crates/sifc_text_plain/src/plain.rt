@@ -142,9 +142,9 @@ fn items(
             return next;
         };
         left -= 1;
-        let comma = separator(text, left, h1, a1);
-        let Put::Done(h2, a2) = comma else {
-            return comma;
+        let between = separator(text, left, h1, a1);
+        let Put::Done(h2, a2) = between else {
+            return between;
         };
         h = h2;
         a = a2;
