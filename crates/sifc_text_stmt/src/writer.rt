@@ -1,13 +1,13 @@
 // The writer of statements that hold blocks, and of a program.
-use sifc_text_plain::names;
-use sifc_text_plain::pair;
-use sifc_text_plain::plain_stmt;
 use sifc_put::Put;
 use sifc_put::keyword;
 use sifc_put::put_sign;
 use sifc_put::put_token;
 use sifc_put::wide;
 use sifc_text_expr::expr;
+use sifc_text_plain::names;
+use sifc_text_plain::pair;
+use sifc_text_plain::plain_stmt;
 ghost use mathlib.Core.Path.{_≡_};
 ghost use Prim.Native.Nat.{_-_, _%_};
 ghost use lib.ListN.{getD};
