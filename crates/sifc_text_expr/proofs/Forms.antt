@@ -3,21 +3,20 @@ use Prim.Native.Nat.{ℕ, suc, _+_, _-_, _/_, _%_, _≤_, _<_}
 use native.Mathlib.Omega.{arith}
 use mathlib.Core.Path.{_≡_, refl, sym, ap, _∙_}
 use mathlib.Core.List.{List, [], _∷_, _++_, append-assoc, append-nil}
-use mathlib.Core.Bool.{Bool, true, false}
+use mathlib.Core.Bool.{Bool}
 use lib.Dec.{leb, ltb, leb·suc-suc}
 use lib.ListN.{length, getD}
-use borrow.Author.Tests.{le-leb}
 use Rattle.sifc_lex.specs.Base.{if_then_else_, member}
 use Rattle.sifc_def.specs.State.{W}
 use Rattle.sifc_def.specs.Expr.{looseness}
-use Rattle.sifc_def.specs.Typed.{Expr, prim, un, bin, call, dot, idx, set, mut, Exprs, nil, more, many, lp, rp, lb, rb, eq, period, comma, height, wrap, between, pr, prs}
-use Rattle.sifc_put.specs.Place.{Inp, Node, Then, Along}
+use Rattle.sifc_def.specs.Typed.{Expr, prim, un, bin, call, dot, idx, set, mut, Exprs, nil, more, many, rp, rb, eq, comma, height, wrap, between, pr, prs}
+use Rattle.sifc_put.specs.Place.{Inp, Then, Along}
 use Rattle.sifc_put.specs.Post.{Lang, fixed, tokenL, leafL, seq, commas, heightAt}
 use Rattle.sifc_put.specs.Bytes.{worded, spaced, bytesOf, puts-wrap, puts-E, puts-Es, spaced-puts}
 use Rattle.sifc_put.specs.Spans.{Single, Spans, SpansAll}
 use Rattle.sifc_put.specs.Frame.{Narrow, Low, fixed-low, token-low}
 use Rattle.sifc_text_expr.specs.Kinds.{exprL, operandL, exprsL, subscriptL, linkOf}
-use Rattle.sifc_text_expr.proofs.Roots.{below-next, lower, tight, loose}
+use Rattle.sifc_text_expr.proofs.Roots.{below-next, tight, loose}
 
 -- a sign and a space
 abbrev pub signL : ℕ → Lang
@@ -29,6 +28,7 @@ sign-low s = fixed-low (s ∷ 32 ∷ [])
 
 -- ── expressions one after another, as a list ──
 
+-- the list of the expressions
 unfoldable pub listed : Exprs → List Expr
 listed nil = []
 listed (more e es) = e ∷ listed es
@@ -57,10 +57,11 @@ module _ (I : Inp) where
 
   -- ── pieces ──
 
-  -- the token of the node before hi, and a node that is a token
+  -- the token of the node before hi
   abbrev pub ownL : ℕ → Lang
   ownL hi = tokenL (I .script) (I .offs) (I .words) (I .loads) hi
 
+  -- a node that is a token
   abbrev pub targetL : Lang
   targetL = leafL (I .script) (I .offs) (I .words) (I .loads)
 
@@ -155,10 +156,6 @@ module _ (I : Inp) where
   is-one hi k (idx x e) lo z = absurd (omega (arith, z .top .kinded, k))
   is-one hi k (set x g e) lo z = absurd (omega (arith, z .top .kinded, k))
   is-one hi k (mut x i e) lo z = absurd (omega (arith, z .top .kinded, k))
-
-  -- The operand of `!` or `-` has a node.
-  pub under-one : (hi : ℕ) → kind hi ≡ 23 → (e : Expr) (lo : ℕ) → Spans I e lo hi → 1 < hi
-  under-one hi k e lo z = let s = is-one hi k e lo z in omega (arith, lower I (s .tree .1) (s .spans .mid) (hi - 1) (s .spans .last))
 
   -- a node `!` or `-` binds tighter than any operator
   one-height : (hi : ℕ) → kind hi ≡ 23 → 0 ≡ heightAt (I .words) (I .heads) (I .loads) hi

@@ -1,11 +1,10 @@
 -- What the last node of an expression tells: it can be read, the expression does not begin after it, and it says how loosely the expression binds.
-use Prim.Native.Nat.{ℕ, _+_, _-_, _%_, _≤_, _<_}
+use Prim.Native.Nat.{ℕ, _+_, _-_, _≤_, _<_}
 use native.Mathlib.Omega.{arith}
 use native.Mathlib.Numerals.{add-one}
 use mathlib.Core.Path.{_≡_, refl, sym, ap, _∙_}
 use mathlib.Core.Bool.{Bool, true, false}
-use lib.Dec.{eqb, leb, ltb, leb·suc-suc}
-use lib.ListN.{length, getD}
+use lib.Dec.{leb, ltb, leb·suc-suc}
 use borrow.Author.Tests.{lt-ltb, le-ltb}
 use Rattle.sifc_lex.specs.Base.{if_then_else_, member}
 use Rattle.sifc_def.specs.Typed.{Expr, prim, un, bin, call, dot, idx, set, mut, Exprs, nil, more, height}
@@ -15,7 +14,7 @@ use Rattle.sifc_put.specs.Post.{heightAt, Readable}
 use Rattle.sifc_put.specs.Spans.{Spans, SpansAll}
 use Rattle.sifc_put.specs.Frame.{Low}
 use Rattle.sifc_put.specs.Rows.{list-low}
-use Rattle.sifc_text_expr.specs.Kinds.{exprL, operandL, exprsL, subscriptL}
+use Rattle.sifc_text_expr.specs.Kinds.{exprL, operandL, exprsL}
 
 -- One of two numbers that are at most 7.
 at-most : (b : Bool) (m n : ℕ) → m ≤ 7 → n ≤ 7 → (if b then m else n) ≤ 7
@@ -73,6 +72,7 @@ module _ (I : Inp) where
         let s = y .front in
         omega (arith, s .top .some, s .below, lower i (y .mid) (z .below .mid) (y .last), lower e (z .below .mid) (hi - 1) (z .below .last))
 
+    -- Expressions do not end before they begin.
     pub lower-all : (es : Exprs) (lo hi : ℕ) → SpansAll I es lo hi → lo ≤ hi
     lower-all nil lo hi z = omega (arith, z)
     lower-all (more e es) lo hi z = omega (arith, lower e lo (z .mid) (z .front), lower-all es (z .mid) hi (z .last))
