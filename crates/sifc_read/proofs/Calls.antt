@@ -2,22 +2,22 @@
 use Prim.Native.Nat.{ℕ, _-_, _≤_, _<_}
 use mathlib.Core.Path.{_≡_, refl, sym, ap, _∙_, subst}
 use mathlib.Core.List.{List, []}
-use mathlib.Core.Bool.{Bool, true, false, _&&_}
+use mathlib.Core.Bool.{Bool, true, false}
 use native.Mathlib.Omega.{arith}
-use borrow.Author.Tests.{lt-ltb, ltb-true, ltb-false, eqb-true}
-use lib.Dec.{eqb, ltb}
+use borrow.Author.Tests.{lt-ltb, ltb-true, ltb-false}
+use lib.Dec.{ltb}
 use lib.ListN.{length, take, length-replicate}
 use Rattle.sifc_err.specs.declared.Ending.{Ending}
 use Rattle.sifc_err.specs.declared.Refusal.{Refusal}
-use Rattle.sifc_err.specs.declared.Refusal.the-variants.{LongScript, NotAscii, Uneven, TokensFull}
+use Rattle.sifc_err.specs.declared.Refusal.the-variants.{TokensFull}
 use Rattle.sifc_lex.specs.declared.call.Checked.{Checked}
 use Rattle.sifc_lex.specs.declared.call.Checked.the-variants.{Fine}
 use Rattle.sifc_lex.specs.declared.call.Checked.the-variants as check
 use Rattle.sifc_lex.specs.declared.lex.LexAnswer.{LexAnswer}
 use Rattle.sifc_lex.specs.declared.lex.LexAnswer.the-variants.{Ended, Full}
-use Rattle.sifc_lex.specs.Base.{if_then_else_, span}
-use Rattle.sifc_lex.specs.Lex.{ascii, lex, ending, endAt}
-use Rattle.sifc_lex.specs.Tokens.{offsOf, wordsOf, padded, zeroed, LexCall, lexCalled, lexCall, checkOf}
+use Rattle.sifc_lex.specs.Base.{if_then_else_}
+use Rattle.sifc_lex.specs.Lex.{lex, ending, endAt}
+use Rattle.sifc_lex.specs.Tokens.{offsOf, wordsOf, padded, zeroed, LexCall, lexCalled, lexCall}
 use Rattle.sifc_def.specs.declared.Reading.{Reading}
 use Rattle.sifc_def.specs.declared.Reading.the-variants as reading
 use Rattle.sifc_def.specs.Read.{Arrays, roomsOf, clearedArrays, even, entry, refused, faultOf, read, Called, called, answered, reading as readingOf}
@@ -26,6 +26,7 @@ use Rattle.sifc_step.specs.Abs.{Tokens, inp, mem}
 use Rattle.sifc_step.specs.Book.{Walks}
 use Rattle.sifc_read.specs.Parts.{arrays, Entered, Fits, finishOf}
 use Rattle.sifc_program.specs.Program.{Starts}
+use Rattle.sifc_read.specs.EntryLaws.{entry-same}
 use Rattle.sifc_read.specs.LexedLaws.{lexed-tokens}
 use Rattle.sifc_read.specs.PartLaws.{Held, used-offs, used-words, used-toks, same-arrays, fits-is, finish-is}
 
@@ -132,50 +133,7 @@ full s o w h l y p r {o′} {w′} d e =
 
 -- ── entry ──
 
-never-refused : {X : Type 0} (f : Refusal) → check.Refused f ≡ Fine → X
-never-refused f p = absurd (let z : _≡_ {A = ℕ} 0 1 = cc in let y : ⊥ = omega arith in y)
-
--- the tests of entry look at no symbol word
-entry-same : (s o w h l y p r : List ℕ) → entry s (arrays o w h l [] p r) ≡ entry s (arrays o w h l y p r)
-unfolding entry even
-entry-same s o w h l y p r = refl
-
-abbrev checkBy : Bool → Bool → List ℕ → Checked
-checkBy q p s = if q then check.Refused LongScript else if p then check.Refused (NotAscii (span ascii s)) else Fine
-
-check-short : (s : List ℕ) → checkOf s ≡ Fine → length s < 65536
-unfolding checkOf if_then_else_
-check-short s e = go (ltb 65535 (length s)) (ltb (span ascii s) (length s)) refl e
-  where
-    go : (q p : Bool) → ltb 65535 (length s) ≡ q → checkBy q p s ≡ Fine → length s < 65536
-    go true p t d = never-refused LongScript d
-    go false true t d = never-refused (NotAscii (span ascii s)) d
-    go false false t d = omega (arith, ltb-false 65535 (length s) t)
-
-both : (p q : Bool) → p && q ≡ true → (p ≡ true) × (q ≡ true)
-both true q e = (refl, e)
-both false q e = (let z : _≡_ {A = Bool} false true = e in z, absurd (let z : _≡_ {A = ℕ} 0 1 = cc in let y : ⊥ = omega arith in y))
-
 module _ (s : List ℕ) (a : Arrays) where
-  entry-even : even a ≡ true → length s < 65536 → Entered s a
-  unfolding even
-  entry-even e h =
-      let x = both (eqb (length (a .offs)) (length (a .words))) (eqb (length (a .heads)) (length (a .loads)) && eqb (length (a .places)) (length (a .reasons))) e in
-      let z = both (eqb (length (a .heads)) (length (a .loads))) (eqb (length (a .places)) (length (a .reasons))) (x .1) in
-      record { short = h; tokens = eqb-true (length (a .offs)) (length (a .words)) (x .0); nodes = eqb-true (length (a .heads)) (length (a .loads)) (z .0); errors = eqb-true (length (a .places)) (length (a .reasons)) (z .1) }
-
-  entry-both : entry s a ≡ Fine → (checkOf s ≡ Fine) × (even a ≡ true)
-  unfolding entry if_then_else_
-  entry-both e = go (checkOf s) (even a) e
-    where
-      go : (k : Checked) (b : Bool) → (elim k as (λ z. Checked) [ check.Refused r ↦ check.Refused r | Fine ↦ if b then Fine else check.Refused Uneven ]) ≡ Fine → (k ≡ Fine) × (b ≡ true)
-      go (check.Refused f) b d = never-refused f d
-      go Fine true d = (refl, refl)
-      go Fine false d = never-refused Uneven d
-
-  entered-is : entry s a ≡ Fine → Entered s a
-  entered-is e = entry-even (entry-both e .1) (check-short s (entry-both e .0))
-
   abbrev readBy : Checked → Called Reading
   readBy k = elim k [ check.Refused r ↦ called (reading.Refused r) a | Fine ↦ answered s a (read (roomsOf a) s) ]
 
@@ -184,9 +142,6 @@ module _ (s : List ℕ) (a : Arrays) where
   reading-by = refl
 
 module _ (s o w h l y p r : List ℕ) {k : Checked} (e : k ≡ entry s (arrays o w h l [] p r)) where
-  pub entered : k ≡ Fine → Entered s (arrays o w h l y p r)
-  entered f = entered-is s (arrays o w h l y p r) (sym (e ∙ entry-same s o w h l y p r) ∙ f)
-
   pub read-on : {x : Called Reading} → k ≡ Fine → x ≡ answered s (arrays o w h l y p r) (read (roomsOf (arrays o w h l y p r)) s) → x ≡ readingOf s (arrays o w h l y p r)
   read-on f g = g ∙ sym (ap (readBy s (arrays o w h l y p r)) (sym (e ∙ entry-same s o w h l y p r) ∙ f)) ∙ reading-by s (arrays o w h l y p r)
 

@@ -1,3 +1,4 @@
 pub mod Parts
+pub mod EntryLaws
 pub mod LexedLaws
 pub mod PartLaws

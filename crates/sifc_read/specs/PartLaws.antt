@@ -151,7 +151,8 @@ pub length-padded : (xs : List ℕ) (m : ℕ) → length xs ≤ m → length (pa
 unfolding padded
 length-padded xs m h = omega (arith, length-append xs (replicate (m - length xs) 0), length-replicate {A = ℕ} (m - length xs) 0)
 
-zeroed-long : (x y : List ℕ) → length x ≡ length y → zeroed x ≡ zeroed y
+-- An array set to 0, by its length.
+pub zeroed-long : (x y : List ℕ) → length x ≡ length y → zeroed x ≡ zeroed y
 unfolding zeroed
 zeroed-long x y e = ap (λ (n : ℕ). replicate n 0) e
 

@@ -6,4 +6,7 @@ mod error;
 mod finish;
 mod place;
 
+pub use call::after_entry;
 pub use call::reading;
+pub use clear::clear_all;
+pub use entry::entry as entry_tests;

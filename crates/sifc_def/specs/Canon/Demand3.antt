@@ -59,13 +59,13 @@ deep-size TextFull t = tt
 -- ── what is known of a script that is read with the flag down ──
 
 -- what f has found in the script s is the typed program ts
-record Shows (s : List ℕ) (f : Found) (ts : Stmts) : Type 0 where
-  toks : f .toks ≡ lex s
-  flag : f .flag ≡ false
-  labelled : labels s (lex s) (f .nodes) ≡ reverse (rencProgram ts)
+pub record Shows (s : List ℕ) (f : Found) (ts : Stmts) : Type 0 where
+  pub toks : f .toks ≡ lex s
+  pub flag : f .flag ≡ false
+  pub labelled : labels s (lex s) (f .nodes) ≡ reverse (rencProgram ts)
 
 -- The canonical text of what shows a typed program is its print.
-shows-text : (s : List ℕ) (f : Found) (ts : Stmts) → OkProgram ts → SaidSs Fine ts → Shows s f ts → textFound s f ≡ print ts
+pub shows-text : (s : List ℕ) (f : Found) (ts : Stmts) → OkProgram ts → SaidSs Fine ts → Shows s f ts → textFound s f ≡ print ts
 unfolding textFound
 shows-text s f ts ok fine h = rw (h .toks, h .labelled) (text-print ts ok fine)
 
@@ -87,17 +87,17 @@ other-outcome : {X : Type 0} (x : Refusal) (f : Found) (o : Outcome) → o ≡ r
 other-outcome x f o p q = absurd (let z : _≡_ {A = ℕ} 0 1 = cc in let y : ⊥ = omega arith in y)
 
 -- An outcome is one thing found.
-found-same : (f g : Found) (o : Outcome) → o ≡ found f → o ≡ found g → f ≡ g
+pub found-same : (f g : Found) (o : Outcome) → o ≡ found f → o ≡ found g → f ≡ g
 found-same f g o p q = cc
 
 -- the typed program of a script that is read with the flag down
-record Typed (s : List ℕ) (a : Arrays) : Type 0 where
-  what : Found
-  reads : Reads s a what
-  program : Stmts
-  ok : OkProgram program
-  fine : SaidSs Fine program
-  shows : Shows s what program
+pub record Typed (s : List ℕ) (a : Arrays) : Type 0 where
+  pub what : Found
+  pub reads : Reads s a what
+  pub program : Stmts
+  pub ok : OkProgram program
+  pub fine : SaidSs Fine program
+  pub shows : Shows s what program
 
 -- the second half of a round trip: the program ts is printed, read in the arrays a, and written by a call with the arrays b and the buffer t
 record Half (ts : Stmts) (a b : Arrays) (t : List ℕ) : Type 0 where
@@ -235,7 +235,7 @@ typed-walk r s e z w f =
     h (rw f tt)
 
 -- The typed program of a script that is read with the flag down.
-typed : (s : List ℕ) (a : Arrays) → Down s a → Typed s a
+pub typed : (s : List ℕ) (a : Arrays) → Down s a → Typed s a
 typed s a d =
     let w = walked (roomsOf a) s (d .what) (d .reads .found-it) (d .flag) in
     let t = typed-walk (roomsOf a) s (w .end) (w .state) (w .walks) (w .flag) in

@@ -27,7 +27,7 @@ abbrev noToken : Token
 noToken = token 47 0 0
 
 -- Token i is lexed to itself.
-good-at : (s : List ℕ) (ts : List Token) → AllWords s ts → (i : ℕ) → getD ts i (token 47 0 0) .kind ≤ 45 → Good (spell s (getD ts i (token 47 0 0)))
+pub good-at : (s : List ℕ) (ts : List Token) → AllWords s ts → (i : ℕ) → getD ts i (token 47 0 0) .kind ≤ 45 → Good (spell s (getD ts i (token 47 0 0)))
 unfolding AllWords
 good-at s [] h i k = absurd (let z : ⊥ = omega arith in z)
 good-at s (t ∷ ts) h zero k = h .0 k

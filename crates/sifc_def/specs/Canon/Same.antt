@@ -40,7 +40,7 @@ at-padded g d e (x ∷ xs) m (suc i) = at-padded g d e xs m i
 -- ── first words ──
 
 -- The first word tells the kind.
-head-kind : (n : Node) → n .kind < 32 → headWord n % 32 ≡ n .kind
+pub head-kind : (n : Node) → n .kind < 32 → headWord n % 32 ≡ n .kind
 head-kind n h =
     let e : headWord n ≡ n .kind + 32 * (bit (n .flag) + 2 * n .kids) = omega arith in
     ap (λ (x : ℕ). x % 32) e ∙ add-mul-mod-self-left (n .kind) 32 (bit (n .flag) + 2 * n .kids) ∙ mod-eq-of-lt h
@@ -143,7 +143,7 @@ unfolding if_then_else_
 scope-is k p e = rw e refl
 
 -- A text is its token's.
-text-is : (k : ℕ) (t : List ℕ) → T (hasToken k) → (if hasToken k then t else []) ≡ t
+pub text-is : (k : ℕ) (t : List ℕ) → T (hasToken k) → (if hasToken k then t else []) ≡ t
 unfolding if_then_else_
 text-is k t h = go (hasToken k) h
   where

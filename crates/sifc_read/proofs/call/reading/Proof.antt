@@ -1,5 +1,6 @@
 use borrow.Author.Needs.{needs}
-use Rattle.sifc_read.proofs.Calls.{entered, read-on, read-not}
+use Rattle.sifc_read.specs.EntryLaws.{entered}
+use Rattle.sifc_read.proofs.Calls.{read-on, read-not}
 use Rattle.sifc_read.proofs.call.reading.Statement.{statement}
 use Rattle.sifc_read.proofs.call.reading.Tie as tie
 use Rattle.sifc_read.proofs.call.reading.Reads as reads
