@@ -1,13 +1,11 @@
 // The calls that hosts in other languages link, on plain slices. include/sif.h declares them.
-mod told;
-
-use crate::told::told;
 use sifc_lex::TokensAnswer;
+use sifc_told::told;
 ghost use mathlib.Core.Path.{_≡_};
 ghost use Rattle.sifc_lex.specs.Tokens.{tokensCalled, tokensCall};
 ghost use Rattle.sifc_def.specs.Read.{called, reading as readingOf};
 ghost use Rattle.sifc_read.specs.Parts.{arrays};
-ghost use Rattle.sif_c.specs.Hosts.{answer, earlyNumbers, readAnswer, told as toldOf};
+ghost use Rattle.sifc_told.specs.Hosts.{answer, earlyNumbers, readAnswer, told as toldOf};
 
 // The tokens call. It returns the refusal's number, 0 for none, and sets count, kind and offset; what
 // they do not say is 0.

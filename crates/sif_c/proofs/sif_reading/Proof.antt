@@ -4,7 +4,7 @@ use Rattle.sif_c.proofs.sif_reading.Statement.{statement}
 use Rattle.sif_c.proofs.sif_reading.Tie as tie
 use Rattle.sif_c.proofs.sif_reading.Reads as reads
 use Rattle.sif_c.proofs.sif_reading.Lts as lts
-use Rattle.sif_c.proofs.told.told.Reads as told-reads
+use Rattle.sifc_told.proofs.told.Reads as told-reads
 use Rattle.sifc_read.proofs.reading.Reads as reading-reads
 
 -- src/lib.rt:70:9

@@ -10,7 +10,7 @@ use Rattle.sifc_lex.specs.Tokens.{Answer}
 use Rattle.sifc_def.specs.declared.Early.{Early}
 use Rattle.sifc_def.specs.declared.Early.the-variants.{Never, By}
 use Rattle.sifc_def.specs.declared.Reading.{Reading}
-use Rattle.sifc_def.specs.Read.{ReadNumbers, readNumbers, Called, called, bit}
+use Rattle.sifc_def.specs.Read.{Arrays, ReadNumbers, readNumbers, TextNumbers, textNumbers, Called, called, Written, bit}
 
 abbrev pub answer : ℕ → ℕ → ℕ → ℕ → Answer
 answer c n k o = record { count = c; number = n; kind = k; offset = o }
@@ -69,3 +69,20 @@ toldOf n = readAnswer (n .tokens) (n .nodes) (n .errors) (bit (n .flag)) (earlyO
 -- a reading's answer in numbers, and the arrays as they are
 unfoldable pub told : Called Reading → Called ReadAnswer
 told c = called (toldOf (readNumbers (c .answer))) (c .arrays)
+
+-- ── the text call ──
+
+abbrev pub textAnswer : ℕ → ℕ → ℕ → ℕ → TextNumbers
+textAnswer c n k o = record { count = c; number = n; kind = k; offset = o }
+
+-- a text call's answer in numbers, with the arrays and the buffer as they are
+pub record TextTold : Type 0 where
+  pub answer : TextNumbers
+  pub arrays : Arrays
+  pub text : List ℕ
+
+abbrev pub textTold : TextNumbers → Arrays → List ℕ → TextTold
+textTold n a t = record { answer = n; arrays = a; text = t }
+
+unfoldable pub toldText : Written → TextTold
+toldText w = textTold (textNumbers (w .answer)) (w .arrays) (w .text)

@@ -1,11 +1,11 @@
 use borrow.Author.Needs.{needs}
-use Rattle.sif_c.proofs.Said.{told-read, told-refused}
-use Rattle.sif_c.proofs.told.told.Statement.{statement}
-use Rattle.sif_c.proofs.told.told.Tie as tie
-use Rattle.sif_c.proofs.told.told.Reads as reads
-use Rattle.sif_c.proofs.told.told.Lts as lts
-use Rattle.sif_c.proofs.told.bit_of.Reads as bit-of-reads
-use Rattle.sif_c.proofs.told.ended.Reads as ended-reads
+use Rattle.sifc_told.proofs.Said.{told-read, told-refused}
+use Rattle.sifc_told.proofs.answer.told.Statement.{statement}
+use Rattle.sifc_told.proofs.answer.told.Tie as tie
+use Rattle.sifc_told.proofs.answer.told.Reads as reads
+use Rattle.sifc_told.proofs.answer.told.Lts as lts
+use Rattle.sifc_told.proofs.answer.bit_of.Reads as bit-of-reads
+use Rattle.sifc_told.proofs.answer.ended.Reads as ended-reads
 use Rattle.sifc_err.proofs.Refusal.kind.Reads as kind-reads
 use Rattle.sifc_err.proofs.Refusal.number.Reads as number-reads
 use Rattle.sifc_err.proofs.Refusal.offset.Reads as offset-reads

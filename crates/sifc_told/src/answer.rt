@@ -1,10 +1,11 @@
-// A reading's answer in numbers.
+// An answer in numbers.
 use sifc_def::Early;
 use sifc_def::Reading;
+use sifc_def::Texting;
 use sifc_err::ParseErrTy;
 ghost use mathlib.Core.Path.{_≡_};
-ghost use Rattle.sifc_def.specs.Read.{bit, readNumbers};
-ghost use Rattle.sif_c.specs.Hosts.{tokenOffset, firstValue, earlyNumbers, earlyOf, readAnswer, toldOf};
+ghost use Rattle.sifc_def.specs.Read.{bit, readNumbers, textNumbers};
+ghost use Rattle.sifc_told.specs.Hosts.{tokenOffset, firstValue, earlyNumbers, earlyOf, readAnswer, toldOf, textAnswer};
 
 // The error that ended a reading: line, column, the reason's number, the offset of the token that it
 // carries, and the first of its values. All are 0 where none ended it.
@@ -100,6 +101,7 @@ fn ended(early: Early) -> Ending
     }
 }
 
+// The answer of a reading.
 pub fn told(said: Reading) -> Numbers
     ensures { λ r. ⌜ readAnswer (r .tokens) (r .nodes) (r .errors) (r .flag) (earlyNumbers (r .early .line) (r .early .pos) (r .early .number) (r .early .offset) (r .early .value)) (r .number) (r .kind) (r .offset) ≡ toldOf (readNumbers said) ⌝ }
 {
@@ -123,6 +125,34 @@ pub fn told(said: Reading) -> Numbers
             errors: 0,
             flag: 0,
             early: ended(Early::Never),
+            number: refusal.number(),
+            kind: refusal.kind(),
+            offset: refusal.offset(),
+        },
+    }
+}
+
+// All of a text call's answer; what it does not say is 0.
+pub struct TextNumbers {
+    pub count: usize,
+    pub number: u32,
+    pub kind: u32,
+    pub offset: usize,
+}
+
+// The answer of a text call.
+pub fn told_text(said: Texting) -> TextNumbers
+    ensures { λ r. ⌜ textAnswer (r .count) (r .number) (r .kind) (r .offset) ≡ textNumbers said ⌝ }
+{
+    match said {
+        Texting::Wrote(count) => TextNumbers {
+            count,
+            number: 0,
+            kind: 0,
+            offset: 0,
+        },
+        Texting::Refused(refusal) => TextNumbers {
+            count: 0,
             number: refusal.number(),
             kind: refusal.kind(),
             offset: refusal.offset(),

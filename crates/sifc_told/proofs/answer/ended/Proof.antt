@@ -1,11 +1,11 @@
 use borrow.Author.Needs.{needs}
-use Rattle.sif_c.proofs.Said.{ended-never, ended-by}
-use Rattle.sif_c.proofs.told.ended.Statement.{statement}
-use Rattle.sif_c.proofs.told.ended.Tie as tie
-use Rattle.sif_c.proofs.told.ended.Reads as reads
-use Rattle.sif_c.proofs.told.ended.Lts as lts
-use Rattle.sif_c.proofs.told.first_value.Reads as first-value-reads
-use Rattle.sif_c.proofs.told.token_offset.Reads as token-offset-reads
+use Rattle.sifc_told.proofs.Said.{ended-never, ended-by}
+use Rattle.sifc_told.proofs.answer.ended.Statement.{statement}
+use Rattle.sifc_told.proofs.answer.ended.Tie as tie
+use Rattle.sifc_told.proofs.answer.ended.Reads as reads
+use Rattle.sifc_told.proofs.answer.ended.Lts as lts
+use Rattle.sifc_told.proofs.answer.first_value.Reads as first-value-reads
+use Rattle.sifc_told.proofs.answer.token_offset.Reads as token-offset-reads
 use Rattle.sifc_err.proofs.parse_err.ParseErrTy.number.Reads as number-reads
 
 -- src/told.rt:83:25
