@@ -8,8 +8,9 @@ use Rattle.sifc_lex.specs.declared.call.TokensAnswer.{TokensAnswer}
 use Rattle.sifc_lex.specs.declared.call.TokensAnswer.the-variants.{Count, Refused}
 use Rattle.sifc_lex.specs.Tokens.{answerOf, TokensCall, tokensCalled}
 use Rattle.sifc_def.specs.declared.Reading.{Reading}
-use Rattle.sifc_def.specs.Read.{Arrays, Called, called, readNumbers}
-use Rattle.sifc_told.specs.Hosts.{answer, ReadAnswer, toldOf, told}
+use Rattle.sifc_def.specs.declared.Texting.{Texting}
+use Rattle.sifc_def.specs.Read.{Arrays, Called, called, readNumbers, TextNumbers, textNumbers, Written, written}
+use Rattle.sifc_told.specs.Hosts.{answer, ReadAnswer, toldOf, told, textTold, toldText}
 
 -- A count, as the definition has it.
 pub said-count : (r : TokensAnswer) (n : ℕ) (offs words : List ℕ) (c : TokensCall) → r ≡ Count n → tokensCalled (answerOf r) offs words ≡ c → tokensCalled (answer n 0 0 0) offs words ≡ c
@@ -24,3 +25,8 @@ said-refused r f number kind offset offs words c e en ek eo h = rw (en, ek, eo) 
 pub told-call : (n : ReadAnswer) (r : Reading) (a : Arrays) (c : Called Reading) → n ≡ toldOf (readNumbers r) → called r a ≡ c → called n a ≡ told c
 unfolding told
 told-call n r a c e h = ap (λ (x : ReadAnswer). called x a) e ∙ ap told h
+
+-- the numbers of a text call's answer, with the arrays and the buffer that it leaves
+pub text-call : (n : TextNumbers) (r : Texting) (a : Arrays) (t : List ℕ) (w : Written) → n ≡ textNumbers r → written r a t ≡ w → textTold n a t ≡ toldText w
+unfolding toldText
+text-call n r a t w e h = ap (λ (x : TextNumbers). textTold x a t) e ∙ ap toldText h

@@ -1,11 +1,12 @@
 // The calls that hosts in other languages link, on plain slices. include/sif.h declares them.
 use sifc_lex::TokensAnswer;
 use sifc_told::told;
+use sifc_told::told_text;
 ghost use mathlib.Core.Path.{_≡_};
 ghost use Rattle.sifc_lex.specs.Tokens.{tokensCalled, tokensCall};
-ghost use Rattle.sifc_def.specs.Read.{called, reading as readingOf};
+ghost use Rattle.sifc_def.specs.Read.{called, reading as readingOf, textCall};
 ghost use Rattle.sifc_read.specs.Parts.{arrays};
-ghost use Rattle.sifc_told.specs.Hosts.{answer, earlyNumbers, readAnswer, told as toldOf};
+ghost use Rattle.sifc_told.specs.Hosts.{answer, earlyNumbers, readAnswer, told as toldOf, textAnswer, textTold, toldText};
 
 // The tokens call. It returns the refusal's number, 0 for none, and sets count, kind and offset; what
 // they do not say is 0.
@@ -77,6 +78,43 @@ pub extern "C" fn sif_reading(
     *early_number = early.number;
     *early_offset = early.offset;
     *early_value = early.value;
+    *kind = numbers.kind;
+    *offset = numbers.offset;
+    numbers.number
+}
+
+// The text call. It returns the refusal's number, 0 for none, and sets count, kind and offset; what
+// they do not say is 0.
+#[no_mangle]
+pub extern "C" fn sif_text(
+    script: &[u8],
+    offs: &mut [u32],
+    words: &mut [u32],
+    heads: &mut [u32],
+    loads: &mut [u32],
+    symbols: &mut [u32],
+    places: &mut [u32],
+    reasons: &mut [u32],
+    text: &mut [u8],
+    count: &mut usize,
+    kind: &mut u32,
+    offset: &mut usize,
+) -> u32
+    ensures { λ r. ⌜ textTold (textAnswer (now (count .exit)) r (now (kind .exit)) (now (offset .exit))) (arrays (now (offs .exit)) (now (words .exit)) (now (heads .exit)) (now (loads .exit)) (now (symbols .exit)) (now (places .exit)) (now (reasons .exit))) (now (text .exit)) ≡ toldText (textCall (now (script .entry)) (arrays (now (offs .entry)) (now (words .entry)) (now (heads .entry)) (now (loads .entry)) (now (symbols .entry)) (now (places .entry)) (now (reasons .entry))) (now (text .entry))) ⌝ }
+{
+    let said = sifc_text::text(
+        script,
+        offs,
+        words,
+        heads,
+        loads,
+        symbols,
+        places,
+        reasons,
+        text,
+    );
+    let numbers = told_text(said);
+    *count = numbers.count;
     *kind = numbers.kind;
     *offset = numbers.offset;
     numbers.number
