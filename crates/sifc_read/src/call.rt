@@ -27,7 +27,7 @@ fn fault_of(ending: Ending) -> u32
 }
 
 // The call behind the tests of entry: the token list, the walk, and what it leaves.
-fn after_entry(
+pub fn after_entry(
     script: &[u8],
     offs: &mut [u32],
     words: &mut [u32],
