@@ -3,10 +3,9 @@ use Prim.Native.Nat.{ℕ, _+_, _/_, _%_, _≤_}
 use mathlib.Core.Path.{_≡_, refl, sym, ap, ap₂, _∙_}
 use mathlib.Core.List.{List, []}
 use mathlib.Core.Bool.{Bool, true, false}
-use borrow.Author.Tests.{eq-eqb, ne-eqb, eqb-true}
+use borrow.Author.Tests.{eq-eqb, ne-eqb}
 use lib.Dec.{eqb}
 use lib.ListN.{length}
-use native.Mathlib.Omega.{arith}
 use Rattle.sifc_err.specs.declared.Token.{Token}
 use Rattle.sifc_err.specs.declared.parse_err.ParseErrTy.{ParseErrTy}
 use Rattle.sifc_err.specs.declared.Refusal.{Refusal}
@@ -24,7 +23,7 @@ use Rattle.sifc_read.specs.Parts.{arrays, bare, Entered}
 use Rattle.sifc_read.proofs.Calls as words
 use Rattle.sifc_records.specs.declared.call.Told.{Told}
 use Rattle.sifc_records.specs.Records.{whyBy, whyOf, recordOf, entryRecords}
-use Rattle.sifc_records.specs.RecordLaws.{entryBy, entry-by}
+use Rattle.sifc_records.specs.RecordLaws.{entryBy, entry-by, entry-of}
 use Rattle.sifc_records.specs.Words.{told, toldOf, Kept, kept, keptOf, readWords}
 
 -- the reason of a word whose number is known
@@ -48,19 +47,6 @@ module _ (s : List ℕ) (a : Arrays) (n : ℕ) {k : Checked} (e : k ≡ entry s 
 
   pub not-passed : (f : Refusal) → k ≡ check.Refused f → check.Refused f ≡ entryRecords s a n
   not-passed f g = sym (ap (λ (x : Checked). entryBy x (eqb (length (a .places)) n)) (sym e ∙ g)) ∙ entry-by s a n
-
-never-refused : {X : Type 0} (f : Refusal) → check.Refused f ≡ Fine → X
-never-refused f p = absurd (let z : _≡_ {A = ℕ} 0 1 = cc in let y : ⊥ = omega arith in y)
-
--- what lets a script and the arrays pass
-pub entry-of : (s : List ℕ) (a : Arrays) (n : ℕ) → entryRecords s a n ≡ Fine → (entry s a ≡ Fine) × (length (a .places) ≡ n)
-unfolding if_then_else_
-entry-of s a n e = go (entry s a) (eqb (length (a .places)) n) refl (entry-by s a n ∙ e)
-  where
-    go : (k : Checked) (b : Bool) → eqb (length (a .places)) n ≡ b → entryBy k b ≡ Fine → (k ≡ Fine) × (length (a .places) ≡ n)
-    go (check.Refused f) b t d = never-refused f d
-    go Fine true t d = (refl, eqb-true (length (a .places)) n t)
-    go Fine false t d = never-refused Uneven d
 
 -- the tests look at no symbol word
 pub entry-same : (s o w h l y p r : List ℕ) (n : ℕ) → entryRecords s (arrays o w h l [] p r) n ≡ entryRecords s (arrays o w h l y p r) n

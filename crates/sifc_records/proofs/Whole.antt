@@ -23,9 +23,9 @@ use Rattle.sifc_read.specs.LexedLaws.{lexed-back, length-offs, length-words, us
 use Rattle.sifc_symtab.specs.Toks.{toksOf}
 use Rattle.sifc_records.specs.declared.call.Told.{Told}
 use Rattle.sifc_records.specs.Records.{blankErr, paddedErrs, entryRecords, recordsIn, Recorded, recorded, recordsOf, readingRecords, blankFrom, filledOf, Fillable}
-use Rattle.sifc_records.specs.RecordLaws.{records-back, Sounds, SoundsOf, read-sound, recordsBy, records-by}
+use Rattle.sifc_records.specs.RecordLaws.{entry-of, records-back, Sounds, SoundsOf, read-sound, recordsBy, records-by}
 use Rattle.sifc_records.specs.Words.{Kept, kept, keptOf, readWords}
-use Rattle.sifc_records.proofs.Calls.{entry-of, entry-same, readBy, read-by, entered}
+use Rattle.sifc_records.proofs.Calls.{entry-same, readBy, read-by, entered}
 
 -- what is told asks no more than is there, where there are n records
 abbrev FillableOf : ℕ → Kept → Type 0

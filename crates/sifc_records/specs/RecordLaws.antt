@@ -7,7 +7,7 @@ use mathlib.Core.Path.{_≡_, refl, sym, ap, ap₂, _∙_, subst}
 use native.Mathlib.Omega.{arith}
 use lib.Dec.{eqb, ltb}
 use lib.ListN.{length, length-reverse}
-use borrow.Author.Tests.{ltb-false, eq-eqb, ne-eqb}
+use borrow.Author.Tests.{ltb-false, eqb-true, eq-eqb, ne-eqb}
 use Rattle.sifc_err.specs.declared.Token.{Token}
 use Rattle.sifc_err.specs.declared.Refusal.{Refusal}
 use Rattle.sifc_err.specs.declared.Refusal.the-variants.{Uneven, TokensFull}
@@ -25,7 +25,7 @@ use Rattle.sifc_def.specs.declared.Err.{Err}
 use Rattle.sifc_def.specs.declared.Why.{Why}
 use Rattle.sifc_def.specs.declared.Why.the-variants.{InvalidIdent, InvalidTkn, InvalidTknMsg, InvalidAssign, InvalidForStmt, InvalidIfStmt, TknMismatch, FnParmCntExceeded, WrongFnParmCnt, UndeclSym, UnassignedVar, ExpectedIdent}
 use Rattle.sifc_def.specs.declared.Reading.{Reading}
-use Rattle.sifc_def.specs.declared.Reading.the-variants.{Refused}
+use Rattle.sifc_def.specs.declared.Reading.the-variants.{Read, Refused}
 use Rattle.sifc_def.specs.Error.{tyOf, carried, carriedToo, placeAt, parseErr, errPlace, errReason}
 use Rattle.sifc_def.specs.State.{Ctx, St, Out, done, fail, refuse, tokAt}
 use Rattle.sifc_def.specs.Walk.{End, walk}
@@ -201,3 +201,41 @@ records-agree s a rs l = ap callOf (records-even s a rs l) ∙ go (entry s a)
 pub records-uneven : (s : List ℕ) (a : Arrays) (rs : List ParseErr) → entry s a ≡ Fine → (length (a .places) ≡ length rs → ⊥) → readingRecords s a rs ≡ recorded (Refused Uneven) a rs
 unfolding if_then_else_
 records-uneven s a rs e l = sym (records-by s a rs) ∙ ap (recordsBy s a rs) (sym (entry-by s a (length rs)) ∙ ap₂ entryBy e (ne-eqb (length (a .places)) (length rs) l))
+
+-- how many errors an answer counts
+abbrev pub errorsOf : Reading → ℕ
+errorsOf (Read m) = m .errors
+errorsOf (Refused r) = 0
+
+never-refused : {X : Type 0} (f : Refusal) → check.Refused f ≡ Fine → X
+never-refused f p = absurd (let z : _≡_ {A = ℕ} 0 1 = cc in let y : ⊥ = omega arith in y)
+
+-- what lets a script and the arrays pass
+pub entry-of : (s : List ℕ) (a : Arrays) (n : ℕ) → entryRecords s a n ≡ Fine → (entry s a ≡ Fine) × (length (a .places) ≡ n)
+unfolding if_then_else_
+entry-of s a n e = go (entry s a) (eqb (length (a .places)) n) refl (entry-by s a n ∙ e)
+  where
+    go : (k : Checked) (b : Bool) → eqb (length (a .places)) n ≡ b → entryBy k b ≡ Fine → (k ≡ Fine) × (length (a .places) ≡ n)
+    go (check.Refused f) b t d = never-refused f d
+    go Fine true t d = (refl, eqb-true (length (a .places)) n t)
+    go Fine false t d = never-refused Uneven d
+
+fits-found : (s : List ℕ) (a : Arrays) (f : Found) (n : ℕ) → length (f .errs) ≤ n → errorsOf (answered s a (found f) .answer) ≤ n
+unfolding answered
+fits-found s a f n h = h
+
+fits-refused : (s : List ℕ) (a : Arrays) (r : Refusal) (n : ℕ) → errorsOf (answered s a (refused r) .answer) ≤ n
+unfolding answered
+fits-refused s a r n = omega arith
+
+-- There is a record for each error that the answer counts.
+pub errors-fit : (s : List ℕ) (a : Arrays) (rs : List ParseErr) → errorsOf (readingRecords s a rs .answer) ≤ length rs
+errors-fit s a rs = subst (λ (x : Recorded). errorsOf (x .answer) ≤ length rs) (records-by s a rs) (go (entryRecords s a (length rs)) refl)
+  where
+    counted : length (a .places) ≡ length rs → (o : Outcome) → SoundsOf (roomsOf a) s o → errorsOf (answered s a o .answer) ≤ length rs
+    counted l (found f) h = fits-found s a f (length rs) (omega (arith, h .room, l))
+    counted l (refused r) h = fits-refused s a r (length rs)
+
+    go : (k : Checked) → entryRecords s a (length rs) ≡ k → errorsOf (recordsBy s a rs k .answer) ≤ length rs
+    go (check.Refused f) e = omega arith
+    go Fine e = counted (entry-of s a (length rs) e .1) (read (roomsOf a) s) (read-sound (roomsOf a) s)

@@ -27,6 +27,10 @@ use Rattle.sifc_read.specs.Parts.{bare}
 abbrev pub blankErr : ParseErr
 blankErr = record { line = 0; pos = 0; ty = NoReason }
 
+-- so many blank records
+abbrev pub blankRecords : ℕ → List ParseErr
+blankRecords n = replicate n blankErr
+
 -- "All lent elements past the used part" are blank: n in all
 unfoldable pub paddedErrs : List ParseErr → ℕ → List ParseErr
 paddedErrs used n = used ++ replicate (n - length used) blankErr
