@@ -5,16 +5,18 @@ use sifc_view::token_from;
 
 const EOF: u32 = 47;
 
+// A script of 4,096 bytes has at most so many tokens.
+const MOST: usize = 4097;
+
 fn wide(kind: u32) -> usize {
     kind as usize
 }
 
-// The kinds on one line, with a space between; an Eof or a lexing panic is the last. A script has at most
-// one token more than bytes.
+// The kinds on one line, with a space between; an Eof or a lexing panic is the last.
 pub fn print_kinds(script: &[u8]) {
     let mut off = 0;
     let mut n = 0;
-    while n <= script.len() {
+    while n < MOST {
         let lexed = token_from(script, off);
         let token = lexed.token;
         if 0 < n {
