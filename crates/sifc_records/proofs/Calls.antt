@@ -1,8 +1,7 @@
 -- The covered functions meet their definitions: the record of an error's words, and the call on words with the tests of entry.
-use Prim.Native.Nat.{ℕ, _+_, _/_, _%_, _≤_}
+use Prim.Native.Nat.{ℕ, _+_, _/_, _%_}
 use mathlib.Core.Path.{_≡_, refl, sym, ap, ap₂, _∙_}
 use mathlib.Core.List.{List, []}
-use mathlib.Core.Bool.{Bool, true, false}
 use borrow.Author.Tests.{eq-eqb, ne-eqb}
 use lib.Dec.{eqb}
 use lib.ListN.{length}
@@ -18,7 +17,7 @@ use Rattle.sifc_def.specs.declared.Why.{Why}
 use Rattle.sifc_def.specs.declared.Reading.{Reading}
 use Rattle.sifc_def.specs.declared.Reading.the-variants.{Refused}
 use Rattle.sifc_def.specs.Error.{tyOf}
-use Rattle.sifc_def.specs.Read.{Arrays, Called, called, roomsOf, entry, even, read, answered}
+use Rattle.sifc_def.specs.Read.{Arrays, called, roomsOf, entry, even, read, answered}
 use Rattle.sifc_read.specs.Parts.{arrays, bare, Entered}
 use Rattle.sifc_read.proofs.Calls as words
 use Rattle.sifc_records.specs.declared.call.Told.{Told}

@@ -4,7 +4,7 @@ use mathlib.Core.Path.{_≡_, refl, sym, ap, ap₂, _∙_, subst}
 use mathlib.Core.List.{List, [], _++_, map, append-nil}
 use native.Mathlib.Nat.{le-refl, sub-self}
 use native.Mathlib.Omega.{arith}
-use lib.ListN.{length, take, drop, replicate, length-append, length-map, length-take}
+use lib.ListN.{length, take, drop, replicate, length-append, length-map}
 use lib.Seq.{take-length, take-append-seam, length-take-le, length-front}
 use Rattle.sifc_err.specs.declared.Token.{Token}
 use Rattle.sifc_err.specs.declared.parse_err.ParseErr.{ParseErr}
@@ -13,8 +13,6 @@ use Rattle.sifc_lex.specs.declared.call.Checked.the-variants.{Fine}
 use Rattle.sifc_lex.specs.declared.call.Checked.the-variants as check
 use Rattle.sifc_lex.specs.Lex.{lex}
 use Rattle.sifc_lex.specs.Tokens.{offsOf, wordsOf, padded}
-use Rattle.sifc_def.specs.declared.Err.{Err}
-use Rattle.sifc_def.specs.declared.Reading.{Reading}
 use Rattle.sifc_def.specs.State.{Ctx}
 use Rattle.sifc_def.specs.Error.{parseErr, errPlace, errReason}
 use Rattle.sifc_def.specs.Read.{Arrays, roomsOf, Found, Outcome, found, refused, ctxOf, filled, read, answered}

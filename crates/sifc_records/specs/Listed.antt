@@ -1,10 +1,10 @@
 -- What holds of the listed errors wherever a walk is: there is room for them, and a message is not 0. So an error's two words say which error it is. Each step of
 -- the walk keeps this, in the order of the definition: State.antt, Symbols.antt, Expr.antt, Stmt.antt and Walk.antt of sifc_def.
-use Prim.Native.Nat.{ℕ, zero, suc, _+_, _-_, _≤_, _<_}
+use Prim.Native.Nat.{ℕ, zero, suc, _-_, _≤_, _<_}
 use mathlib.Core.List.{List, [], _∷_}
 use mathlib.Core.Option.{Option, none, some}
 use mathlib.Core.Bool.{Bool, true, false}
-use mathlib.Core.Path.{_≡_, refl}
+use mathlib.Core.Path.{_≡_}
 use native.Mathlib.Omega.{arith}
 use lib.Dec.{eqb, leb, ltb}
 use lib.ListN.{length}

@@ -8,7 +8,6 @@ use native.Mathlib.Omega.{arith}
 use lib.Dec.{eqb, ltb}
 use lib.ListN.{length, length-reverse}
 use borrow.Author.Tests.{ltb-false, eqb-true, eq-eqb, ne-eqb}
-use Rattle.sifc_err.specs.declared.Token.{Token}
 use Rattle.sifc_err.specs.declared.Refusal.{Refusal}
 use Rattle.sifc_err.specs.declared.Refusal.the-variants.{Uneven, TokensFull}
 use Rattle.sifc_err.specs.declared.parse_err.ParseErr.{ParseErr}
@@ -27,7 +26,7 @@ use Rattle.sifc_def.specs.declared.Why.the-variants.{InvalidIdent, InvalidTkn, 
 use Rattle.sifc_def.specs.declared.Reading.{Reading}
 use Rattle.sifc_def.specs.declared.Reading.the-variants.{Read, Refused}
 use Rattle.sifc_def.specs.Error.{tyOf, carried, carriedToo, placeAt, parseErr, errPlace, errReason}
-use Rattle.sifc_def.specs.State.{Ctx, St, Out, done, fail, refuse, tokAt}
+use Rattle.sifc_def.specs.State.{Ctx, Out, done, fail, refuse, tokAt}
 use Rattle.sifc_def.specs.Walk.{End, walk}
 use Rattle.sifc_def.specs.Read.{Arrays, Rooms, roomsOf, Found, Outcome, found, refused, ctxOf, ended, read, entry, Called, called, answered, reading, depthLimit}
 use Rattle.sifc_def.specs.OutcomeLaws.{Holds}

@@ -1,7 +1,6 @@
 -- The reading call over a lent slice of error records, on top of the call on words (Read.antt of sifc_def). "Errors go to a lent slice of error records."
-use Prim.Native.Nat.{ℕ, _+_, _-_, _*_, _/_, _%_, _≤_, _<_}
+use Prim.Native.Nat.{ℕ, _+_, _-_, _/_, _%_, _≤_, _<_}
 use mathlib.Core.List.{List, [], _∷_, _++_, map}
-use mathlib.Core.Bool.{Bool, true, false}
 use lib.Dec.{eqb}
 use lib.ListN.{length, take, drop, replicate}
 use Rattle.sifc_err.specs.declared.Token.{Token}

@@ -1,7 +1,6 @@
 -- The next token of a script from an offset on, and the tokens that stepping so gives.
 use Prim.Native.Nat.{ℕ, zero, suc, _+_}
 use mathlib.Core.List.{List, [], _∷_}
-use mathlib.Core.Bool.{Bool, true, false}
 use lib.Dec.{ltb}
 use lib.ListN.{length, drop}
 use Rattle.sifc_err.specs.declared.Token.{Token}

@@ -1,7 +1,7 @@
 -- `sifc_records::push` meets its contract: a walk of its MIR, by hand. The borrow is opened, one element is taken out of the row and stored to, and the borrow is closed at the list with the record in it.
 -- Assumes nothing.
-use mathlib.Core.Path.{_≡_, refl, sym, ap, subst}
-use Prim.Native.Nat.{ℕ, _<_, _≤_, _^_, _*_}
+use mathlib.Core.Path.{refl, sym, ap, subst}
+use Prim.Native.Nat.{ℕ, _<_, _^_, _*_}
 use native.Mathlib.Nat.{lt-trans, lt-of-le-of-lt, le-of-lt, mul-le-mul-right}
 use mathlib.Core.List.{[], _∷_, List}
 use lib.ListN.{length, set, length-set}
