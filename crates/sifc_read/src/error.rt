@@ -47,7 +47,7 @@ fn token_at(offs: &[u32], words: &[u32], i: usize) -> Token
 }
 
 // A reason with its tokens.
-fn ty_of(offs: &[u32], words: &[u32], why: Why) -> ParseErrTy
+pub fn ty_of(offs: &[u32], words: &[u32], why: Why) -> ParseErrTy
     ensures { λ r. ⌜ r ≡ tyOf (bare [] (toksOf (now (offs .entry)) (now (words .entry)))) why ⌝ }
 {
     match why {

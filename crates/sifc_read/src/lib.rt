@@ -1,4 +1,5 @@
-// The reading call on words: the tests of entry, lexing, the walk, and what it leaves in the arrays.
+// The reading call on words: the tests of entry, lexing, the walk, and what it leaves in the arrays. Its
+// parts that the text call and the reading call on records have too are public.
 mod call;
 mod clear;
 mod entry;
@@ -10,3 +11,4 @@ pub use call::after_entry;
 pub use call::reading;
 pub use clear::clear_all;
 pub use entry::entry as entry_tests;
+pub use error::ty_of;

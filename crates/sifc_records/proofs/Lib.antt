@@ -1,0 +1,6 @@
+pub mod Calls
+pub mod Whole
+pub mod Again
+pub mod Shared
+pub mod Turn
+pub mod While

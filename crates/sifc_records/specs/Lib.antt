@@ -1,0 +1,4 @@
+pub mod Records
+pub mod Words
+pub mod Listed
+pub mod RecordLaws
