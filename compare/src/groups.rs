@@ -51,20 +51,28 @@ pub const LONG: Form = Form {
 const DAMAGED_BYTES: usize = 900;
 const DAMAGED_LARGE_BYTES: usize = 65_000;
 
-/// Runs the groups of all calls that the library has; true if nothing failed.
-pub fn run(form: &Form) -> bool {
-    println!("our side: {OURS}");
-    let mut report = Report::default();
-    tokens(&mut report, form);
-    walk(&mut report, form, &Checks::of_library());
-    report.finish()
+/// What a run goes through.
+#[derive(Default)]
+pub struct Run {
+    pub is_long: bool,
+    /// Whether the plain twin is compared; then the tokens call is left out.
+    pub is_twin: bool,
+    /// What the names of its groups have in them.
+    pub only: String,
 }
 
-/// Runs the groups of the reading and the text call on the plain twin.
-pub fn run_twin(form: &Form) -> bool {
-    println!("our side: the plain twin");
-    let mut report = Report::default();
-    walk(&mut report, form, &Checks::of_twin());
+/// Runs the groups of all calls; true if nothing failed.
+pub fn run(run: Run) -> bool {
+    let form = if run.is_long { &LONG } else { &SHORT };
+    let mut report = Report::only(run.only);
+    if run.is_twin {
+        println!("our side: the plain twin");
+        walk(&mut report, form, &Checks::of_twin());
+        return report.finish();
+    }
+    println!("our side: {OURS}");
+    tokens(&mut report, form);
+    walk(&mut report, form, &Checks::of_library());
     report.finish()
 }
 

@@ -22,7 +22,7 @@ pub struct Form {
 
 pub const SHORT: Form = Form { phrases: [2, 3, 4, 4], operations: 4, sound: 3_000, nested: 60 };
 
-pub const LONG: Form = Form { phrases: [4, 5, 7, 7], operations: 6, sound: 300_000, nested: 3_000 };
+pub const LONG: Form = Form { phrases: [4, 5, 6, 6], operations: 6, sound: 200_000, nested: 3_000 };
 
 /// What the random scripts of each group begin from.
 const SEED: u64 = 11;
