@@ -6,11 +6,16 @@ use crate::inputs::{self, Input, MOST};
 use crate::process::Process;
 use crate::sides::{Call, Counts, Side};
 use compare::host::OURS;
+use std::time::{Duration, Instant};
 
 /// How many rounds are timed; the least time of a job counts, which other work on the machine disturbs
 /// least.
 const ROUNDS: usize = 15;
 const SHAPE_ROUNDS: usize = 7;
+
+/// A line of a table has this many rounds at the least, and ends when it has taken so long.
+const LEAST_ROUNDS: usize = 3;
+const LINE_TIME: Duration = Duration::from_secs(3);
 
 /// The Rust is timed on the longest script of a shape that it is likely to read within a second: sizes
 /// double as long as a run takes less than this.
@@ -143,14 +148,15 @@ impl Bench {
     /// Times a shape and prints its line: ours and the twin on the whole script, on half of it and on what
     /// the Rust is timed on.
     fn shape(&mut self, call: Call, at: usize, whole: &Input, half: &Input) {
-        let (rust, small) = self.rust_job(call, at);
+        let (rust, small, mut rust_counts) = self.rust_job(call, at);
         let mut jobs = vec![rust];
-        for input in [whole, half, &small] {
+        for input in [&small, whole, half] {
             let (ours, twin) =
                 (self.job(Side::Ours, call, input), self.job(Side::Twin, call, input));
-            check_counts(&input.name, &[ours.1, twin.1]);
+            check_counts(&input.name, &[std::mem::take(&mut rust_counts), ours.1, twin.1]);
             jobs.extend([ours.0, twin.0]);
         }
+        jobs[1..].rotate_left(2);
         if small.script == whole.script {
             jobs.truncate(5);
         }
@@ -172,14 +178,15 @@ impl Bench {
         self.twin.see(by_twin, of);
     }
 
-    /// The Rust's job on a shape, on the longest script that it reads soon enough, and that script.
-    fn rust_job(&mut self, call: Call, at: usize) -> (Asked, Input) {
+    /// The Rust's job on a shape, on the longest script that it reads soon enough, that script, and what it
+    /// counts.
+    fn rust_job(&mut self, call: Call, at: usize) -> (Asked, Input, Counts) {
         let mut found = None;
         for bytes in RUST_SIZES {
             let input = inputs::worst(bytes).swap_remove(at);
-            let (number, seconds, _) = self.sides[0].job(call, &input);
+            let (number, seconds, counts) = self.sides[0].job(call, &input);
             let bytes = input.script.len();
-            found = Some((Asked { side: Side::Rust, number, bytes }, input));
+            found = Some((Asked { side: Side::Rust, number, bytes }, input, counts));
             if seconds > RUST_SECONDS {
                 break;
             }
@@ -196,7 +203,11 @@ impl Bench {
     fn timed(&mut self, jobs: &[Asked], rounds: usize) -> Vec<Time> {
         let time = |job: &Asked| Time { bytes: job.bytes, seconds: f64::INFINITY };
         let mut times: Vec<Time> = jobs.iter().map(time).collect();
-        for _ in 0..rounds {
+        let start = Instant::now();
+        for round in 0..rounds {
+            if round >= LEAST_ROUNDS && start.elapsed() > LINE_TIME {
+                break;
+            }
             for (job, time) in jobs.iter().zip(&mut times) {
                 time.seconds = time.seconds.min(self.sides[job.side as usize].go(job.number));
             }

@@ -103,12 +103,12 @@ fn many_names(bytes: usize) -> Vec<u8> {
 /// The most parameters of a function.
 const MAX_PARAMS: usize = 64;
 
-/// As many names as fit beside twice as many lookups: the parameters of functions, which all stand on
+/// As many names as fit beside more than twice as many lookups: the parameters of functions, which all stand on
 /// level 1, and a block that looks up those of one letter, which lie anywhere among them.
 fn many_params(bytes: usize) -> Vec<u8> {
     let mut random = Random::new(9);
     let is_name = |name: &String| !WORDS.contains(&name.as_str());
-    let mut names: Vec<String> = (0..bytes / 8).map(name).filter(is_name).collect();
+    let mut names: Vec<String> = (0..bytes / 9).map(name).filter(is_name).collect();
     let short: Vec<String> = (b'a'..=b'z').map(|letter| char::from(letter).to_string()).collect();
     for one in &short {
         let at = random.below(names.len() + 1);
