@@ -26,5 +26,3 @@ compare-long: lib
 
 bench: lib
 	@cargo run -q --release -p bench
-	@cargo run -q --release -p bench -- --reading
-	@cargo run -q --release -p bench -- --stack

@@ -1,25 +1,72 @@
-//! Times the calls: the Rust of docs/src, the proved calls, and their plain twins, on scripts as
-//! suppliers write them, in one run and one process. `bench` times lexing, `bench --reading` reading;
-//! `bench --stack` measures the stack that a reading takes; `bench --write DIR` writes the scripts.
+//! Times the calls: the Rust of docs/src, the proved calls, and their plain twins, each in a process of its
+//! own, on scripts as suppliers write them and on shapes that a reader can be slow at, in one run. `bench`
+//! prints all tables, the instructions for each byte, the stack that calls take, and whether the goals are
+//! met; `bench --instructions [NAME..]` (of the scripts of these names) and `bench --stack` print those alone;
+//! `bench --write DIR` writes the scripts. `bench --side SIDE` is a side's process, and `bench --run SIDE CALL
+//! SCRIPT TIMES` makes a call some times.
 
+mod goals;
 mod inputs;
-mod lexing;
-mod reading;
+mod instructions;
+mod process;
+mod sides;
 mod stack;
+mod tables;
 mod timing;
 
+use sides::Side;
 use std::process::ExitCode;
+
+const USAGE: &str =
+    "usage: bench [--instructions [NAME..] | --stack | --write DIR | --side SIDE | \
+    --run SIDE CALL SCRIPT TIMES]";
 
 fn main() -> ExitCode {
     let words: Vec<String> = std::env::args().skip(1).collect();
     match words.iter().map(String::as_str).collect::<Vec<_>>()[..] {
-        [] => lexing::time_all(),
-        ["--reading"] => reading::time_all(),
-        ["--stack"] => stack::measure_all(),
-        ["--write", folder] => inputs::write_all(folder),
-        _ => {
-            eprintln!("usage: bench [--reading | --stack | --write DIR]");
-            ExitCode::from(2)
+        [] => all(),
+        ["--instructions"] => {
+            instructions::table();
+            ExitCode::SUCCESS
         }
+        ["--instructions", ref names @ ..] => {
+            instructions::table_of_named(names);
+            ExitCode::SUCCESS
+        }
+        ["--stack"] => {
+            stack::measure_all();
+            ExitCode::SUCCESS
+        }
+        ["--write", folder] => inputs::write_all(folder),
+        ["--side", side] => served(side),
+        ["--run", side, call, script, times] => {
+            reference::run(|| instructions::run(side, call, script, times))
+        }
+        _ => usage(),
     }
+}
+
+/// Everything, and the verdicts last.
+fn all() -> ExitCode {
+    let mut bench = tables::Bench::start();
+    bench.tables();
+    instructions::table();
+    println!();
+    stack::measure_all();
+    if bench.verdicts() {
+        return ExitCode::SUCCESS;
+    }
+    ExitCode::FAILURE
+}
+
+fn served(side: &str) -> ExitCode {
+    match Side::of(side) {
+        Some(side) => reference::run(|| process::serve(side)),
+        None => usage(),
+    }
+}
+
+fn usage() -> ExitCode {
+    eprintln!("{USAGE}");
+    ExitCode::from(2)
 }

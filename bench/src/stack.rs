@@ -1,11 +1,9 @@
-//! Measures the stack that a reading takes: it runs in a thread whose stack lies in memory of ours, which
-//! is full of a pattern beforehand.
+//! Measures the stack that a reading and a text call take: each runs in a thread whose stack lies in memory
+//! of ours, which is full of a pattern beforehand.
 
-use crate::reading::Memory;
-use compare::host::{ReadingCall, OURS, READING, TWIN_READING};
+use crate::sides::{Call, Job, Side};
 use compare::scripts::nesting;
 use std::ffi::{c_int, c_void};
-use std::process::ExitCode;
 
 /// What fills the stack beforehand, and its length in words.
 const PATTERN: u64 = 0xA5A5_5A5A_A5A5_5A5A;
@@ -30,25 +28,18 @@ extern "C" {
     fn pthread_join(thread: usize, result: *mut *mut c_void) -> c_int;
 }
 
-/// What a thread does: the call on a script, or nothing.
-struct Job<'a> {
-    call: Option<ReadingCall>,
-    script: &'a [u8],
-    memory: Memory,
-}
-
 /// Prints the most stack that each call takes on scripts that nest as deep as is read, and deeper.
-pub fn measure_all() -> ExitCode {
-    println!("The most stack that a reading takes, in bytes, on scripts nested about the limit.");
-    println!("Our side: {OURS}.");
-    for (name, call) in [("ours", READING), ("twin", TWIN_READING)] {
-        let mut most = (0, String::new());
-        nesting::around_limit(false, |script| {
-            most = (taken(call, script), shown(script)).max(most.clone())
-        });
-        println!("{name}: {}, on {}..", most.0, most.1);
+pub fn measure_all() {
+    println!("The most stack that a call takes, in bytes, on scripts nested about the limit.");
+    for call in [Call::Reading, Call::Text] {
+        for side in [Side::Ours, Side::Twin] {
+            let mut most = (0, String::new());
+            nesting::around_limit(false, |script| {
+                most = (taken(side, call, script), shown(script)).max(most.clone())
+            });
+            println!("{}, {}: {}, on {}..", call.name(), side.name(), most.0, most.1);
+        }
     }
-    ExitCode::SUCCESS
 }
 
 /// How a script begins.
@@ -57,13 +48,13 @@ fn shown(script: &[u8]) -> String {
 }
 
 /// The bytes that a call takes beyond those of a thread that does nothing.
-fn taken(call: ReadingCall, script: &[u8]) -> usize {
-    let used = |call| used(Job { call, script, memory: Memory::new(script) });
-    used(Some(call)) - used(None)
+fn taken(side: Side, call: Call, script: &[u8]) -> usize {
+    let job = Job::new(side, call, script.to_vec(), script.len());
+    used(Some(job)) - used(None)
 }
 
-/// The bytes of the stack that a thread with this job has written to.
-fn used(mut job: Job) -> usize {
+/// The bytes of the stack that a thread with this job, or none, has written to.
+fn used(mut job: Option<Job>) -> usize {
     let mut stack = vec![PATTERN; STACK_WORDS];
     let mut attributes = Attributes([0; 64]);
     let mut thread = 0;
@@ -72,7 +63,7 @@ fn used(mut job: Job) -> usize {
         assert_eq!(pthread_attr_init(&mut attributes), 0);
         let (at, len) = (stack.as_mut_ptr().cast(), 8 * STACK_WORDS);
         assert_eq!(pthread_attr_setstack(&mut attributes, at, len), 0);
-        let job: *mut Job = &mut job;
+        let job: *mut Option<Job> = &mut job;
         assert_eq!(pthread_create(&mut thread, &attributes, start, job.cast()), 0);
         assert_eq!(pthread_join(thread, std::ptr::null_mut()), 0);
     }
@@ -83,9 +74,8 @@ fn used(mut job: Job) -> usize {
 
 extern "C" fn start(job: *mut c_void) -> *mut c_void {
     // SAFETY: `used` hands over its job, and waits for the end of the thread.
-    let Job { call, script, memory } = unsafe { &mut *job.cast::<Job>() };
-    if let Some(call) = call {
-        call(script, memory.arrays());
+    if let Some(job) = unsafe { &mut *job.cast::<Option<Job>>() } {
+        job.run();
     }
     std::ptr::null_mut()
 }

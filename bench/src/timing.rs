@@ -1,56 +1,55 @@
-//! Timing of several jobs in turn, so that a change in the machine's load meets all of them.
+//! Timing of a job.
 
+use crate::sides::Job;
 use std::hint::black_box;
 use std::time::{Duration, Instant};
 
-/// How many rounds are timed; the median of them counts.
-const ROUNDS: usize = 25;
-
 /// The least time that a job gets in a round: a short one is repeated.
-const JOB_TIME: Duration = Duration::from_millis(10);
+const JOB_TIME: Duration = Duration::from_millis(2);
 
 /// A job, and how often a round repeats it.
-struct Timed<'a> {
-    job: &'a mut dyn FnMut() -> usize,
+pub struct Timed {
+    job: Job,
     repeats: u32,
+    is_warm: bool,
 }
 
-impl Timed<'_> {
-    /// Runs the job to warm it up, until it is known how many repeats fill its time.
-    fn new(job: &mut dyn FnMut() -> usize) -> Timed<'_> {
-        let mut timed = Timed { job, repeats: 1 };
-        while timed.seconds() * f64::from(timed.repeats) < JOB_TIME.as_secs_f64() {
-            timed.repeats *= 2;
-        }
-        timed
+impl Timed {
+    pub fn new(job: Job) -> Timed {
+        Timed { job, repeats: 1, is_warm: false }
     }
 
-    /// The seconds that one run takes, by one round.
-    fn seconds(&mut self) -> f64 {
+    /// The seconds that one run takes, by one round. The first round begins with runs that warm the job up,
+    /// until it is known how many repeats fill its time.
+    pub fn seconds(&mut self) -> f64 {
+        while !self.is_warm {
+            self.is_warm = self.once() * f64::from(self.repeats) >= JOB_TIME.as_secs_f64();
+            if !self.is_warm {
+                self.repeats *= 2;
+            }
+        }
+        self.once()
+    }
+
+    fn once(&mut self) -> f64 {
         let start = Instant::now();
         for _ in 0..self.repeats {
-            black_box((self.job)());
+            black_box(self.job.run());
         }
         start.elapsed().as_secs_f64() / f64::from(self.repeats)
     }
 }
 
-/// The seconds that a job takes, run once.
-pub fn once(job: impl FnOnce() -> usize) -> f64 {
-    let start = Instant::now();
-    black_box(job());
-    start.elapsed().as_secs_f64()
-}
+#[cfg(test)]
+mod tests {
+    use super::*;
+    use crate::sides::{Call, Side};
 
-/// The seconds that one run of each job takes, a line for each round.
-pub fn rounds<const N: usize>(jobs: [&mut dyn FnMut() -> usize; N]) -> Vec<[f64; N]> {
-    let mut jobs = jobs.map(Timed::new);
-    (0..ROUNDS).map(|_| jobs.each_mut().map(Timed::seconds)).collect()
-}
-
-/// The median of what is computed from each round.
-pub fn median<const N: usize>(rounds: &[[f64; N]], of: impl Fn(&[f64; N]) -> f64) -> f64 {
-    let mut values: Vec<f64> = rounds.iter().map(of).collect();
-    values.sort_by(f64::total_cmp);
-    values[values.len() / 2]
+    #[test]
+    fn a_job_fills_its_time() {
+        let script = b"var a = 1;".to_vec();
+        let mut timed = Timed::new(Job::new(Side::Twin, Call::Reading, script, 10));
+        assert!(timed.seconds() > 0.0);
+        assert!(timed.is_warm && timed.repeats > 1);
+    }
 }

@@ -1,13 +1,16 @@
 //! The groups of scripts that a run goes through, in the short and in the long form.
 
+mod checks;
 mod reading;
+mod text;
 
-use crate::host::{OURS, READING, TWIN_READING};
+use crate::host::OURS;
 use crate::report::{Report, Tally};
 use crate::scripts::random::Random;
 use crate::scripts::short::{self, ARMS, FEWER};
 use crate::scripts::{damaged, limits, soup};
 use crate::tokens::{check_all_rooms, check_script};
+use checks::Checks;
 
 /// How much of each group a form has.
 pub struct Form {
@@ -19,6 +22,7 @@ pub struct Form {
     pub damaged: usize,
     pub damaged_large: usize,
     pub reading: reading::Form,
+    pub text: text::Form,
 }
 
 pub const SHORT: Form = Form {
@@ -29,6 +33,7 @@ pub const SHORT: Form = Form {
     damaged: 20_000,
     damaged_large: 40,
     reading: reading::SHORT,
+    text: text::SHORT,
 };
 
 pub const LONG: Form = Form {
@@ -39,27 +44,43 @@ pub const LONG: Form = Form {
     damaged: 500_000,
     damaged_large: 2_000,
     reading: reading::LONG,
+    text: text::LONG,
 };
 
 /// The sizes of damaged scripts.
 const DAMAGED_BYTES: usize = 900;
 const DAMAGED_LARGE_BYTES: usize = 65_000;
 
-/// Runs the groups of all calls that the library has; true if nothing failed.
-pub fn run(form: &Form) -> bool {
+/// What a run goes through.
+#[derive(Default)]
+pub struct Run {
+    pub is_long: bool,
+    /// Whether the plain twin is compared; then the tokens call is left out.
+    pub is_twin: bool,
+    /// What the names of its groups have in them.
+    pub only: String,
+}
+
+/// Runs the groups of all calls; true if nothing failed.
+pub fn run(run: Run) -> bool {
+    let form = if run.is_long { &LONG } else { &SHORT };
+    let mut report = Report::only(run.only);
+    if run.is_twin {
+        println!("our side: the plain twin");
+        walk(&mut report, form, &Checks::of_twin());
+        return report.finish();
+    }
     println!("our side: {OURS}");
-    let mut report = Report::default();
     tokens(&mut report, form);
-    reading::run(&mut report, &form.reading, READING);
+    walk(&mut report, form, &Checks::of_library());
     report.finish()
 }
 
-/// Runs the groups of the reading call on the plain twin.
-pub fn run_twin(form: &Form) -> bool {
-    println!("our side: the plain twin");
-    let mut report = Report::default();
-    reading::run(&mut report, &form.reading, TWIN_READING);
-    report.finish()
+/// The groups of the reading and the text call. Both are checked on every script of either.
+fn walk(report: &mut Report, form: &Form, checks: &Checks) {
+    reading::run(report, &form.reading, checks);
+    text::run(report, &form.text, checks);
+    checks.tell();
 }
 
 /// The groups of the tokens call.

@@ -3,7 +3,7 @@
 #[cfg(feature = "stand-in")]
 use twin::tokens as call;
 
-pub use twin::{Answer as ReadingAnswer, Arrays, Early};
+pub use twin::{Answer as ReadingAnswer, Arrays, Early, TextAnswer};
 
 /// A reading call: a script and the arrays that it is lent.
 pub type ReadingCall = fn(&[u8], Arrays<'_>) -> ReadingAnswer;
@@ -17,15 +17,34 @@ pub const READING: ReadingCall = twin::reading;
 /// The reading call of the plain twin.
 pub const TWIN_READING: ReadingCall = twin::reading;
 
+/// A text call: a script, the arrays of a reading, and the buffer for the text.
+pub type TextCall = fn(&[u8], Arrays<'_>, &mut [u8]) -> TextAnswer;
+
+/// The text call of the plain twin.
+pub const TWIN_TEXT: TextCall = twin::text;
+
+/// Whether the static library has the text call. As long as it has none, the twin's stands in its place.
+#[cfg(not(feature = "stand-in"))]
+const HAS_TEXT: bool = false;
+
+/// The text call of the static library.
+#[cfg(not(feature = "stand-in"))]
+pub const TEXT: TextCall = if HAS_TEXT { text } else { TWIN_TEXT };
+#[cfg(feature = "stand-in")]
+pub const TEXT: TextCall = TWIN_TEXT;
+
 /// What stands where no error ended the reading.
 pub const NO_ERROR: Early = Early { place: 0, reason: 0 };
 
 /// What answers the calls, for reports.
-pub const OURS: &str = if cfg!(feature = "stand-in") {
-    "the plain twin, in the place of the static library"
-} else {
+#[cfg(not(feature = "stand-in"))]
+pub const OURS: &str = if HAS_TEXT {
     "the static library"
+} else {
+    "the static library; for the text call, which it does not have yet, the plain twin"
 };
+#[cfg(feature = "stand-in")]
+pub const OURS: &str = "the plain twin, in the place of the static library";
 
 /// What a call answers beside the arrays; number 0 where it does not refuse.
 #[derive(Clone, Copy, Debug, PartialEq)]
@@ -125,6 +144,30 @@ extern "C" {
         kind: *mut u32,
         offset: *mut usize,
     ) -> u32;
+
+    fn sif_text(
+        script: *const u8,
+        script_len: usize,
+        offs: *mut u32,
+        offs_len: usize,
+        words: *mut u32,
+        words_len: usize,
+        heads: *mut u32,
+        heads_len: usize,
+        loads: *mut u32,
+        loads_len: usize,
+        symbols: *mut u32,
+        symbols_len: usize,
+        places: *mut u32,
+        places_len: usize,
+        reasons: *mut u32,
+        reasons_len: usize,
+        text: *mut u8,
+        text_len: usize,
+        count: *mut usize,
+        kind: *mut u32,
+        offset: *mut usize,
+    ) -> u32;
 }
 
 /// The reading call.
@@ -169,7 +212,6 @@ fn reading(script: &[u8], arrays: Arrays<'_>) -> ReadingAnswer {
             &mut offset,
         )
     };
-    let word = |count: usize| u32::try_from(count).unwrap_or(WRONG);
     ReadingAnswer {
         number: if flag > 1 { WRONG } else { number },
         kind,
@@ -180,6 +222,48 @@ fn reading(script: &[u8], arrays: Arrays<'_>) -> ReadingAnswer {
         flag: flag == 1,
         early: early.words(offs),
     }
+}
+
+/// The text call.
+#[cfg(not(feature = "stand-in"))]
+fn text(script: &[u8], arrays: Arrays<'_>, text: &mut [u8]) -> TextAnswer {
+    let Arrays { offs, words, heads, loads, symbols, places, reasons } = arrays;
+    let [mut count, mut offset] = [UNWRITTEN as usize; 2];
+    let mut kind = UNWRITTEN;
+    // SAFETY: each pointer comes from a reference and has the length that goes with it, and the call
+    // has no further requirement.
+    let number = unsafe {
+        sif_text(
+            script.as_ptr(),
+            script.len(),
+            offs.as_mut_ptr(),
+            offs.len(),
+            words.as_mut_ptr(),
+            words.len(),
+            heads.as_mut_ptr(),
+            heads.len(),
+            loads.as_mut_ptr(),
+            loads.len(),
+            symbols.as_mut_ptr(),
+            symbols.len(),
+            places.as_mut_ptr(),
+            places.len(),
+            reasons.as_mut_ptr(),
+            reasons.len(),
+            text.as_mut_ptr(),
+            text.len(),
+            &mut count,
+            &mut kind,
+            &mut offset,
+        )
+    };
+    TextAnswer { number, kind, offset: word(offset), count: word(count) }
+}
+
+/// A count or an offset as an answer has it.
+#[cfg(not(feature = "stand-in"))]
+fn word(count: usize) -> u32 {
+    u32::try_from(count).unwrap_or(WRONG)
 }
 
 #[cfg(not(feature = "stand-in"))]

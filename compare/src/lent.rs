@@ -4,15 +4,33 @@
 const GUARD: usize = 8;
 
 #[derive(Clone)]
-pub struct Lent {
-    whole: Vec<u32>,
+pub struct Lent<T = u32> {
+    whole: Vec<T>,
     salt: u32,
 }
 
-impl Lent {
+/// An element of a lent array.
+pub trait Element: Copy + PartialEq + Default {
+    /// What stands at an index beforehand: never 0, so that a cleared element differs from an untouched one.
+    fn junk(at: usize, salt: u32) -> Self;
+}
+
+impl Element for u32 {
+    fn junk(at: usize, salt: u32) -> u32 {
+        (at as u32).wrapping_mul(0x9E37_79B9).wrapping_add(salt) | 1
+    }
+}
+
+impl Element for u8 {
+    fn junk(at: usize, salt: u32) -> u8 {
+        (u32::junk(at, salt) >> 24) as u8 | 1
+    }
+}
+
+impl<T: Element> Lent<T> {
     /// An array of `len` elements; the salt varies the junk.
-    pub fn new(len: usize, salt: u32) -> Lent {
-        let whole = (0..len + 2 * GUARD).map(|at| junk(at, salt)).collect();
+    pub fn new(len: usize, salt: u32) -> Lent<T> {
+        let whole = (0..len + 2 * GUARD).map(|at| T::junk(at, salt)).collect();
         Lent { whole, salt }
     }
 
@@ -20,23 +38,23 @@ impl Lent {
         self.whole.len() - 2 * GUARD
     }
 
-    pub fn elements(&self) -> &[u32] {
+    pub fn elements(&self) -> &[T] {
         &self.whole[GUARD..GUARD + self.len()]
     }
 
-    pub fn elements_mut(&mut self) -> &mut [u32] {
+    pub fn elements_mut(&mut self) -> &mut [T] {
         let len = self.len();
         &mut self.whole[GUARD..GUARD + len]
     }
 
     /// Guards and elements, for a test that alters one of them.
     #[cfg(test)]
-    pub fn whole(&self) -> &[u32] {
+    pub fn whole(&self) -> &[T] {
         &self.whole
     }
 
     #[cfg(test)]
-    pub fn whole_mut(&mut self) -> &mut [u32] {
+    pub fn whole_mut(&mut self) -> &mut [T] {
         &mut self.whole
     }
 
@@ -53,23 +71,18 @@ impl Lent {
 
     /// Every element from an index on is 0.
     pub fn zero_from(&self, from: usize) -> Result<(), String> {
-        match self.elements()[from..].iter().position(|&word| word != 0) {
+        match self.elements()[from..].iter().position(|&element| element != T::default()) {
             Some(at) => Err(format!("element {} is not 0", from + at)),
             None => Ok(()),
         }
     }
 
     fn kept(&self, mut part: std::ops::Range<usize>) -> Result<(), String> {
-        match part.find(|&at| self.whole[at] != junk(at, self.salt)) {
+        match part.find(|&at| self.whole[at] != T::junk(at, self.salt)) {
             Some(at) => Err(format!("element {} was touched", at as isize - GUARD as isize)),
             None => Ok(()),
         }
     }
-}
-
-/// What stands at an index beforehand: never 0, so that a cleared element differs from an untouched one.
-fn junk(at: usize, salt: u32) -> u32 {
-    (at as u32).wrapping_mul(0x9E37_79B9).wrapping_add(salt) | 1
 }
 
 /// Values of which none is the word, for a test that alters it.

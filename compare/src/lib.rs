@@ -1,7 +1,7 @@
 //! The comparison: the proved calls and the Rust of docs/src on the same scripts.
 //!
-//! `scripts` makes the scripts, `host` calls the static library, and `tokens` and `reading` judge its
-//! answers by what `reference` says. `groups` runs all of this; `list` keeps a sample of the Rust's
+//! `scripts` makes the scripts, `host` calls the static library, and `tokens`, `reading` and `text` judge
+//! its answers by what `reference` says. `groups` runs all of this; `list` keeps a sample of the Rust's
 //! answers.
 
 pub mod groups;
@@ -11,4 +11,5 @@ pub mod list;
 pub mod reading;
 mod report;
 pub mod scripts;
+pub mod text;
 pub mod tokens;

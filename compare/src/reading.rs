@@ -4,7 +4,7 @@ use crate::host::{Arrays, ReadingAnswer, ReadingCall, NO_ERROR};
 use crate::lent::Lent;
 use crate::tokens::{self, same};
 use reference::{
-    reading, tokens as lexed, Carries, End, Ending, Error, Event, Node, Read, Reading,
+    reading, tokens as lexed, Carries, End, Ending, Error, Event, Lexed, Node, Read, Reading,
 };
 
 /// The kind of a lexing panic that the walk does not reach.
@@ -48,7 +48,7 @@ struct Filled {
 }
 
 /// What document 01 asks of a call.
-enum Wanted<'a> {
+pub(crate) enum Wanted<'a> {
     Untouched(ReadingAnswer),
     Cleared(ReadingAnswer),
     Read(&'a Read),
@@ -81,6 +81,28 @@ impl Case<'_> {
             _ => Filled::default(),
         };
         Case { tokens, rust, filled }
+    }
+
+    pub fn script(&self) -> &[u8] {
+        self.tokens.script
+    }
+
+    /// The tokens, as the Rust lexes them.
+    pub fn lexed(&self) -> &Lexed {
+        &self.tokens.rust
+    }
+
+    /// How the Rust's reading ended.
+    pub fn end(&self) -> &End {
+        &self.rust.end
+    }
+
+    /// What the Rust read, if the flag is down.
+    pub fn flag_down(&self) -> Option<&Read> {
+        match &self.rust.end {
+            End::Read(read) if !read.flag => Some(read),
+            _ => None,
+        }
     }
 
     /// What a reading needs that is refused at most for the script itself.
@@ -125,13 +147,10 @@ impl Case<'_> {
     }
 
     /// Makes the call; answers what it answers, and the arrays after it.
-    fn called(&self, call: ReadingCall, rooms: Rooms) -> (ReadingAnswer, [Lent; 7]) {
+    pub(crate) fn called(&self, call: ReadingCall, rooms: Rooms) -> (ReadingAnswer, [Lent; 7]) {
         let salt = self.tokens.salt(rooms.0[2]);
         let mut lent = rooms.0.map(|len| Lent::new(len, salt ^ len as u32));
-        let [offs, words, heads, loads, symbols, places, reasons] =
-            lent.each_mut().map(Lent::elements_mut);
-        let arrays = Arrays { offs, words, heads, loads, symbols, places, reasons };
-        (call(self.tokens.script, arrays), lent)
+        (call(self.tokens.script, arrays_of(&mut lent)), lent)
     }
 
     /// Judges an answer and the arrays after the call.
@@ -148,14 +167,19 @@ impl Case<'_> {
             }
             Wanted::Read(read) => {
                 same("answer", answer, self.answer(read))?;
-                self.judge_tokens(&lent[0], &lent[1])?;
-                self.judge_rest(lent)
+                self.judge_read(lent)
             }
         }
     }
 
+    /// Judges the arrays after a call that read the script.
+    pub(crate) fn judge_read(&self, lent: &[Lent; 7]) -> Result<(), String> {
+        self.judge_tokens(&lent[0], &lent[1])?;
+        self.judge_rest(lent)
+    }
+
     /// The outcome by document 01's table, from its first row down.
-    fn wanted(&self, rooms: Rooms) -> Result<Wanted<'_>, String> {
+    pub(crate) fn wanted(&self, rooms: Rooms) -> Result<Wanted<'_>, String> {
         if let Some(entry) = self.tokens.entry {
             return Ok(Wanted::Untouched(refusal(entry.number, entry.kind, entry.offset as usize)));
         }
@@ -215,6 +239,13 @@ impl Case<'_> {
         }
         symbols.zero_from(0)
     }
+}
+
+/// Seven arrays as a call takes them.
+pub(crate) fn arrays_of(lent: &mut [Lent; 7]) -> Arrays<'_> {
+    let [offs, words, heads, loads, symbols, places, reasons] =
+        lent.each_mut().map(Lent::elements_mut);
+    Arrays { offs, words, heads, loads, symbols, places, reasons }
 }
 
 impl Filled {
@@ -285,18 +316,14 @@ fn refusal(number: u32, kind: u32, offset: usize) -> ReadingAnswer {
     ReadingAnswer { number, kind, offset, tokens: 0, nodes: 0, errors: 0, flag: false, early }
 }
 
-/// Checks the reading call on a script with the usual arrays; answers the name of its ending.
-pub fn check_script(call: ReadingCall, script: &[u8]) -> Result<&'static str, String> {
-    let case = Case::new(script);
-    rooms::usual(&case).into_iter().try_for_each(|rooms| case.check(call, rooms))?;
-    Ok(case.ending())
+/// Checks the reading call on a script with the usual arrays.
+pub fn check_case(call: ReadingCall, case: &Case) -> Result<(), String> {
+    rooms::usual(case).into_iter().try_for_each(|rooms| case.check(call, rooms))
 }
 
 /// The same with rooms of every size up to one more than the script needs.
-pub fn check_all_rooms(call: ReadingCall, script: &[u8]) -> Result<&'static str, String> {
-    let case = Case::new(script);
-    rooms::every(&case).into_iter().try_for_each(|rooms| case.check(call, rooms))?;
-    Ok(case.ending())
+pub fn check_all_rooms(call: ReadingCall, case: &Case) -> Result<(), String> {
+    rooms::every(case).into_iter().try_for_each(|rooms| case.check(call, rooms))
 }
 
 pub mod listing;

@@ -7,10 +7,11 @@ use std::time::Instant;
 pub struct Report {
     passed: u64,
     failed: u64,
+    only: String,
 }
 
-/// The counts of one group: the scripts that passed, by how the Rust's lexing of them ended, and
-/// those that failed.
+/// The counts of one group: the scripts that passed, by how the Rust's lexing or reading of them ended,
+/// and those that failed.
 #[derive(Default)]
 pub struct Tally {
     passed: BTreeMap<&'static str, u64>,
@@ -22,8 +23,16 @@ pub struct Tally {
 const SHOWN_BYTES: usize = 2_000;
 
 impl Report {
+    /// A report of the groups whose names have this in them.
+    pub fn only(only: String) -> Report {
+        Report { only, ..Report::default() }
+    }
+
     /// Runs a group and prints its line.
     pub fn group(&mut self, name: &str, run: impl FnOnce(&mut Tally)) {
+        if !name.contains(&self.only) {
+            return;
+        }
         let start = Instant::now();
         let mut tally = Tally::default();
         run(&mut tally);
@@ -82,6 +91,14 @@ mod tests {
         assert!(report.finish());
         report.group("wrong", |tally| tally.add(b"b\n", Err("kind".to_string())));
         assert!(!report.finish());
+    }
+
+    #[test]
+    fn groups_of_other_names_do_not_run() {
+        let mut report = Report::only("text:".to_string());
+        report.group("reading: a", |_| panic!("it runs"));
+        report.group("text: a", |tally| tally.add(b"a", Ok("Eof")));
+        assert_eq!((report.passed, report.failed), (1, 0));
     }
 
     #[test]

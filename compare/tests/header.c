@@ -10,3 +10,11 @@ uint32_t (*const reading)(const uint8_t *, size_t, uint32_t *, size_t, uint32_t 
                           size_t *, size_t *, size_t *, uint32_t *,
                           size_t *, size_t *, uint32_t *, size_t *, size_t *,
                           uint32_t *, size_t *) = sif_reading;
+
+uint32_t (*const text)(const uint8_t *, size_t, uint32_t *, size_t, uint32_t *, size_t,
+                       uint32_t *, size_t, uint32_t *, size_t, uint32_t *, size_t,
+                       uint32_t *, size_t, uint32_t *, size_t, uint8_t *, size_t,
+                       size_t *, uint32_t *, size_t *) = sif_text;
+
+_Static_assert(SIF_NONE == 0 && SIF_ERRORS_FULL == 9, "the refusals of a reading");
+_Static_assert(SIF_FLAGGED == 10 && SIF_TEXT_FULL == 11, "the refusals of a text call");

@@ -11,7 +11,7 @@ use crate::token::{self, IDENT, STR};
 const OR: u32 = 7;
 
 /// The level that reads a binary operator, 1 for mod_expr to 7 for or_expr; 0 for what is none.
-fn looseness(kind: u32) -> u32 {
+pub fn looseness(kind: u32) -> u32 {
     match kind {
         token::PERCENT => 1,
         token::STAR | token::SLASH => 2,

@@ -1,4 +1,4 @@
-//! The plain twin: the tokens call and the reading call written in ordinary Rust, with nothing proved.
+//! The plain twin: the tokens, the reading and the text call written in ordinary Rust, with nothing proved.
 //! The benchmark times it beside the proved calls, and the comparison can be run on it. The files are
 //! named after those of the Rust. All calls work in the arrays that they are lent.
 
@@ -10,6 +10,7 @@ mod parser;
 mod reserved;
 mod symtab;
 mod token;
+mod writer;
 
 pub use parse_err::Early;
 
@@ -49,6 +50,15 @@ pub struct Answer {
     pub early: Early,
 }
 
+/// What a text call answers: the refusal's number, kind and offset, or zeros; and the text's length.
+#[derive(Clone, Copy, Debug, PartialEq)]
+pub struct TextAnswer {
+    pub number: u32,
+    pub kind: u32,
+    pub offset: u32,
+    pub count: u32,
+}
+
 /// The tokens call with the arguments of `sif_tokens` in include/sif.h.
 pub fn tokens(
     script: &[u8],
@@ -78,6 +88,37 @@ pub fn reading(script: &[u8], mut arrays: Arrays) -> Answer {
     let answer = result.unwrap_or_else(refused);
     arrays.clear_past(answer);
     answer
+}
+
+/// The text call: reads a script, and writes its canonical text to the front of a buffer.
+pub fn text(script: &[u8], mut arrays: Arrays, text: &mut [u8]) -> TextAnswer {
+    if let Err(refusal) = check_entry(script, arrays.are_even()) {
+        return text_refused(refusal);
+    }
+    arrays.symbols.fill(0);
+    let result = read(script, &mut arrays).and_then(|answer| {
+        let count = write_read(script, &arrays, answer, text)?;
+        Ok((answer, TextAnswer { count: count as u32, ..text_refused(Refusal::plain(0)) }))
+    });
+    let (answer, told) = result.unwrap_or_else(|refusal| (refused(refusal), text_refused(refusal)));
+    arrays.clear_past(answer);
+    text[told.count as usize..].fill(0);
+    told
+}
+
+/// The writing of a script that was read, or refusal 10 if its flag is up; answers the text's length.
+fn write_read(
+    script: &[u8],
+    arrays: &Arrays,
+    answer: Answer,
+    text: &mut [u8],
+) -> Result<usize, Refusal> {
+    if answer.flag {
+        return Err(Refusal::plain(10));
+    }
+    let (tokens, nodes) = (answer.tokens as usize, answer.nodes as usize);
+    let tokens = Tokens { script, offs: &arrays.offs[..tokens], words: &arrays.words[..tokens] };
+    writer::write(tokens, &arrays.heads[..nodes], &arrays.loads[..nodes], text)
 }
 
 /// Refusals 1 to 3, which touch nothing.
@@ -134,6 +175,11 @@ fn refused(Refusal(number, kind, offset): Refusal) -> Answer {
     let early = Early { place: 0, reason: 0 };
     let offset = offset as u32;
     Answer { number, kind, offset, tokens: 0, nodes: 0, errors: 0, flag: false, early }
+}
+
+/// The same of a text call.
+fn text_refused(Refusal(number, kind, offset): Refusal) -> TextAnswer {
+    TextAnswer { number, kind, offset: offset as u32, count: 0 }
 }
 
 impl Arrays<'_> {

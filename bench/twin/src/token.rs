@@ -72,12 +72,18 @@ impl<'a> Tokens<'a> {
         self.offs[index] as usize
     }
 
+    /// A token's bytes in the script.
+    pub fn text(&self, index: usize) -> &'a [u8] {
+        let (at, len) = (self.offset(index), self.words[index] as usize / 64);
+        &self.script[at..at + len]
+    }
+
     /// get_name: a name, or a string without its quotes.
     pub fn name(&self, index: usize) -> &'a [u8] {
-        let (at, len) = (self.offset(index), self.words[index] as usize / 64);
+        let text = self.text(index);
         if self.kind(index) == STR {
-            return &self.script[at + 1..at + len - 1];
+            return &text[1..text.len() - 1];
         }
-        &self.script[at..at + len]
+        text
     }
 }

@@ -1,8 +1,8 @@
-//! The groups of scripts on which the reading call is compared.
+//! The groups of scripts on which the reading call is compared; the text call is checked on them too.
 
+use super::checks::Checks;
 use super::{repeat, Maker};
-use crate::host::ReadingCall;
-use crate::reading::{check_all_rooms, check_script, vectors};
+use crate::reading::vectors;
 use crate::report::Report;
 use crate::scripts::phrases::{
     BRACKETS, CORE, FEWER_PARTS, OPERATORS, PARTS, ROUND_EXPRESSION, SUFFIXES, WIDE,
@@ -57,25 +57,24 @@ const SEED: u64 = 7;
 const DAMAGED_BYTES: usize = 700;
 const LARGE_BYTES: usize = 30_000;
 
-pub fn run(report: &mut Report, form: &Form, call: ReadingCall) {
+pub fn run(report: &mut Report, form: &Form, checks: &Checks) {
     report.group("reading: worked cases", |tally| {
-        vectors::VECTORS
-            .iter()
-            .for_each(|vector| tally.add(vector.0, vectors::check(call, vector)));
+        for vector in vectors::VECTORS {
+            let told = vectors::check(checks.calls.reading, vector);
+            tally.add(vector.0, told.and_then(|()| checks.script(vector.0)));
+        }
     });
-    phrases(report, form, call);
-    random_scripts(report, form, call);
-    at_limits(report, form, call);
+    phrases(report, form, checks);
+    random_scripts(report, form, checks);
+    at_limits(report, form, checks);
 }
 
 /// Every short phrase over reduced alphabets.
-fn phrases(report: &mut Report, form: &Form, call: ReadingCall) {
+fn phrases(report: &mut Report, form: &Form, checks: &Checks) {
     let mut every = |name: &str, words: &[&str], round: [&str; 2], longest: usize| {
         let name = format!("reading: every phrase of up to {longest} of {} {name}", words.len());
         report.group(&name, |tally| {
-            every_phrase(words, longest, round, |script| {
-                tally.add(script, check_script(call, script))
-            });
+            every_phrase(words, longest, round, |script| tally.add(script, checks.script(script)));
         });
     };
     let [wide, core, suffixes, brackets, operators, parts, fewer_parts] = form.phrases;
@@ -87,14 +86,14 @@ fn phrases(report: &mut Report, form: &Form, call: ReadingCall) {
     every("parts of statements", &PARTS, ["", ""], parts);
     every("parts of statements, fewer", &FEWER_PARTS, ["", ""], fewer_parts);
     report.group("reading: every short script over bytes that reach every arm", |tally| {
-        short::every(ARMS, form.arms_len, |script| tally.add(script, check_script(call, script)));
+        short::every(ARMS, form.arms_len, |script| tally.add(script, checks.script(script)));
     });
 }
 
-fn random_scripts(report: &mut Report, form: &Form, call: ReadingCall) {
+fn random_scripts(report: &mut Report, form: &Form, checks: &Checks) {
     let mut group = |name: &str, count: usize, make: Maker| {
         report.group(&format!("reading: {name}"), |tally| {
-            repeat(tally, count, SEED, make, |script| check_script(call, script));
+            repeat(tally, count, SEED, make, |script| checks.script(script));
         });
     };
     group("scripts by the grammar", form.random, &grammar::script);
@@ -109,15 +108,15 @@ fn random_scripts(report: &mut Report, form: &Form, call: ReadingCall) {
     group("damaged large scripts", form.large, &|random| damaged::damaged(random, LARGE_BYTES));
     group("mixed nesting about the limit", form.nested, &nesting::mixed);
     report.group("reading: arrays of every small size", |tally| {
-        let check = |script: &[u8]| check_all_rooms(call, script);
+        let check = |script: &[u8]| checks.all_rooms(script);
         limits::SMALL.iter().for_each(|script| tally.add(script, check(script)));
         vectors::VECTORS.iter().for_each(|(script, ..)| tally.add(script, check(script)));
         repeat(tally, form.all_rooms, SEED, &grammar::mutated, check);
     });
 }
 
-fn at_limits(report: &mut Report, form: &Form, call: ReadingCall) {
-    let check = |script: &[u8]| check_script(call, script);
+fn at_limits(report: &mut Report, form: &Form, checks: &Checks) {
+    let check = |script: &[u8]| checks.script(script);
     report.group("reading: nesting about the limit", |tally| {
         nesting::around_limit(form.few_nested, |script| tally.add(script, check(script)));
     });

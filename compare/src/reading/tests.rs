@@ -187,7 +187,8 @@ fn the_words_of_errors() {
 #[test]
 fn the_worked_cases_are_as_they_are_told() {
     for vector in vectors::VECTORS {
-        let result = vectors::check(TWIN_READING, vector);
+        let case = Case::new(vector.0);
+        let result = vectors::check(TWIN_READING, vector).and(check_case(TWIN_READING, &case));
         assert!(result.is_ok(), "{}: {result:?}", vector.0.escape_ascii());
     }
 }

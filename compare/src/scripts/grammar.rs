@@ -1,5 +1,6 @@
 //! Scripts made by the grammar, of few names, so that names meet: scopes, functions, calls, tables,
-//! arrays, branches, loops, dots and `@`. And such scripts with words changed.
+//! arrays, branches, loops, dots and `@`. And such scripts with words changed, and sound ones, which are
+//! read with the flag down.
 
 use super::random::Random;
 use super::spellings::{SIGNS, SPACES, WORDS};
@@ -20,15 +21,35 @@ const FUNCTIONS: [(&str, usize); 4] = [("f", 2), ("g", 0), ("print", 3), ("range
 const PRELUDE: &str = "var a = 1 ; var b = [ 1 , a ] ; var c ; var x = a ; \
     var t = [[ k => 1 ]] ; fn f ( x , c ) { return x ; } fn g ( ) { }";
 
+/// What every sound script begins with: its variables and functions, which nothing else is named after.
+const SOUND_PRELUDE: &str = "var a ; var b ; var c ; var x ; fn f ( p , q ) { } fn g ( ) { }";
+
+/// The names of functions, parameters and loops in sound scripts. They are neither called nor assigned to.
+const SOUND_FUNCTIONS: [&str; 2] = ["h", "k"];
+const SOUND_PARAMS: [&str; 2] = ["p", "q"];
+const SOUND_LOOPS: [&str; 2] = ["i", "j"];
+
 /// A script as its words.
 struct Maker<'r> {
     random: &'r mut Random,
     words: Vec<&'static str>,
+    /// Whether every name is declared and every call and assignment is right.
+    is_sound: bool,
 }
 
 /// A script of a few declarations.
 pub fn script(random: &mut Random) -> Vec<u8> {
     let words = words(random);
+    joined(&words, random)
+}
+
+/// A script of a few declarations that is read with the flag down.
+pub fn sound(random: &mut Random) -> Vec<u8> {
+    let words = SOUND_PRELUDE.split_whitespace().collect();
+    let mut maker = Maker { random, words, is_sound: true };
+    let count = maker.random.between(1, 5);
+    maker.decls(count, 3);
+    let words = maker.words;
     joined(&words, random)
 }
 
@@ -82,7 +103,8 @@ fn joined(words: &[&str], random: &mut Random) -> Vec<u8> {
 
 fn words(random: &mut Random) -> Vec<&'static str> {
     let prelude = if random.once_in(5) { "" } else { PRELUDE };
-    let mut maker = Maker { random, words: prelude.split_whitespace().collect() };
+    let words = prelude.split_whitespace().collect();
+    let mut maker = Maker { random, words, is_sound: false };
     let count = maker.random.between(1, 5);
     maker.decls(count, 3);
     maker.words
@@ -94,7 +116,12 @@ impl Maker<'_> {
     }
 
     fn name(&mut self) {
-        let name = self.random.pick(&NAMES);
+        self.name_of(&VARIABLES);
+    }
+
+    /// Any name; in a sound script one of these.
+    fn name_of(&mut self, sound: &[&'static str]) {
+        let name = self.random.pick(if self.is_sound { sound } else { &NAMES });
         self.add(&[name]);
     }
 
@@ -159,9 +186,9 @@ impl Maker<'_> {
 
     fn fn_decl(&mut self, depth: usize) {
         self.add(&["fn"]);
-        self.name();
+        self.name_of(&SOUND_FUNCTIONS);
         self.add(&["("]);
-        self.items(Maker::name);
+        self.items(|maker| maker.name_of(&SOUND_PARAMS));
         self.add(&[")"]);
         self.block(depth);
     }
@@ -194,9 +221,9 @@ impl Maker<'_> {
 
     fn for_stmt(&mut self, depth: usize) {
         self.add(&["for"]);
-        self.name();
+        self.name_of(&SOUND_LOOPS);
         self.add(&[","]);
-        self.name();
+        self.name_of(&SOUND_LOOPS);
         self.add(&["in"]);
         self.expr(1);
         self.block(depth);
@@ -258,7 +285,7 @@ impl Maker<'_> {
 
     fn assign(&mut self, depth: usize) {
         match self.random.below(12) {
-            0 => self.operand(depth),
+            0 if !self.is_sound => self.operand(depth),
             1 => self.name(),
             2 | 3 => self.index(depth),
             _ => self.variable(),
@@ -280,7 +307,7 @@ impl Maker<'_> {
             self.add(&["@"]);
         }
         match self.random.below(16) {
-            0 => self.any_suffixed(depth),
+            0 if !self.is_sound => self.any_suffixed(depth),
             1..=3 => self.index(depth),
             4..=6 => {
                 self.variable();
@@ -291,10 +318,11 @@ impl Maker<'_> {
         }
     }
 
-    /// A call of a known function, most times with the right number of arguments.
+    /// A call of a known function, most times with the right number of arguments; in a sound script always.
     fn call(&mut self, depth: usize) {
         let (name, params) = FUNCTIONS[self.random.below(FUNCTIONS.len())];
-        let count = if self.random.once_in(12) { self.random.below(4) } else { params };
+        let any_count = self.random.once_in(12) && !self.is_sound;
+        let count = if any_count { self.random.below(4) } else { params };
         self.add(&[name, "("]);
         for at in 0..count {
             self.expr(depth);
@@ -316,6 +344,24 @@ impl Maker<'_> {
             0 => self.add(&[".", "k"]),
             1 => self.add(&["[", "0", "]"]),
             _ => self.add(&["(", "1", ",", "a", ")"]),
+        }
+    }
+}
+
+#[cfg(test)]
+mod tests {
+    use super::*;
+    use reference::{reading, tokens, End};
+
+    #[test]
+    fn sound_scripts_are_read_with_the_flag_down() {
+        let mut random = Random::new(3);
+        for _ in 0..200 {
+            let script = sound(&mut random);
+            match reading(&script, &tokens(&script)).end {
+                End::Read(read) if !read.flag => (),
+                other => panic!("{}: {other:?}", script.escape_ascii()),
+            }
         }
     }
 }

@@ -67,6 +67,17 @@ pub fn not_ascii(mut visit: impl FnMut(&[u8])) {
     }
 }
 
+/// Visits scripts whose canonical texts are of about the greatest length: each `1;` becomes four bytes,
+/// and the last number has as many digits as are wanted.
+pub fn text_lengths(mut visit: impl FnMut(&[u8])) {
+    let decls = MAX_SCRIPT / 4 - 3;
+    for len in MAX_SCRIPT - 2..=MAX_SCRIPT + 2 {
+        let digits = "7".repeat(len - 4 * decls - 3);
+        visit(format!("{}{digits};", "1;".repeat(decls)).as_bytes());
+    }
+    visit("fn f(){}".repeat(MAX_SCRIPT / 8).as_bytes());
+}
+
 /// The most parameters or arguments.
 const MAX_PARAMS: usize = 64;
 

@@ -4,6 +4,7 @@ pub mod damaged;
 pub mod grammar;
 pub mod limits;
 pub mod nesting;
+pub mod operations;
 pub mod phrases;
 pub mod random;
 pub mod shapes;

@@ -95,3 +95,38 @@ pub fn mixed(random: &mut Random) -> Vec<u8> {
     }
     script.into_bytes()
 }
+
+/// Visits scripts whose canonical texts nest deeper than they do, from texts that are read to texts that
+/// are not: a table access that is an operand gets parentheses.
+pub fn deeper_texts(mut visit: impl FnMut(&[u8])) {
+    for (unit, cost) in [("-a.", 4), ("!-a.", 5), ("1+a.", 3)] {
+        let most = DEPTH_LIMIT / cost - 1;
+        for count in (1..=most).rev().step_by(7).chain(DEPTH_LIMIT / (cost + 3) - 3..=most.min(200))
+        {
+            visit(format!("var a;{}1;", unit.repeat(count)).as_bytes());
+        }
+    }
+}
+
+/// A script of mixed levels that is read with the flag down unless it is too deep: blocks, and in them
+/// expressions, all closed.
+pub fn sound(random: &mut Random) -> Vec<u8> {
+    let wanted = random.between(DEPTH_LIMIT / 4, DEPTH_LIMIT + 1);
+    let blocks = random.below(wanted);
+    let (mut script, mut closing, mut depth) = (String::from("var a;"), Vec::new(), 0);
+    while depth < blocks {
+        script += LEVELS[random.below(BLOCKS)].0;
+        closing.push("}");
+        depth += 1;
+    }
+    closing.push(";");
+    while depth + 4 < wanted {
+        let (open, close, cost) = MIXED[random.below(MIXED.len())];
+        script += open;
+        closing.extend([close, " "]);
+        depth += cost;
+    }
+    script += "1";
+    script.extend(closing.into_iter().rev());
+    script.into_bytes()
+}
