@@ -1,8 +1,8 @@
 //! `sif check`: reports the errors of scripts.
 
 use crate::excerpt::{excerpt, place_for_people};
-use crate::input::{load, not_a_script, Script};
-use crate::output::{counted, note, print};
+use crate::input::{load, Script};
+use crate::output::{counted, grouped, note, print};
 use crate::terminal::{width, Progress};
 use crate::Status;
 use sif::{Lines, Reading, Refusal, Stop};
@@ -74,29 +74,20 @@ fn summary(totals: &Totals) -> String {
         said += &format!(", {} in {}", counted(errors, "error"), counted(bad, "file"));
     }
     if unusable > 0 {
-        said += &format!(", {} not read", unusable);
+        said += &format!(", {unusable} not read");
     }
-    said + " (lines and columns count from 1)\n"
+    said + if bad > 0 { " (lines and columns count from 1)\n" } else { "\n" }
 }
 
 /// The errors of a script for people.
 pub fn people_report(script: &Script, most: usize) -> Report {
     let Script { name, bytes } = script;
     let lines = Lines::new(bytes);
-    if let Some((offset, why)) = not_a_script(bytes) {
-        let text = offset.map_or(format!("{name}: {why}\n"), |offset| {
-            pointed(script, &lines, offset, &why, width())
-        });
-        return Report { text, errors: 0, status: Status::Unusable };
-    }
     let reading = match sif::read(bytes) {
         Ok(reading) => reading,
         Err(refusal) => {
-            return Report {
-                text: refused(script, &lines, refusal),
-                errors: 1,
-                status: Status::Bad,
-            }
+            let (text, status) = refused(script, refusal);
+            return Report { text, errors: usize::from(status == Status::Bad), status };
         }
     };
     let mut text = String::new();
@@ -123,7 +114,7 @@ fn found<'r>(reading: &'r Reading, lines: &'r Lines) -> impl Iterator<Item = (us
 }
 
 /// What was not read of a script, if a part was not. The Rust of sif goes over it in silence.
-pub fn unread(stop: Stop) -> Option<(usize, String)> {
+fn unread(stop: Stop) -> Option<(usize, String)> {
     let why = match stop {
         Stop::End => return None,
         Stop::UnknownCharacter { .. } => {
@@ -141,17 +132,32 @@ fn pointed(script: &Script, lines: &Lines, offset: usize, why: &str, width: usiz
     format!("{}:{place}: {why}\n{}", script.name, excerpt(&script.bytes, lines, place, width))
 }
 
-/// A refusal as people see it.
-pub fn refused(script: &Script, lines: &Lines, refusal: Refusal) -> String {
-    match refusal.offset() {
-        Some(offset) => pointed(script, lines, offset, &refusal.to_string(), width()),
-        None => format!("{}: {refusal}\n", script.name),
-    }
+/// A refusal as people see it, and what it means for the status.
+pub fn refused(script: &Script, refusal: Refusal) -> (String, Status) {
+    let (why, status) = match refusal {
+        Refusal::LongScript => (too_long(), Status::Unusable),
+        Refusal::NotAscii { offset } => (not_ascii(script.bytes[offset]), Status::Unusable),
+        other => (other.to_string(), Status::Bad),
+    };
+    let lines = Lines::new(&script.bytes);
+    let text = match refusal.offset() {
+        Some(offset) => pointed(script, &lines, offset, &why, width()),
+        None => format!("{}: {why}\n", script.name),
+    };
+    (text, status)
+}
+
+fn too_long() -> String {
+    format!("is too long: a script has at most {} bytes", grouped(sif::MAX_SCRIPT as u64))
+}
+
+fn not_ascii(byte: u8) -> String {
+    format!("the byte {byte} (0x{byte:02X}) is not ASCII: a script has bytes below 128 only")
 }
 
 /// The errors of a script in document 01's numbers, a line each, tabs between: file; `error` or `ended`;
-/// line, column, reason. Or file, `refused`, number, kind, offset. Last comes file, `read`, tokens, nodes,
-/// errors, flag.
+/// line, column, reason. Then file, `unread` and an offset, where nothing is read from there on. Last comes
+/// file, `read`, tokens, nodes, errors, flag. Or there is one line only: file, `refused`, number, kind, offset.
 fn machine_report(script: &Script) -> Report {
     let Script { name, bytes } = script;
     let reading = match sif::read(bytes) {
@@ -159,8 +165,7 @@ fn machine_report(script: &Script) -> Report {
         Err(refusal) => {
             let [number, kind, offset] = refusal_numbers(refusal);
             let text = format!("{name}\trefused\t{number}\t{kind}\t{offset}\n");
-            let status = if not_a_script(bytes).is_some() { Status::Unusable } else { Status::Bad };
-            return Report { text, errors: 1, status };
+            return Report { text, errors: 1, status: refused(script, refusal).1 };
         }
     };
     let mut text = String::new();
@@ -169,11 +174,15 @@ fn machine_report(script: &Script) -> Report {
         let (place, number) = (error.place, error.reason.number());
         text += &format!("{name}\t{what}\t{}\t{}\t{number}\n", place.line, place.column);
     }
+    let unread = reading.stop().offset();
+    if let Some(offset) = unread {
+        text += &format!("{name}\tunread\t{offset}\n");
+    }
     let raw = reading.raw();
     let (tokens, nodes, errors) = (raw.words.len(), raw.heads.len(), raw.places.len());
     let flag = u8::from(reading.failed());
     text += &format!("{name}\tread\t{tokens}\t{nodes}\t{errors}\t{flag}\n");
-    let bad = reading.failed() || errors > 0 || reading.stop() != Stop::End;
+    let bad = reading.failed() || errors > 0 || unread.is_some();
     Report { text, errors, status: if bad { Status::Bad } else { Status::Good } }
 }
 

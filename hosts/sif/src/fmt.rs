@@ -1,13 +1,12 @@
 //! `sif fmt`: the canonical text of scripts.
 
 use crate::args::Mode;
-use crate::check::{people_report, refused, unread};
-use crate::excerpt::place_for_people;
+use crate::check::{people_report, refused};
 use crate::input::{load, Script};
 use crate::output::{counted, note, print, print_bytes};
 use crate::terminal::Progress;
 use crate::Status;
-use sif::Lines;
+use sif::{Refusal, Stop};
 use std::ffi::{OsStr, OsString};
 use std::fs::{canonicalize, metadata, remove_file, rename, set_permissions, File};
 use std::io::Write;
@@ -56,20 +55,18 @@ fn one(file: &OsString, mode: Mode, progress: &mut Progress) -> Result<Status, F
 
 /// The canonical text of a script, all of which was read without failure.
 fn canonical(script: &Script) -> Result<Vec<u8>, Fault> {
-    let lines = Lines::new(&script.bytes);
-    match sif::text(&script.bytes) {
-        Ok(text) => {
-            let tokens = sif::tokens(&script.bytes).expect("a script with a text has no fault");
-            let Some((offset, why)) = unread(tokens.stop()) else { return Ok(text) };
-            let place = place_for_people(&script.bytes, &lines, offset);
-            Err((Status::Bad, format!("{}:{place}: {why}\n", script.name)))
-        }
+    let text = match sif::text(&script.bytes) {
+        Ok(text) => text,
+        Err(Refusal::Flagged) => return Err((Status::Bad, people_report(script, SHOWN).text)),
         Err(refusal) => {
-            let report = people_report(script, SHOWN);
-            let text =
-                if report.text.is_empty() { refused(script, &lines, refusal) } else { report.text };
-            Err((report.status.max(Status::Bad), text))
+            let (text, status) = refused(script, refusal);
+            return Err((status, text));
         }
+    };
+    let tokens = sif::tokens(&script.bytes).expect("a script with a text has no fault");
+    match tokens.stop() {
+        Stop::End => Ok(text),
+        _ => Err((Status::Bad, people_report(script, SHOWN).text)),
     }
 }
 

@@ -1,6 +1,5 @@
 //! The files of the command line.
 
-use crate::output::grouped;
 use std::ffi::{OsStr, OsString};
 use std::fs::File;
 use std::io::{stdin, Read};
@@ -56,18 +55,4 @@ fn said(error: std::io::Error) -> String {
         std::io::ErrorKind::PermissionDenied => "cannot be read: permission denied".to_string(),
         _ => format!("cannot be read: {error}"),
     }
-}
-
-/// Why bytes are not a script, if they are none: too many, or one of 128 or more.
-pub fn not_a_script(bytes: &[u8]) -> Option<(Option<usize>, String)> {
-    if bytes.len() > sif::MAX_SCRIPT {
-        let most = grouped(sif::MAX_SCRIPT as u64);
-        return Some((None, format!("is too long: a script has at most {most} bytes")));
-    }
-    let at = bytes.iter().position(|byte| !byte.is_ascii())?;
-    let byte = bytes[at];
-    Some((
-        Some(at),
-        format!("the byte {byte} (0x{byte:02X}) is not ASCII: a script has bytes below 128 only"),
-    ))
 }

@@ -1,7 +1,7 @@
 //! `sif tokens`, `sif tree` and `sif list`.
 
 use crate::check::{refusal_numbers, refused};
-use crate::input::{load, not_a_script, Script};
+use crate::input::{load, Script};
 use crate::output::{note, print};
 use crate::Status;
 use sif::{Lines, Node, NodeKind, ParseError, Reading, Refusal, Token};
@@ -19,14 +19,7 @@ pub fn run(files: &[OsString], show: impl Fn(&mut String, &[u8]) -> Result<(), R
         }
         match show(text, &script.bytes) {
             Ok(()) => Status::Good,
-            Err(refusal) => {
-                note(&explained(script, refusal));
-                if not_a_script(&script.bytes).is_some() {
-                    Status::Unusable
-                } else {
-                    Status::Bad
-                }
-            }
+            Err(refusal) => told(script, refusal),
         }
     })
 }
@@ -48,11 +41,11 @@ fn each(files: &[OsString], make: impl Fn(&Script, &mut String) -> Status) -> St
     files.iter().map(one).max().unwrap_or(Status::Good)
 }
 
-fn explained(script: &Script, refusal: Refusal) -> String {
-    match not_a_script(&script.bytes) {
-        Some((None, why)) => format!("{}: {why}\n", script.name),
-        _ => refused(script, &Lines::new(&script.bytes), refusal),
-    }
+/// Tells why a script is refused, beside the result.
+fn told(script: &Script, refusal: Refusal) -> Status {
+    let (text, status) = refused(script, refusal);
+    note(&text);
+    status
 }
 
 /// A token a line: place, kind and text. Or in numbers: kind, line, column, offset, length.
@@ -134,12 +127,7 @@ pub fn run_json(files: &[OsString]) -> Status {
         let (object, status) = match sif::read(&script.bytes) {
             Ok(reading) => (json(&script.name, &reading), Status::Good),
             Err(refusal) => {
-                note(&explained(script, refusal));
-                let status = if not_a_script(&script.bytes).is_some() {
-                    Status::Unusable
-                } else {
-                    Status::Bad
-                };
+                let status = told(script, refusal);
                 (json_refusal(&script.name, refusal), status)
             }
         };
@@ -235,11 +223,7 @@ pub fn run_list(files: &[OsString]) -> Status {
             }
             Err(refusal) => {
                 text.push_str(&format!("refused {}\n", joined(&refusal_numbers(refusal))));
-                if not_a_script(&script.bytes).is_some() {
-                    Status::Unusable
-                } else {
-                    Status::Bad
-                }
+                refused(script, refusal).1
             }
         }
     })
