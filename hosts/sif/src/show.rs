@@ -1,6 +1,7 @@
 //! `sif tokens`, `sif tree` and `sif list`.
 
 use crate::check::{refusal_numbers, refused};
+use crate::excerpt::place_for_people;
 use crate::input::{load, Script};
 use crate::output::{note, print};
 use crate::Status;
@@ -53,20 +54,14 @@ pub fn tokens(text: &mut String, script: &[u8], machine: bool) -> Result<(), Ref
     let tokens = sif::tokens(script)?;
     let lines = Lines::new(script);
     for token in tokens.iter() {
-        let place = lines.place(token.span.start);
         let (kind, span) = (token.kind, token.span);
         if machine {
-            let numbers = [
-                kind.number() as usize,
-                place.line,
-                place.column,
-                span.start,
-                span.end - span.start,
-            ];
-            text.push_str(&(joined(&numbers) + "\n"));
+            let place = lines.place(span.start);
+            let (kind, len) = (kind.number() as usize, span.end - span.start);
+            text.push_str(&(joined(&[kind, place.line, place.column, span.start, len]) + "\n"));
         } else {
-            let line =
-                format!("{:<9} {:<18} {}", place.to_string(), kind.name(), plain(token.text));
+            let place = place_for_people(script, &lines, span.start).to_string();
+            let line = format!("{place:<9} {:<18} {}", kind.name(), plain(token.text));
             text.push_str(&(line.trim_end().to_string() + "\n"));
         }
     }
