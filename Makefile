@@ -9,19 +9,25 @@
 
 PREFIX ?= /usr/local
 DESTDIR ?=
-VERSION = 0.1.0
 ARCHIVE = target/staticlib/libsif_c.a
 SONAME = libsif_c.so.0
 SHARED = target/lib/$(SONAME)
+WHERE = $(if $(filter /%,$(PREFIX)),,$(CURDIR)/)$(PREFIX)
+TO = $(DESTDIR)$(WHERE)
 
-.PHONY: test run tokens lib sif install install-lib hosts-test compare-long bench
+.PHONY: test run tokens lib shared sif install install-lib hosts-test compare-long bench
 
 test:
 	@bash .ci/run
 
 lib:
 	@rt staticlib sif_c
-	@$(MAKE) --no-print-directory $(SHARED) target/lib/sif.pc
+	@$(MAKE) -s shared
+
+shared: $(SHARED) target/lib/sif.pc
+
+$(ARCHIVE):
+	@rt staticlib sif_c
 
 # The archive's objects are position independent. Only the calls of include/sif.h are exported.
 $(SHARED): $(ARCHIVE) hosts/c/exports.map
@@ -30,27 +36,27 @@ $(SHARED): $(ARCHIVE) hosts/c/exports.map
 	  -Wl,-soname,$(SONAME) -Wl,--version-script=hosts/c/exports.map -o $@
 	@ln -sf $(SONAME) target/lib/libsif_c.so
 
-target/lib/sif.pc: hosts/c/sif.pc.in Makefile
+# For use where it was built; an installed one is written by install-lib.
+target/lib/sif.pc: hosts/c/sif.pc.in
 	@mkdir -p target/lib
-	@sed -e 's|@PREFIX@|$(abspath $(PREFIX))|' -e 's|@VERSION@|$(VERSION)|' hosts/c/sif.pc.in > $@
+	@sed -e 's|@INCLUDE@|$(CURDIR)/include|' -e 's|@LIB@|$(CURDIR)/target/lib|' $< > $@
 
-sif:
+sif: $(ARCHIVE)
 	@cargo build -q --offline --release --manifest-path hosts/Cargo.toml -p sif-command
 
-install-lib: lib
-	@install -d $(DESTDIR)$(PREFIX)/include $(DESTDIR)$(PREFIX)/lib/pkgconfig
-	@install -m 644 include/sif.h $(DESTDIR)$(PREFIX)/include/sif.h
-	@install -m 644 $(ARCHIVE) $(DESTDIR)$(PREFIX)/lib/libsif_c.a
-	@install -m 755 $(SHARED) $(DESTDIR)$(PREFIX)/lib/$(SONAME)
-	@ln -sf $(SONAME) $(DESTDIR)$(PREFIX)/lib/libsif_c.so
-	@rm -f target/lib/sif.pc
-	@$(MAKE) --no-print-directory target/lib/sif.pc PREFIX='$(PREFIX)'
-	@install -m 644 target/lib/sif.pc $(DESTDIR)$(PREFIX)/lib/pkgconfig/sif.pc
+install-lib: $(SHARED)
+	@install -d '$(TO)/include' '$(TO)/lib/pkgconfig'
+	@install -m 644 include/sif.h '$(TO)/include/sif.h'
+	@install -m 644 $(ARCHIVE) '$(TO)/lib/libsif_c.a'
+	@install -m 755 $(SHARED) '$(TO)/lib/$(SONAME)'
+	@ln -sf $(SONAME) '$(TO)/lib/libsif_c.so'
+	@sed -e 's|@INCLUDE@|$(WHERE)/include|' -e 's|@LIB@|$(WHERE)/lib|' \
+	  hosts/c/sif.pc.in > '$(TO)/lib/pkgconfig/sif.pc'
 
 install: install-lib sif
-	@install -d $(DESTDIR)$(PREFIX)/bin $(DESTDIR)$(PREFIX)/share/man/man1
-	@install -m 755 hosts/target/release/sif $(DESTDIR)$(PREFIX)/bin/sif
-	@install -m 644 hosts/sif/sif.1 $(DESTDIR)$(PREFIX)/share/man/man1/sif.1
+	@install -d '$(TO)/bin' '$(TO)/share/man/man1'
+	@install -m 755 hosts/target/release/sif '$(TO)/bin/sif'
+	@install -m 644 hosts/sif/sif.1 '$(TO)/share/man/man1/sif.1'
 
 hosts-test:
 	@bash hosts/test
