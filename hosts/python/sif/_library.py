@@ -12,7 +12,7 @@ NAME = "libsif_c.so.0"
 # A reading recurses as its script nests and takes up to 2.3 MB of stack. Each nested call is owed to one of
 # these bytes; with at most FEW of them it takes less than half a megabyte.
 OPENING = b"{([.=-!@"
-FEW = 40
+FEW = 64
 STACK = 8 << 20
 
 # Enough for pthread_attr_t on 64-bit Linux.

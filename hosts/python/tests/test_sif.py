@@ -4,6 +4,7 @@ from __future__ import annotations
 
 import doctest
 import pickle
+import re
 import threading
 import unittest
 from pathlib import Path
@@ -131,6 +132,24 @@ class Replay(unittest.TestCase):
             self.assertTrue(again.same_tree(reading), script)
             self.assertEqual(sif.text(written), written)
         self.assertGreater(texts, 150)
+
+
+class Kinds(unittest.TestCase):
+    def test_the_header_has_the_same_numbers(self) -> None:
+        header = (CRATES.parent / "include/sif.h").read_text()
+        told = {name: int(number) for name, number in re.findall(r"^    (SIF_\w+) = (\d+)", header, re.M)}
+        enums = [
+            ("SIF_TOKEN_", sif.TokenKind),
+            ("SIF_NODE_", sif.NodeKind),
+            ("SIF_ERROR_", sif.ReasonKind),
+            ("SIF_FAULT_", sif.Fault),
+            ("SIF_MESSAGE_", sif.Message),
+            ("SIF_", sif.Refusal),
+        ]
+        for prefix, enum in enums:
+            for kind in enum:
+                name = re.sub(r"(?<=[a-z])(?=[A-Z])", "_", kind.name.rstrip("_")).upper()
+                self.assertEqual(told[prefix + name], kind)
 
 
 class Calls(unittest.TestCase):

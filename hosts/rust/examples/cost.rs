@@ -7,7 +7,7 @@ use std::time::Instant;
 
 fn main() {
     println!("{:>8} {:>8} {:>12}", "bytes", "opening", "microseconds");
-    for (lines, more) in [(5, 0), (39, 0), (39, 2), (400, 2), (3_000, 2)] {
+    for (lines, more) in [(5, 0), (63, 0), (63, 2), (400, 2), (3_000, 2)] {
         let declarations = (0..lines).map(|n| format!("var a{n} = {n}0;\n")).collect::<String>();
         let script = declarations + &"a1 = a2;\n".repeat(more);
         let opening = script.matches('=').count();

@@ -175,4 +175,33 @@ mod tests {
         assert_eq!(TokenKind::EqArrow.to_string(), "`=>`");
         assert_eq!(TokenKind::Ident.to_string(), "a name");
     }
+
+    /// A name as the header has it: `LeftParen` as `LEFT_PAREN`.
+    fn in_header(name: &str) -> String {
+        let mut said = String::new();
+        for char in name.chars() {
+            if char.is_uppercase() && !said.is_empty() {
+                said.push('_');
+            }
+            said.push(char.to_ascii_uppercase());
+        }
+        said
+    }
+
+    #[test]
+    fn the_header_has_the_same_numbers() {
+        let header = concat!(env!("CARGO_MANIFEST_DIR"), "/../../include/sif.h");
+        let header = std::fs::read_to_string(header).expect("the header is in the repository");
+        let tokens = TokenKind::ALL.iter().map(|kind| ("TOKEN", kind.name(), kind.number()));
+        let nodes = NodeKind::ALL.iter().map(|kind| ("NODE", kind.name(), kind.number()));
+        for (what, name, number) in tokens.chain(nodes) {
+            let wanted = format!("    SIF_{what}_{} = {number}", in_header(name));
+            let has = |line: &str| line.strip_prefix(&wanted).is_some_and(ends_number);
+            assert!(header.lines().any(has), "{wanted}");
+        }
+    }
+
+    fn ends_number(rest: &str) -> bool {
+        !rest.starts_with(|char: char| char.is_ascii_digit())
+    }
 }

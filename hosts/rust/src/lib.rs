@@ -1,7 +1,8 @@
 //! Reads sif scripts: from bytes to tokens, tree, errors and canonical text.
 //!
 //! The work is done by a library that is proved to give what its definition says for every input
-//! (docs/PROOFS.md); this crate lends it memory and gives its answers types. Scripts are ASCII, of at most 65,535 bytes.
+//! (docs/PROOFS.md); this crate lends it memory and gives its answers types. Scripts are ASCII, of at most
+//! 65,535 bytes.
 //!
 //! ```
 //! use sif::{NodeKind, View};
@@ -29,7 +30,7 @@
 //! # Threads and stack
 //!
 //! A reading recurses as its script nests, and the deepest takes about 2.3 MB of stack; a Rust thread has
-//! 2 MiB by default. [`read`] and [`text`] count the bytes of a script that can nest. With at most 40 of
+//! 2 MiB by default. [`read`] and [`text`] count the bytes of a script that can nest. With at most 64 of
 //! them the library is called at once: it takes less than half a megabyte then. With more, the call runs
 //! on a thread of its own with a stack of 8 MiB, and the caller waits. So any thread can call with half a
 //! megabyte to spare. docs/HOSTS.md says what the thread costs. [`tokens`] takes little stack always.

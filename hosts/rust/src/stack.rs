@@ -14,7 +14,7 @@ fn opens(byte: u8) -> bool {
 }
 
 /// With at most so many opening bytes a call takes less than half a megabyte of stack (tests/stack.rs).
-pub const FEW: usize = 40;
+pub const FEW: usize = 64;
 
 /// The stack of a thread of its own, in bytes. It is reserved and not used: a page counts once it is touched.
 const STACK: usize = 8 << 20;

@@ -40,7 +40,7 @@ fn on_stack(bytes: usize, script: &str) -> (Option<Refusal>, Option<Refusal>) {
 #[test]
 fn few_opening_bytes_take_little_stack() {
     for (before, inside, after, opening) in NESTING {
-        for times in 0..=40 / opening {
+        for times in 0..=64 / opening {
             let script = nested(before, inside, after, times);
             assert_eq!(on_stack(512 << 10, &script).0, None, "{script}");
         }
@@ -51,7 +51,7 @@ fn few_opening_bytes_take_little_stack() {
 #[test]
 fn deep_scripts_need_no_stack_of_the_caller() {
     for (before, inside, after, _) in NESTING {
-        for times in [41, 100, 254, 255, 256, 380, 384, 760, 768, 769, 3_000] {
+        for times in [65, 100, 254, 255, 256, 380, 384, 760, 768, 769, 3_000] {
             let script = nested(before, inside, after, times);
             let (read, _) = on_stack(64 << 10, &script);
             assert!(matches!(read, None | Some(Refusal::TooDeep)), "{script}");
