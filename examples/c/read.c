@@ -1,9 +1,9 @@
 /*
  * Reads a sif script: prints its counts, its errors and its canonical text.
  *
- *   cc examples/c/read.c -Iinclude -Ltarget/staticlib -lsif_c -o read      in the repository, after make lib
- *   cc read.c $(pkg-config --cflags --libs sif) -o read                    after make install
- *   ./read script.sif
+ *   cc examples/c/read.c -Iinclude -Ltarget/staticlib -lsif_c -o target/read        after make lib
+ *   cc examples/c/read.c $(pkg-config --cflags --libs sif) -o target/read           after make install
+ *   target/read examples/schedule.sif
  *
  * The exit status is 0 if the script reads without failure, 1 if it does not, and 2 if the file cannot be
  * opened. The calls take up to about 2.3 MB of stack: this main thread has 8 MiB on Linux; a thread that a

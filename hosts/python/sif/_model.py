@@ -2,6 +2,7 @@
 
 from __future__ import annotations
 
+import re
 from dataclasses import dataclass, field
 from enum import IntEnum
 from typing import Iterator, Optional, Union
@@ -31,6 +32,9 @@ _SPELLINGS = (
     + "var fn return table array if elif else for in true false std".split()
     + ["the end of the script"]
 )
+
+# White space and comments.
+_GAP = re.compile(rb"(?:[\t-\r ]|#[^\n]*|//[^\n]*)*")
 
 _CARRY_TOKEN = frozenset(
     [
@@ -268,6 +272,17 @@ class Reading:
         if self.ended is None or self.ended.kind != ReasonKind.TknMismatch:
             return self.errors
         return (*self.errors, self.ended)
+
+    @property
+    def unread(self) -> Optional[int]:
+        """Where a part begins that is not read, if there is one: an unknown character or a string with no end,
+        which are no errors of sif, or a fault that the reading did not come to."""
+        if self.hidden_fault is not None:
+            return self.hidden_fault
+        end, eof = len(self.script), self.tokens[-1].span.start
+        last = self.tokens[-2].span.end if len(self.tokens) > 1 else 0
+        offset = eof if eof < end else _GAP.match(self.script, last).end()
+        return offset if offset < end else None
 
     def same_tree(self, other: Reading) -> bool:
         """Whether the trees are the same: kinds, marks, numbers of children, scopes, texts of carried tokens."""

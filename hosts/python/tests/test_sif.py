@@ -5,6 +5,8 @@ from __future__ import annotations
 import doctest
 import pickle
 import re
+import subprocess
+import sys
 import threading
 import unittest
 from pathlib import Path
@@ -191,6 +193,19 @@ class Calls(unittest.TestCase):
         reading = sif.read(b"fn f(a) { }\nf(1, 2);\nvar b = 1")
         self.assertEqual([str(error) for error in reading.problems][0], "2:8: expected 1 argument, found 2")
         self.assertEqual(str(reading.ended), "4:1: expected `;`, found the end of the script")
+
+    def test_what_is_not_read(self) -> None:
+        cases = [(b"", None), (b"a; # c", None), (b"a; $ b", 3), (b'a; // c\n "b', 9), (b'"b', 0), (b"5 5 // c", 4)]
+        for script, wanted in cases:
+            self.assertEqual(sif.read(script).unread, wanted, script)
+
+    def test_the_example(self) -> None:
+        root = CRATES.parent
+        for name, status, said in (("schedule", 0, b"var notional = 1000000 ;"), ("planted", 1, b":17:28: `j` is not")):
+            words = [sys.executable, "examples/python/read.py", f"examples/{name}.sif"]
+            ran = subprocess.run(words, cwd=root, capture_output=True)
+            self.assertEqual((ran.returncode, ran.stderr), (status, b""))
+            self.assertIn(said, ran.stdout)
 
     def test_deep_scripts_on_a_thread_with_little_stack(self) -> None:
         deep = [b"(" * 255 + b"1" + b")" * 255 + b";", b"{" * 768 + b"}" * 768, b"-" * 765 + b"1;"]
