@@ -28,14 +28,15 @@ extern "C" {
 #define SIF_NODES_ROOM(n) ((size_t)(n) + 1)
 #define SIF_SYMBOLS_ROOM(n) (2 * (size_t)(n))
 #define SIF_ERRORS_ROOM(n) ((size_t)(n))
-#define SIF_TEXT_ROOM(n) (5 * (size_t)(n))
+#define SIF_TEXT_ROOM(n) (4 * (size_t)(n))
 
 /*
  * The refusals. Of 1 to 4 the least that holds is answered; of 5 to 9 the one that the reading meets
- * first. sif_tokens answers 0 to 5, sif_reading 0 to 9, sif_text 0 to 11.
+ * first; 10 and 11 come last, in this order. sif_tokens answers 0 to 5, sif_reading 0 to 9, sif_text 0
+ * to 11.
  */
 enum {
-    /* No refusal: the script was lexed or read. */
+    /* No refusal: the script was lexed or read, or its text was written. */
     SIF_NONE = 0,
     /* The script has more than 65,535 bytes. */
     SIF_LONG_SCRIPT = 1,
@@ -60,9 +61,9 @@ enum {
     SIF_SYMBOLS_FULL = 8,
     /* The script has more errors than places and reasons hold. */
     SIF_ERRORS_FULL = 9,
-    /* The script has no canonical text: it did not read without failure. */
+    /* The script did not read without failure: its flag is up, and it has no canonical text. */
     SIF_FLAGGED = 10,
-    /* The canonical text is longer than text. */
+    /* The canonical text is longer than its buffer. */
     SIF_TEXT_FULL = 11
 };
 
@@ -286,18 +287,29 @@ uint32_t sif_reading(const uint8_t *script, size_t script_len,
                      uint32_t *kind, size_t *offset);
 
 /*
- * Reads a script and writes its canonical text: one spelling for one tree. The arrays are those of
- * sif_reading, lent in the same way, and after a success they hold what the reading leaves there.
+ * Reads a script and writes its canonical text: the same bytes for all scripts that have the same tree,
+ * and others for all that have another. The tokens stand with one space between them and a newline after
+ * each top-level declaration; there are no comments, no `@`, no trailing commas, and no parentheses but
+ * those that the tree needs. Numbers and strings are written as in the script. A script without
+ * declarations has no bytes. The text is itself a script that is read with the flag down to the same tree,
+ * and its canonical text is itself, unless it is too long or nests too deeply to be read.
  *
- *   text, text_len  receives the text at its front, and 0 behind it; SIF_TEXT_ROOM(script_len) bytes
- *                   are enough. No 0 is put behind a text that fills it
- *   count           receives the number of bytes of the text; 0 with every refusal
- *   kind            receives the kind of fault with refusal 5; 0 otherwise
- *   offset          receives an offset in the script with refusals 2 and 5; 0 otherwise
+ *   script, script_len     the script's bytes; only read
+ *   offs, words, heads, loads, symbols, places, reasons
+ *                          the arrays of sif_reading. They hold afterwards what it would leave there
+ *   text, text_len         the buffer for the text, and how many bytes it has; it may be full of anything
+ *                          beforehand. The text stands at its front, and all bytes behind it become 0.
+ *                          4 * script_len bytes are enough
  *
- * Refusals 1 to 3 leave all arrays and text as they were; refusals 4 to 11 set every element to 0.
+ *   count                  receives the number of bytes of the text; 0 with every refusal
+ *   kind                   receives the kind of fault with refusal 5; 0 otherwise
+ *   offset                 receives an offset in the script with refusals 2 and 5; 0 otherwise
  *
- * It takes about as much stack as sif_reading.
+ * count, kind and offset are always written. Refusals 1 to 3 leave all arrays and the text as they were;
+ * refusals 4 to 11 set every element of the arrays and every byte of the text to 0.
+ *
+ * The call takes as much stack as sif_reading takes on the script, or as writing its text takes, which
+ * recurses as the script nests.
  *
  * Answers the number of the refusal, or 0.
  */

@@ -52,7 +52,7 @@ def text(data: Script) -> bytes:
     script that did not read without failure."""
     script = _bytes(data)
     length = _lent(script)
-    said, written = _library.text(script, Rooms(length), 5 * length)
+    said, written = _library.text(script, Rooms(length), 4 * length)
     _answered(*said)
     return written
 

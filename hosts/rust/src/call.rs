@@ -21,11 +21,12 @@ impl Rooms {
 }
 
 /// Bytes that are enough for the canonical text of a script of `len` bytes. A token is written with one
-/// byte behind it: two bytes at most for each of its own. An inserted `return ;` is 9 bytes, and its
-/// function has 8 or more in the script. A pair of parentheses is 4 bytes, and is put only round a table
-/// access whose operator, target and period are 3. So 2 + 9/8 + 4/3 bytes for each is enough, and 5 are more.
+/// byte behind it: two bytes at most for each of its own. An inserted `return ;` is 9 bytes; its function
+/// has 8 or more of its own in the script, which are written as 13. A pair of parentheses that the script
+/// lacks is 4 bytes; it stands round a table access whose operator, target and period are 3 bytes of its
+/// own, written as 6. So 4 bytes for each are enough.
 pub fn text_room(len: usize) -> usize {
-    5 * len
+    4 * len
 }
 
 /// The arrays of a call: lent to it, and afterwards full of what it says.

@@ -191,6 +191,7 @@ class Format(Case):
         self.unwritten(b"(1+2)(3);", b"only a name or a string can be called")
         self.unwritten(b"var a=1; # one\n", b"1 comment would be lost; --drop-comments allows it")
         self.unwritten(b"var a;" + b"-a." * 110 + b"1;", b"its text is refused: the script nests too deeply")
+        self.unwritten(b"1;" * 30_000, b"its text is refused: the script has more than 65,535 bytes")
         self.unwritten(b" " * 65_536, b"at most 65,535 bytes", 2)
         self.unwritten(b"var a=\xff;", b"not ASCII", 2)
 
