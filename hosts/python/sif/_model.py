@@ -169,7 +169,11 @@ class Token:
         return self.text[1:-1] if self.kind == TokenKind.Str else self.text
 
     def __str__(self) -> str:
-        return _SPELLINGS[-1] if self.kind == TokenKind.Eof else f"`{self.text}`"
+        """In quotes, or words for the end of the script. It is on one line, and a long text is cut."""
+        if self.kind == TokenKind.Eof:
+            return _SPELLINGS[-1]
+        shown = self.text[:40].encode("unicode_escape").decode()
+        return f"`{shown}..`" if len(self.text) > 40 else f"`{shown}`"
 
 
 @dataclass(frozen=True, eq=False)

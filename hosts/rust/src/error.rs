@@ -7,6 +7,8 @@ use crate::token::{Token, Tokens};
 use std::fmt::{self, Display, Formatter};
 
 /// An error of a script, with its place. It is shown as `LINE:COLUMN: reason`, the column from 1.
+/// [`Lines::offset`](crate::Lines::offset) has the offset of the place, and the token that the reason
+/// carries has a span; the two are not always the same part of the script.
 #[derive(Clone, Copy, Debug, PartialEq, Eq)]
 pub struct ParseError<'s> {
     pub place: Place,
@@ -53,7 +55,25 @@ pub enum Message {
     Name,
 }
 
-impl Reason<'_> {
+impl<'s> Reason<'s> {
+    /// The token that the reason carries, if it carries one.
+    pub fn token(&self) -> Option<Token<'s>> {
+        match *self {
+            Reason::InvalidIdent(token)
+            | Reason::InvalidTkn(token)
+            | Reason::InvalidAssign(token)
+            | Reason::TknMismatch { found: token, .. }
+            | Reason::UndeclSym(token)
+            | Reason::UnassignedVar(token)
+            | Reason::ExpectedIdent(token) => Some(token),
+            Reason::Expected(_)
+            | Reason::InvalidForStmt
+            | Reason::InvalidIfStmt
+            | Reason::FnParmCntExceeded { .. }
+            | Reason::WrongFnParmCnt { .. } => None,
+        }
+    }
+
     /// The number of document 01, from 1 to 11.
     pub fn number(&self) -> u32 {
         match self {
@@ -128,7 +148,8 @@ impl Display for Shown<'_> {
             return kind.fmt(f);
         }
         let (shown, dots) = if text.len() > MOST { (&text[..MOST], "..") } else { (text, "") };
-        write!(f, "`{}{dots}`", shown.escape_debug().to_string().replace("\\\"", "\""))
+        let shown = shown.as_bytes().escape_ascii().to_string();
+        write!(f, "`{}{dots}`", shown.replace("\\\"", "\"").replace("\\'", "'"))
     }
 }
 

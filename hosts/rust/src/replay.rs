@@ -64,17 +64,11 @@ fn tokens_told(script: &[u8]) -> String {
 /// The words of a reason, from its typed form.
 fn reason_word(error: &ParseError) -> u32 {
     let carried = match error.reason {
-        Reason::InvalidIdent(token)
-        | Reason::InvalidTkn(token)
-        | Reason::InvalidAssign(token)
-        | Reason::UndeclSym(token)
-        | Reason::UnassignedVar(token)
-        | Reason::ExpectedIdent(token) => token.index,
         Reason::Expected(message) => (message as usize + 1) << 16,
-        Reason::InvalidForStmt | Reason::InvalidIfStmt => 0,
         Reason::TknMismatch { expected, found } => (expected.number() as usize) << 16 | found.index,
         Reason::FnParmCntExceeded { most } => most,
         Reason::WrongFnParmCnt { expected, found } => found << 16 | expected,
+        other => other.token().map_or(0, |token| token.index),
     };
     (carried as u32) << 4 | error.reason.number()
 }
