@@ -50,6 +50,8 @@ class Header(unittest.TestCase):
     def test_c_and_cpp_take_it(self) -> None:
         source = b"#include <sif.h>\nint main(void) { return SIF_TOKEN_EOF - 47; }\n"
         for words in ([CC, *STRICT, "-x", "c"], ["c++", "-Wall", "-Wextra", "-Werror", "-x", "c++"]):
+            if shutil.which(words[0]) is None:
+                continue
             ran = run(*words, "-Iinclude", "-fsyntax-only", "-", input=source)
             self.assertEqual((ran.returncode, ran.stderr), (0, b""))
 

@@ -22,7 +22,9 @@ pub fn excerpt(script: &[u8], lines: &Lines, place: Place, width: usize) -> Stri
     let number = place.line.to_string();
     let margin = " ".repeat(number.len());
     let room = width.saturating_sub(number.len() + 5).clamp(LEAST, MOST);
-    let (text, caret) = window(&script[start..end], place.column, room);
+    let line = &script[start..end];
+    let line = line.strip_suffix(b"\r").unwrap_or(line);
+    let (text, caret) = window(line, place.column, room);
     format!(" {number} | {text}\n {margin} | {}^\n", " ".repeat(caret))
 }
 
@@ -82,6 +84,7 @@ mod tests {
     fn a_short_line_is_whole() {
         assert_eq!(shown("var a;\n\tb;\n", 8, 80), " 2 |     b;\n   |     ^\n");
         assert_eq!(shown("a\x1b[1m;", 0, 80), " 1 | a?[1m;\n   | ^\n");
+        assert_eq!(shown("a;\r\nb;\r\n", 4, 80), " 2 | b;\n   | ^\n");
     }
 
     #[test]

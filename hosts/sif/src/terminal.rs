@@ -39,8 +39,8 @@ fn columns(_descriptor: i32) -> Option<usize> {
     None
 }
 
-/// A line on the terminal that says how far a run is. Where standard error is no terminal, or there is one
-/// file only, there is none.
+/// A line on the terminal that says how far a run is. Where standard error is no terminal, or one that cannot
+/// take a line back, or there is one file only, there is none.
 pub struct Progress {
     shown: bool,
     files: usize,
@@ -50,7 +50,9 @@ pub struct Progress {
 
 impl Progress {
     pub fn new(files: usize) -> Progress {
-        Progress { shown: files > 1 && stderr().is_terminal(), files, done: 0, last: None }
+        let plain = std::env::var_os("TERM").is_some_and(|name| name == "dumb");
+        let shown = files > 1 && stderr().is_terminal() && !plain;
+        Progress { shown, files, done: 0, last: None }
     }
 
     /// One more file is done.

@@ -10,12 +10,17 @@ import re
 import shutil
 import struct
 import subprocess
+import sys
 import tempfile
 import termios
 import unittest
 from pathlib import Path
 
 ROOT = Path(__file__).resolve().parents[3]
+sys.path.insert(0, str(ROOT / "hosts/python"))
+
+import sif as python  # noqa: E402
+
 COMMAND = os.environ.get("SIF_COMMAND", str(ROOT / "hosts/target/release/sif"))
 EXAMPLES = ROOT / "examples"
 
@@ -29,7 +34,8 @@ def on_terminal(columns: int, *words) -> tuple[int, str]:
     """Status and output of the command on a terminal with so many columns."""
     ours, its = pty.openpty()
     fcntl.ioctl(its, termios.TIOCSWINSZ, struct.pack("HHHH", 24, columns, 0, 0))
-    process = subprocess.Popen([COMMAND, *map(str, words)], stdin=its, stdout=its, stderr=its)
+    command, terminal = [COMMAND, *map(str, words)], {**os.environ, "TERM": "xterm"}
+    process = subprocess.Popen(command, stdin=its, stdout=its, stderr=its, env=terminal)
     os.close(its)
     seen = b""
     while True:
@@ -114,8 +120,29 @@ class Check(Case):
     def test_every_script_of_the_list(self) -> None:
         found = scripts("read_replay")
         paths = [self.file(f"{index}.sif", script) for index, script in enumerate(found)]
-        ran = sif("check", *paths)
+        ran = sif("check", "--all", *paths)
         self.assertEqual((ran.returncode, b"panicked" in ran.stderr), (2, False))
+        told = re.findall(r"(\d+)\.sif:\d+:\d+: (.*)\n", ran.stdout.decode())
+        for index, script in enumerate(found):
+            self.assertEqual([why for at, why in told if at == str(index)], self.by_python(script), script)
+
+    def by_python(self, script: bytes) -> list[str]:
+        """What the Python package says of a script: the same words, but of what is not read."""
+        try:
+            reading = python.read(script)
+        except python.Refused as refusal:
+            not_ascii = "the byte {0} (0x{0:02X}) is not ASCII: a script has bytes below 128 only"
+            if refusal.number == python.Refusal.NotAscii:
+                return [not_ascii.format(script[refusal.offset])]
+            return [] if refusal.offset == 0 and not refusal.kind else [str(refusal)]
+        said = [error.reason for error in reading.problems]
+        if reading.unread is None:
+            return said
+        sign = script[reading.unread : reading.unread + 1]
+        if reading.hidden_fault is not None:
+            return said + [str(python.Refused(5, 1 if sign == b"/" else 2, 0))]
+        what = "a string with no end" if sign == b'"' else "unknown character"
+        return said + [f"{what}: nothing from here on is read"]
 
 
 class Terminal(Case):
