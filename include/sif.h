@@ -1,8 +1,11 @@
 /*
- * The calls of the sif script reader's static library, libsif_c.a.
+ * The calls of the sif script reader's library, libsif_c.a or libsif_c.so.
  *
- * A call allocates nothing and keeps nothing: it works in the memory that it is lent. The memory of
- * its arguments must not overlap. An array of length 0 may have any pointer that is not null.
+ * Who owns what: the caller owns everything. A call allocates nothing and keeps nothing: it works in the
+ * memory that it is lent, keeps no pointer to it and has no state of its own, so that any number of
+ * threads may call at once, each with memory of its own. What a call writes stays with the caller. The
+ * script is only read. The memory of its arguments must not overlap. An array of length 0 may have any
+ * pointer that is not null.
  */
 #ifndef SIF_H
 #define SIF_H
@@ -13,6 +16,19 @@
 #ifdef __cplusplus
 extern "C" {
 #endif
+
+/* The longest script that is read, in bytes. */
+#define SIF_MAX_SCRIPT 65535
+
+/*
+ * Elements that are enough for any script of n bytes: of offs, words, heads and loads; of symbols; of
+ * places and reasons; of text. With them the refusals 4, 7, 8, 9 and 11 cannot occur.
+ */
+#define SIF_TOKENS_ROOM(n) ((size_t)(n) + 1)
+#define SIF_NODES_ROOM(n) ((size_t)(n) + 1)
+#define SIF_SYMBOLS_ROOM(n) (2 * (size_t)(n))
+#define SIF_ERRORS_ROOM(n) ((size_t)(n))
+#define SIF_TEXT_ROOM(n) (4 * (size_t)(n))
 
 /*
  * The refusals. Of 1 to 4 the least that holds is answered; of 5 to 9 the one that the reading meets
@@ -51,13 +67,149 @@ enum {
     SIF_TEXT_FULL = 11
 };
 
+/* The kinds of fault, which refusal 5 comes with. */
+enum {
+    /* `//` with no newline before the script's end. */
+    SIF_FAULT_COMMENT = 1,
+    /* A number with a point that runs to the script's end. */
+    SIF_FAULT_NUMBER = 2,
+    /* `(` after anything but a name or a string. */
+    SIF_FAULT_CALL = 3,
+    /* `.` after anything but a single token. */
+    SIF_FAULT_PERIOD = 4,
+    /* `[` after anything but a single token. */
+    SIF_FAULT_BRACKET = 5
+};
+
+/* The kinds of tokens, in the order of TokenTy in the Rust source of sif. */
+enum {
+    SIF_TOKEN_LEFT_PAREN = 1,
+    SIF_TOKEN_RIGHT_PAREN = 2,
+    SIF_TOKEN_LEFT_BRACE = 3,
+    SIF_TOKEN_RIGHT_BRACE = 4,
+    SIF_TOKEN_LEFT_BRACKET = 5,
+    SIF_TOKEN_RIGHT_BRACKET = 6,
+    SIF_TOKEN_SEMICOLON = 7,
+    SIF_TOKEN_EQ = 8,
+    SIF_TOKEN_LT = 9,
+    SIF_TOKEN_GT = 10,
+    SIF_TOKEN_PERIOD = 11,
+    SIF_TOKEN_COMMA = 12,
+    SIF_TOKEN_BANG = 13,
+    SIF_TOKEN_PLUS = 14,
+    SIF_TOKEN_MINUS = 15,
+    SIF_TOKEN_STAR = 16,
+    SIF_TOKEN_SLASH = 17,
+    SIF_TOKEN_PERCENT = 18,
+    SIF_TOKEN_AMP = 19,
+    SIF_TOKEN_PIPE = 20,
+    SIF_TOKEN_AT = 21,
+    SIF_TOKEN_EQ_EQ = 22,
+    SIF_TOKEN_LT_EQ = 23,
+    SIF_TOKEN_GT_EQ = 24,
+    SIF_TOKEN_EQ_ARROW = 25,
+    SIF_TOKEN_BANG_EQ = 26,
+    SIF_TOKEN_AMP_AMP = 27,
+    SIF_TOKEN_PIPE_PIPE = 28,
+    SIF_TOKEN_DOUBLE_LEFT_BRACKET = 29,
+    SIF_TOKEN_DOUBLE_RIGHT_BRACKET = 30,
+    /* A name. */
+    SIF_TOKEN_IDENT = 31,
+    /* A string; its length counts the two quotes. */
+    SIF_TOKEN_STR = 32,
+    /* A number. */
+    SIF_TOKEN_VAL = 33,
+    SIF_TOKEN_VAR = 34,
+    SIF_TOKEN_FN = 35,
+    SIF_TOKEN_RETURN = 36,
+    SIF_TOKEN_TABLE = 37,
+    SIF_TOKEN_ARRAY = 38,
+    SIF_TOKEN_IF = 39,
+    SIF_TOKEN_ELIF = 40,
+    SIF_TOKEN_ELSE = 41,
+    SIF_TOKEN_FOR = 42,
+    SIF_TOKEN_IN = 43,
+    SIF_TOKEN_TRUE = 44,
+    SIF_TOKEN_FALSE = 45,
+    /* No token has this kind. */
+    SIF_TOKEN_STD = 46,
+    SIF_TOKEN_EOF = 47,
+    /* A fault of kind 1 or 2 that a reading did not come to; it ends the tokens. */
+    SIF_TOKEN_FAULT = 48
+};
+
+/* The kinds of nodes, in the order of AstNode in the Rust source of sif. Behind each, its children. */
+enum {
+    SIF_NODE_PROGRAM = 1,          /* declarations */
+    SIF_NODE_BLOCK = 2,            /* declarations; its payload is its scope */
+    SIF_NODE_IF_STMT = 3,          /* condition, Block, then ElifStmt or Block (an else) in source order */
+    SIF_NODE_ELIF_STMT = 4,        /* condition, Block */
+    SIF_NODE_FOR_STMT = 5,         /* IdentPair, expression, Block */
+    SIF_NODE_RETURN_STMT = 6,      /* none, or the expression */
+    SIF_NODE_EXPR_STMT = 7,        /* the expression */
+    SIF_NODE_VAR_DECL = 8,         /* none, or the value; the mark is is_global */
+    SIF_NODE_FN_DECL = 9,          /* FnParams, Block */
+    SIF_NODE_FN_PARAMS = 10,       /* PrimaryExpr each */
+    SIF_NODE_IDENT_PAIR = 11,      /* two PrimaryExpr */
+    SIF_NODE_ITEM_LIST = 12,       /* TableItem each */
+    SIF_NODE_TABLE_ITEM = 13,      /* the value; the key is its token */
+    SIF_NODE_TABLE = 14,           /* ItemList */
+    SIF_NODE_TABLE_ACCESS = 15,    /* target, expression */
+    SIF_NODE_ARRAY = 16,           /* none, or ArrayItems */
+    SIF_NODE_ARRAY_ITEMS = 17,     /* expressions */
+    SIF_NODE_ARRAY_ACCESS = 18,    /* target, index */
+    SIF_NODE_ARRAY_MUT_EXPR = 19,  /* target, index, value */
+    SIF_NODE_FN_CALL_EXPR = 20,    /* target, arguments; the mark is is_std */
+    SIF_NODE_VAR_ASSIGN_EXPR = 21, /* target, value; its token is the declaration's; the mark is is_global */
+    SIF_NODE_BINARY_EXPR = 22,     /* left, right; its token is the operator */
+    SIF_NODE_UNARY_EXPR = 23,      /* the operand; its token is the operator */
+    SIF_NODE_PRIMARY_EXPR = 24     /* none; its token is the literal or name */
+};
+
+/* The reasons of errors, in the order of ParseErrTy in the Rust source of sif. Behind each, what it carries. */
+enum {
+    SIF_ERROR_INVALID_IDENT = 1,         /* a token */
+    SIF_ERROR_INVALID_TKN = 2,           /* a token, or the number of a message */
+    SIF_ERROR_INVALID_ASSIGN = 3,        /* a token */
+    SIF_ERROR_INVALID_FOR_STMT = 4,      /* nothing; no error has this reason */
+    SIF_ERROR_INVALID_IF_STMT = 5,       /* nothing */
+    SIF_ERROR_TKN_MISMATCH = 6,          /* the token that was found, and the kind that was expected */
+    SIF_ERROR_FN_PARM_CNT_EXCEEDED = 7,  /* the most that there may be */
+    SIF_ERROR_WRONG_FN_PARM_CNT = 8,     /* how many were expected, and how many were found */
+    SIF_ERROR_UNDECL_SYM = 9,            /* a token */
+    SIF_ERROR_UNASSIGNED_VAR = 10,       /* a token; no error has this reason */
+    SIF_ERROR_EXPECTED_IDENT = 11        /* a token */
+};
+
+/* The messages that SIF_ERROR_INVALID_TKN carries in the place of a token. */
+enum {
+    SIF_MESSAGE_NONE = 0,
+    /* Expected either `=` or `;`. */
+    SIF_MESSAGE_EQ_OR_SEMICOLON = 1,
+    /* Unexpected end of file. */
+    SIF_MESSAGE_END_OF_FILE = 2,
+    /* Expected a name. */
+    SIF_MESSAGE_NAME = 3
+};
+
+/* The parts of a token's word, of a node's first word, and of the two words of an error. */
+#define SIF_TOKEN_KIND(word) ((word) % 64)
+#define SIF_TOKEN_LENGTH(word) ((word) / 64)
+#define SIF_NODE_KIND(head) ((head) % 32)
+#define SIF_NODE_MARK(head) ((head) / 32 % 2)
+#define SIF_NODE_CHILDREN(head) ((head) / 64)
+#define SIF_ERROR_LINE(place) ((place) / 65536 + 1)
+#define SIF_ERROR_COLUMN(place) ((place) % 65536)
+#define SIF_ERROR_NUMBER(reason) ((reason) % 16)
+#define SIF_ERROR_FIRST(reason) ((reason) / 16 % 65536)
+#define SIF_ERROR_SECOND(reason) ((reason) / 1048576)
+
 /*
  * Lexes a script into two parallel arrays. Token i is offs[i], the offset of its first byte in the
  * script, and words[i], its kind + 64 * its length in bytes.
  *
- * The kinds are 1 to 47, in the order of TokenTy in the Rust source of sif: 1 is `(`, 31 a name, 32 a
- * string, 33 a number, 47 Eof. The length of a string counts its two quotes. The last token is Eof,
- * of length 0. Its offset is the script's length, also where a string is not closed; or that of the
+ * The kinds are 1 to 47 (SIF_TOKEN_..). The length of a string counts its two quotes. The last token is
+ * Eof, of length 0. Its offset is the script's length, also where a string is not closed; or that of the
  * first unknown character, where the tokens end. A script has at most script_len + 1 tokens.
  *
  *   script, script_len   the script's bytes; only read
