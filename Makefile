@@ -1,6 +1,7 @@
 # make test   everything that the merge gate runs
 # make run    the main job: lists the script on standard input: counts and flag, tree, errors
 # make tokens prints the tokens of the script on standard input, one a line
+# make text   writes the canonical text of the script on standard input
 # make lib    the library for hosts: target/staticlib/libsif_c.a, target/lib/libsif_c.so and its sif.pc
 # make sif    the command, hosts/target/release/sif
 # make install PREFIX=DIR   library, header, pkg-config file, command and manual page, below DIR
@@ -15,7 +16,7 @@ SHARED = target/lib/$(SONAME)
 WHERE = $(if $(filter /%,$(PREFIX)),,$(CURDIR)/)$(PREFIX)
 TO = $(DESTDIR)$(WHERE)
 
-.PHONY: test run tokens lib shared sif install install-lib hosts-test compare-long bench
+.PHONY: test run tokens text lib shared sif install install-lib hosts-test compare-long bench
 
 test:
 	@bash .ci/run
@@ -69,6 +70,9 @@ run: target/bin/sif_list
 
 tokens: target/bin/token_list
 	@target/bin/token_list
+
+text: target/bin/sif_text
+	@target/bin/sif_text
 
 compare-long: lib
 	@cargo run -q --release -p compare -- --long
