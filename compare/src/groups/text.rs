@@ -15,14 +15,18 @@ pub struct Form {
     pub phrases: [usize; 4],
     /// The most nodes in expressions of which there is every one.
     pub operations: usize,
-    /// How many random scripts there are that are sound, and such that nest about the limit.
+    /// How many random scripts that are sound each part has, how many parts there are, and how many random
+    /// nestings.
     pub sound: usize,
+    pub sound_parts: u64,
     pub nested: usize,
 }
 
-pub const SHORT: Form = Form { phrases: [2, 3, 4, 4], operations: 4, sound: 3_000, nested: 60 };
+pub const SHORT: Form =
+    Form { phrases: [2, 3, 4, 4], operations: 4, sound: 3_000, sound_parts: 1, nested: 60 };
 
-pub const LONG: Form = Form { phrases: [4, 5, 6, 6], operations: 6, sound: 200_000, nested: 3_000 };
+pub const LONG: Form =
+    Form { phrases: [4, 5, 6, 6], operations: 6, sound: 20_000, sound_parts: 10, nested: 3_000 };
 
 /// What the random scripts of each group begin from.
 const SEED: u64 = 11;
@@ -43,9 +47,13 @@ pub fn run(report: &mut Report, form: &Form, checks: &Checks) {
     report.group("text: every small expression, in all parentheses and in none", |tally| {
         operations::every(form.operations, |script| tally.add(script, check(script)));
     });
-    report.group("text: sound scripts by the grammar", |tally| {
-        repeat(tally, form.sound, SEED, &grammar::sound, check);
-    });
+    for part in 1..=form.sound_parts {
+        let name =
+            format!("text: sound scripts by the grammar, part {part} of {}", form.sound_parts);
+        report.group(&name, |tally| {
+            repeat(tally, form.sound, SEED + part, &grammar::sound, check);
+        });
+    }
     report.group("text: sound nesting about the limit", |tally| {
         repeat(tally, form.nested, SEED, &nesting::sound, check);
     });
