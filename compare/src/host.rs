@@ -23,13 +23,9 @@ pub type TextCall = fn(&[u8], Arrays<'_>, &mut [u8]) -> TextAnswer;
 /// The text call of the plain twin.
 pub const TWIN_TEXT: TextCall = twin::text;
 
-/// Whether the static library has the text call. As long as it has none, the twin's stands in its place.
-#[cfg(not(feature = "stand-in"))]
-const HAS_TEXT: bool = false;
-
 /// The text call of the static library.
 #[cfg(not(feature = "stand-in"))]
-pub const TEXT: TextCall = if HAS_TEXT { text } else { TWIN_TEXT };
+pub const TEXT: TextCall = text;
 #[cfg(feature = "stand-in")]
 pub const TEXT: TextCall = TWIN_TEXT;
 
@@ -38,11 +34,7 @@ pub const NO_ERROR: Early = Early { place: 0, reason: 0 };
 
 /// What answers the calls, for reports.
 #[cfg(not(feature = "stand-in"))]
-pub const OURS: &str = if HAS_TEXT {
-    "the static library"
-} else {
-    "the static library; for the text call, which it does not have yet, the plain twin"
-};
+pub const OURS: &str = "the static library";
 #[cfg(feature = "stand-in")]
 pub const OURS: &str = "the plain twin, in the place of the static library";
 

@@ -19,7 +19,7 @@ use Rattle.sifc_def.specs.declared.Reading.the-variants.{Refused}
 use Rattle.sifc_def.specs.Error.{tyOf}
 use Rattle.sifc_def.specs.Read.{Arrays, called, roomsOf, entry, even, read, answered}
 use Rattle.sifc_read.specs.Parts.{arrays, bare, Entered}
-use Rattle.sifc_read.proofs.Calls as words
+use Rattle.sifc_read.specs.EntryLaws as words
 use Rattle.sifc_records.specs.declared.call.Told.{Told}
 use Rattle.sifc_records.specs.Records.{whyBy, whyOf, recordOf, entryRecords}
 use Rattle.sifc_records.specs.RecordLaws.{entryBy, entry-by, entry-of}

@@ -5,7 +5,7 @@ use Rattle.sifc_lex.proofs.tokens.Met as tokens-proof
 use Rattle.sifc_read.proofs.reading.Statement as reading-contract
 use Rattle.sifc_read.proofs.reading.Met as reading-proof
 use Rattle.sifc_text.proofs.call.text.Statement as text-contract
-use Rattle.sifc_text.proofs.call.text.Proof.{text-spec}
+use Rattle.sifc_text.proofs.call.text.Met as text-proof
 use Rattle.sifc_def.specs.Canon.Demand.{FlagDown}
 use Rattle.sifc_text.specs.Demand3.{Ran, AllFit, Demand3, demand3-calls}
 
@@ -20,7 +20,7 @@ module _ {M : Type 1} where
 
   -- The text call: answer, the seven arrays and the buffer at exit are `textCall` of the script, the arrays and the buffer at entry.
   pub text : text-contract.statement M
-  text = text-spec
+  text = text-proof.met
 
 -- Demand 3, of any eight calls that ran: two scripts, their readings and text calls, and the readings and text calls of their canonical texts.
 pub demand3 : (x y : Ran) → FlagDown (x .reads .answer) → FlagDown (y .reads .answer) → AllFit x → AllFit y → Demand3 x y
