@@ -52,6 +52,7 @@ unfolding blankFrom paddedErrs
 used es rs h =
     ap₂ (λ (l : List ParseErr) (n : ℕ). l ++ replicate (n - length es) blankErr) (take-append-seam es (drop (length es) rs)) (length-front rs es (length es) (sym (length-take-le (length es) rs h)))
 
+-- an array that is filled up holds what it is filled with
 padded-long : (xs : List ℕ) (m : ℕ) → length xs ≤ length (padded xs m)
 unfolding padded
 padded-long xs m = omega (arith, length-append xs (replicate (m - length xs) 0))
@@ -66,6 +67,7 @@ module _ (s : List ℕ) (a : Arrays) (f : Found) (h : Sounds (roomsOf a) s f) wh
       ap₂ toksOf (used-part (offsOf (f .toks)) (length (f .toks)) (length (a .offs)) (length-offs (f .toks))) (used-part (wordsOf (f .toks)) (length (f .toks)) (length (a .words)) (length-words (f .toks)))
       ∙ ap (λ (ts : List Token). toksOf (offsOf ts) (wordsOf ts)) (h .toks) ∙ lexed-back s
 
+  -- the records of a reading's words are those of its errors
   filled-found : length s ≤ 65535 → (rs : List ParseErr) → length (a .places) ≡ length rs
       → filledOf (toksOf (take (length (f .toks)) (filled c f a .offs)) (take (length (f .toks)) (filled c f a .words))) (filled c f a .places) (filled c f a .reasons) (length (f .errs)) (length (f .errs)) rs ≡ paddedErrs (map (parseErr c) (f .errs)) (length rs)
   unfolding filledOf
@@ -81,6 +83,7 @@ module _ (s : List ℕ) (a : Arrays) (f : Found) (h : Sounds (roomsOf a) s f) wh
 
 -- ── the call ──
 
+-- what passes the tests of entry is short
 short-of : (s : List ℕ) (a : Arrays) (n : ℕ) → entryRecords s a n ≡ Fine → length s ≤ 65535
 short-of s a n e =
     let t = entered s (a .offs) (a .words) (a .heads) (a .loads) [] (a .places) (a .reasons) n {k = entryRecords s (arrays (a .offs) (a .words) (a .heads) (a .loads) [] (a .places) (a .reasons)) n} refl (entry-same s (a .offs) (a .words) (a .heads) (a .loads) (a .symbols) (a .places) (a .reasons) n ∙ e) in
@@ -100,6 +103,7 @@ module _ (s : List ℕ) (a : Arrays) where
       }
   outcome-fills n l (refused r) h = record { offs = omega arith; words = omega arith; places = omega arith; reasons = omega arith; used = omega arith; room = omega arith }
 
+  -- what the call on words tells can be filled in
   words-fill : (n : ℕ) → FillableOf n (readWords s a n)
   words-fill n = subst (FillableOf n) (read-by s a n) (go (entryRecords s a n) refl)
     where
@@ -114,6 +118,7 @@ module _ (s : List ℕ) (a : Arrays) where
     outcome-records short l (found f) h = ap (recorded (answered s a (found f) .answer) (answered s a (found f) .arrays)) (filled-found s a f h short rs l)
     outcome-records short l (refused r) h = ap (recorded (answered s a (refused r) .answer) (answered s a (refused r) .arrays)) (all-blank _ _ _ rs)
 
+    -- and the records filled so are the definition's
     words-records : filledBy rs (readWords s a (length rs)) ≡ readingRecords s a rs
     words-records = ap (filledBy rs) (sym (read-by s a (length rs))) ∙ go (entryRecords s a (length rs)) refl ∙ records-by s a rs
       where

@@ -44,6 +44,7 @@ use Rattle.sifc_records.specs.Listed.{Spoken, Listed, walk-lists}
 abbrev packed : ℕ → ℕ → ℕ → ℕ
 packed n a b = n + 16 * a + 1048576 * b
 
+-- the parts are back
 unpacked : (n a b : ℕ) → n < 16 → a < 65536 → whyOf (packed n a b) ≡ whyBy n a b
 unpacked n a b h k =
     let e : packed n a b % 16 ≡ n = omega arith in
@@ -100,11 +101,13 @@ record-back c e s h p =
 abbrev Sound : Ctx → Err → Type 0
 Sound c e = recordOf (c .toks) (errPlace c e) (errReason c e) ≡ parseErr c e
 
+-- So the words of all errors are their records'.
 pub records-back : (c : Ctx) (es : List Err) → Each (Sound c) es → recordsIn (c .toks) (map (errPlace c) es) (map (errReason c) es) ≡ map (parseErr c) es
 unfolding recordsIn Each
 records-back c [] h = refl
 records-back c (e ∷ es) h = ap₂ (λ (x : ParseErr) (xs : List ParseErr). x ∷ xs) (h .0) (records-back c es (h .1))
 
+-- it holds of errors that stand at one of the tokens and whose messages are not 0
 each-sound : (c : Ctx) (es : List Err) → length (c .script) ≤ 65535 → length (c .toks) ≤ 65536 → Each (FairErr (length (c .toks))) es → Each (λ (e : Err). Spoken (e .why)) es → Each (Sound c) es
 unfolding Each
 each-sound c [] s t f p = tt
@@ -114,11 +117,13 @@ each-sound c (e ∷ es) s t f p = (record-back c e s (small (f .0 .first)) (p .0
     small (inl l) = omega arith
     small (inr l) = omega arith
 
+-- a fact of each element, and the lists turned round
 each-onto : {A : Type 0} (P : A → Type 0) (xs ys : List A) → Each P xs → Each P ys → Each P (reverseAux xs ys)
 unfolding Each
 each-onto P [] ys p q = q
 each-onto P (x ∷ xs) ys p q = each-onto P xs (x ∷ ys) (p .1) (p .0, q)
 
+-- the same of the whole list
 each-reverse : {A : Type 0} (P : A → Type 0) (xs : List A) → Each P xs → Each P (reverse xs)
 unfolding Each
 each-reverse P xs p = each-onto P xs [] p tt
@@ -130,6 +135,7 @@ pub record Sounds (r : Rooms) (s : List ℕ) (f : Found) : Type 0 where
   pub room : length (f .errs) ≤ r .errors
   pub errs : length s ≤ 65535 → Each (Sound (ctxOf r s)) (f .errs)
 
+-- a refusal finds nothing
 abbrev pub SoundsOf : Rooms → List ℕ → Outcome → Type 0
 SoundsOf r s (found f) = Sounds r s f
 SoundsOf r s (refused x) = Unit {0}
@@ -168,6 +174,7 @@ callOf x = called (x .answer) (x .arrays)
 abbrev pub entryBy : Checked → Bool → Checked
 entryBy k b = elim k [ check.Refused r ↦ check.Refused r | Fine ↦ if b then Fine else check.Refused Uneven ]
 
+-- it is the definition's
 pub entry-by : (s : List ℕ) (a : Arrays) (n : ℕ) → entryBy (entry s a) (eqb (length (a .places)) n) ≡ entryRecords s a n
 unfolding entryRecords
 entry-by s a n = refl
@@ -180,10 +187,12 @@ recordsBy s a rs k =
       | Fine ↦ recorded (answered s a (read (roomsOf a) s) .answer) (answered s a (read (roomsOf a) s) .arrays) (recordsOf (ctxOf (roomsOf a) s) (length rs) (read (roomsOf a) s))
     ]
 
+-- it is the definition's
 pub records-by : (s : List ℕ) (a : Arrays) (rs : List ParseErr) → recordsBy s a rs (entryRecords s a (length rs)) ≡ readingRecords s a rs
 unfolding readingRecords
 records-by s a rs = refl
 
+-- with as many records, the tests are those of the call on words
 records-even : (s : List ℕ) (a : Arrays) (rs : List ParseErr) → length (a .places) ≡ length rs → readingRecords s a rs ≡ recordsBy s a rs (entryBy (entry s a) true)
 records-even s a rs l = sym (ap (recordsBy s a rs) (sym (ap (entryBy (entry s a)) (eq-eqb (length (a .places)) (length rs) l)) ∙ entry-by s a (length rs)) ∙ records-by s a rs)
 
@@ -206,6 +215,7 @@ abbrev pub errorsOf : Reading → ℕ
 errorsOf (Read m) = m .errors
 errorsOf (Refused r) = 0
 
+-- a refusal does not pass
 never-refused : {X : Type 0} (f : Refusal) → check.Refused f ≡ Fine → X
 never-refused f p = absurd (let z : _≡_ {A = ℕ} 0 1 = cc in let y : ⊥ = omega arith in y)
 
@@ -219,10 +229,12 @@ entry-of s a n e = go (entry s a) (eqb (length (a .places)) n) refl (entry-by s 
     go Fine true t d = (refl, eqb-true (length (a .places)) n t)
     go Fine false t d = never-refused Uneven d
 
+-- what a reading counts
 fits-found : (s : List ℕ) (a : Arrays) (f : Found) (n : ℕ) → length (f .errs) ≤ n → errorsOf (answered s a (found f) .answer) ≤ n
 unfolding answered
 fits-found s a f n h = h
 
+-- a refusal counts none
 fits-refused : (s : List ℕ) (a : Arrays) (r : Refusal) (n : ℕ) → errorsOf (answered s a (refused r) .answer) ≤ n
 unfolding answered
 fits-refused s a r n = omega arith

@@ -41,7 +41,7 @@ entryRecords s a n = elim (entry s a) [ check.Refused r ↦ check.Refused r | Fi
 -- the records after a reading behind the tests of entry: those of its errors in order, blank past them; all blank after a refusal
 unfoldable pub recordsOf : Ctx → ℕ → Outcome → List ParseErr
 recordsOf c n (found f) = paddedErrs (map (parseErr c) (f .errs)) n
-recordsOf c n (refused r) = replicate n blankErr
+recordsOf c n (refused r) = blankRecords n
 
 -- an answer, the arrays and the records afterwards
 pub record Recorded : Type 0 where
@@ -49,6 +49,7 @@ pub record Recorded : Type 0 where
   pub arrays : Arrays
   pub records : List ParseErr
 
+-- the three together
 abbrev pub recorded : Reading → Arrays → List ParseErr → Recorded
 recorded x a rs = record { answer = x; arrays = a; records = rs }
 

@@ -9,6 +9,7 @@ use Rattle.sifc_def.specs.Read.{Arrays, Called, roomsOf, read, answered}
 use Rattle.sifc_records.specs.declared.call.Told.{Told}
 use Rattle.sifc_records.specs.Records.{entryRecords}
 
+-- the four together
 abbrev pub told : Reading → ℕ → ℕ → ℕ → Told
 told r n m k = record { reading = r; tokens = n; errors = m; from = k }
 
@@ -22,9 +23,11 @@ pub record Kept : Type 0 where
   pub told : Told
   pub arrays : Arrays
 
+-- the two together
 abbrev pub kept : Told → Arrays → Kept
 kept t a = record { told = t; arrays = a }
 
+-- of what the call on words leaves
 abbrev pub keptOf : Called Reading → Kept
 keptOf x = kept (toldOf (x .answer)) (x .arrays)
 

@@ -11,6 +11,7 @@ use Rattle.sifc_lex.specs.Kind.{Eof}
 use Rattle.sifc_lex.specs.Lex.{token, step, endKind}
 use Rattle.sifc_view.specs.declared.next.Lexed.{Lexed}
 
+-- a token, and where lexing goes on
 abbrev pub lexed : Token → ℕ → Lexed
 lexed t n = record { token = t; next = n }
 

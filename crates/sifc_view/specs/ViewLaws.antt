@@ -30,6 +30,7 @@ agree next next′ off s h (Skip n) b = let l = length-drop n s in h (off + n) (
 agree next next′ off s h (Word k n) b = refl
 agree next next′ off s h (Stop n e) b = refl
 
+-- any two bounds that exceed the number of bytes give the same token
 enough : (f g off : ℕ) (s : List ℕ) → length s < f → length s < g → nextFrom f off s ≡ nextFrom g off s
 unfolding nextFrom
 enough zero g off s h k = absurd (not-suc-le-zero h)
@@ -43,10 +44,12 @@ next-turn off s = agree (nextFrom (length s)) nextOf off s (λ o r l. enough (le
 
 -- ── a turn at an offset of a script ──
 
+-- an offset in the script is itself
 pub clipped-in : (off n : ℕ) → off ≤ n → clipped off n ≡ off
 unfolding clipped if_then_else_
 clipped-in off n h = simp (le-ltb n off h)
 
+-- no offset is past the end
 clipped-le : (off n : ℕ) → clipped off n ≤ n
 unfolding clipped if_then_else_
 clipped-le off n = go (ltb n off) refl
@@ -55,6 +58,7 @@ clipped-le off n = go (ltb n off) refl
     go true e = omega arith
     go false e = ltb-false n off e
 
+-- from an offset in the script on, nothing is clipped
 pub next-in : (s : List ℕ) (off : ℕ) → off ≤ length s → nextAt s off ≡ nextOf off (drop off s)
 unfolding nextAt
 next-in s off h = ap (λ (k : ℕ). nextOf k (drop k s)) (clipped-in off (length s) h)
@@ -70,14 +74,17 @@ module _ (s : List ℕ) (off : ℕ) where
   unfolding onNext
   next-skip n e = next-turn off (drop off s) ∙ ap (onNext nextOf off (drop off s)) e ∙ ap (nextOf (off + n)) (drop-drop n off s)
 
+  -- a token
   pub next-word : (k n : ℕ) → step (drop off s) ≡ Word k n → nextOf off (drop off s) ≡ lexed (token k off n) (off + n)
   unfolding onNext
   next-word k n e = next-turn off (drop off s) ∙ ap (onNext nextOf off (drop off s)) e
 
+  -- the end
   next-stop : (n : ℕ) (x : Ending) → step (drop off s) ≡ Stop n x → nextOf off (drop off s) ≡ lexed (token (endKind x) (off + n) 0) off
   unfolding onNext
   next-stop n x e = next-turn off (drop off s) ∙ ap (onNext nextOf off (drop off s)) e
 
+  -- the same, with the kind as it was found
   pub next-stopped : (n k : ℕ) (x : Ending) → k ≡ endKind x → step (drop off s) ≡ Stop n x → lexed (token k (off + n) 0) off ≡ nextOf off (drop off s)
   next-stopped n k x f e = ap (λ (i : ℕ). lexed (token i (off + n) 0) off) f ∙ sym (next-stop n x e)
 
@@ -86,18 +93,21 @@ module _ (s : List ℕ) (off : ℕ) where
   unfolding Fair
   skip-in n e h = let b : (0 < n) × (n ≤ length (drop off s)) = subst (Fair (length (drop off s))) e (fair-step (drop off s)) in (b .0, omega (arith, length-drop off s, b .1))
 
+  -- a token lies in the script, and is not the last
   pub word-in : (k n : ℕ) → step (drop off s) ≡ Word k n → off ≤ length s → (0 < n) × (off + n ≤ length s) × (k < Eof)
   unfolding Fair
   word-in k n e h =
       let b : (0 < n) × (n ≤ length (drop off s)) × (0 < k) × (k ≤ 45) = subst (Fair (length (drop off s))) e (fair-step (drop off s)) in
       (b .0, omega (arith, length-drop off s, b .1), omega (arith, b .3))
 
+  -- and so does the end
   pub stop-in : (n : ℕ) (x : Ending) → step (drop off s) ≡ Stop n x → off ≤ length s → off + n ≤ length s
   unfolding Fair
   stop-in n x e h =
       let b : (n ≤ length (drop off s)) × (endKind x ≡ 48 → n < length (drop off s)) = subst (Fair (length (drop off s))) e (fair-step (drop off s)) in
       omega (arith, length-drop off s, b .0)
 
+-- no test comes out both ways
 never : true ≡ false → ⊥
 never e = absurd (subst T e tt)
 
@@ -120,6 +130,7 @@ record Meets (s : List ℕ) (off : ℕ) (l : Lexed) : Type 0 where
   toks : lexAt off (drop off s) .toks ≡ onwards s l
   on : ltb (l .token .kind) Eof ≡ true → (off < l .next) × (l .next ≤ length s)
 
+-- bytes that are skipped change nothing of what is met
 met-later : (s : List ℕ) (off n : ℕ) (l : Lexed) → step (drop off s) ≡ Skip n → Meets s (off + n) l → Meets s off l
 unfolding onStep
 met-later s off n l e m =
@@ -128,6 +139,7 @@ met-later s off n l e m =
       on = λ t. let b = m .on t in (omega (arith, b .0), b .1);
     }
 
+-- At every offset of a script the next token is so.
 meets : (f : ℕ) (s : List ℕ) (off : ℕ) → off ≤ length s → length s - off < f → Meets s off (nextOf off (drop off s))
 unfolding onStep if_then_else_ ended endLen
 meets zero s off h l = absurd (not-suc-le-zero l)
