@@ -1,0 +1,4 @@
+pub mod Moved
+pub mod Whole
+pub mod Calls
+pub mod Promises

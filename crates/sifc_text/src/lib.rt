@@ -1,0 +1,5 @@
+// The text call: a reading, and the canonical text of the tree that it leaves.
+mod call;
+mod write;
+
+pub use call::text;
