@@ -4,6 +4,7 @@ use libc::STDIN_FILENO;
 use sif_show::print;
 use sifc_def::Texting;
 use sifc_err::Refusal;
+use sifc_lex::part;
 
 // The longest script that is read.
 const MOST: usize = 4096;
@@ -60,14 +61,6 @@ fn text_of(
     )
 }
 
-// Prints the first n bytes of a text.
-fn print_text(text: &[u8], n: usize) {
-    if text.len() < n {
-        return;
-    }
-    print(&text[..n]);
-}
-
 // Prints the text of a script, or its refusal.
 fn write(
     script: &[u8],
@@ -92,7 +85,7 @@ fn write(
         text,
     );
     match said {
-        Texting::Wrote(n) => print_text(text, n),
+        Texting::Wrote(n) => print(part(text, 0, n)),
         Texting::Refused(refusal) => {
             sif_show::print_refusal(refusal);
             print(b"\n");
