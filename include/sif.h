@@ -268,7 +268,7 @@ uint32_t sif_tokens(const uint8_t *script, size_t script_len,
  * All elements past the used ones become 0. Refusals 1 to 3 leave all arrays as they were; refusals 4 to
  * 9 set every element to 0.
  *
- * The call recurses as the script nests, up to the limit of refusal 6. It takes at most about 2.3 MB of
+ * The call recurses as the script nests, up to the limit of refusal 6. It takes at most about 2.4 MB of
  * stack (measured; docs/PERFORMANCE.md): a thread that calls it needs more than that.
  *
  * Answers the number of the refusal, or 0.

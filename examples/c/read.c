@@ -6,7 +6,7 @@
  *   target/read examples/schedule.sif
  *
  * The exit status is 0 if the script reads without failure, 1 if it does not, and 2 if the file cannot be
- * opened. The calls take up to about 2.3 MB of stack: this main thread has 8 MiB on Linux; a thread that a
+ * opened. The calls take up to about 2.4 MB of stack: this main thread has 8 MiB on Linux; a thread that a
  * program makes for them must be given as much.
  */
 #include <sif.h>

@@ -9,7 +9,7 @@ from typing import Any, Callable
 
 NAME = "libsif_c.so.0"
 
-# A reading recurses as its script nests and takes up to 2.3 MB of stack. Each nested call is owed to one of
+# A reading recurses as its script nests and takes up to 2.4 MB of stack. Each nested call is owed to one of
 # these bytes; with at most FEW of them it takes less than half a megabyte.
 OPENING = b"{([.=-!@"
 FEW = 64

@@ -29,7 +29,7 @@
 //!
 //! # Threads and stack
 //!
-//! A reading recurses as its script nests, and the deepest takes about 2.3 MB of stack; a Rust thread has
+//! A reading recurses as its script nests, and the deepest takes about 2.4 MB of stack; a Rust thread has
 //! 2 MiB by default. [`read`] and [`text`] count the bytes of a script that can nest. With at most 64 of
 //! them the library is called at once: it takes less than half a megabyte then. With more, the call runs
 //! on a thread of its own with a stack of 8 MiB, and the caller waits. So any thread can call with half a

@@ -1,4 +1,4 @@
-//! The stack of a call. A reading recurses as its script nests, and takes up to 2.3 MB: more than the
+//! The stack of a call. A reading recurses as its script nests, and takes up to 2.4 MB: more than the
 //! 2 MiB that a Rust thread has by default.
 //!
 //! Each of the parser's nested calls beyond the first few is owed to one of the bytes of [`opens`]. So a
