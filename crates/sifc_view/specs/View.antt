@@ -9,7 +9,10 @@ use Rattle.sifc_lex.specs.declared.lex.Step.the-variants.{Skip, Word, Stop}
 use Rattle.sifc_lex.specs.Base.{if_then_else_}
 use Rattle.sifc_lex.specs.Kind.{Eof}
 use Rattle.sifc_lex.specs.Lex.{token, step, endKind}
+use denote.Ref.{now}
 use Rattle.sifc_view.specs.declared.next.Lexed.{Lexed}
+use Rattle.sifc_view.specs.declared.view.Lexer.{Lexer}
+use Rattle.sifc_view.specs.declared.view.Stepped.{Stepped}
 
 -- a token, and where lexing goes on
 abbrev pub lexed : Token → ℕ → Lexed
@@ -42,3 +45,16 @@ nextAt s off = nextOf (clipped off (length s)) (drop (clipped off (length s)) s)
 unfoldable pub viewed : ℕ → List ℕ → ℕ → List Token
 viewed zero s off = []
 viewed (suc f) s off = nextAt s off .token ∷ (if ltb (nextAt s off .token .kind) Eof then viewed f s (nextAt s off .next) else [])
+
+-- what lexing a view answers where l is found at its offset: the token, with the view moved on
+abbrev movedOn : Lexer → Lexed → Stepped
+movedOn v l = record { token = l .token; view = record { script = v .script; off = l .next } }
+
+-- what lexing a view answers
+unfoldable pub stepped : Lexer → Stepped
+stepped v = movedOn v (nextAt (now (v .script)) (v .off))
+
+-- the tokens that lexing a view gives, so many at most, each from the view that the one before answered: an Eof or a lexing panic is the last
+unfoldable pub stepping : ℕ → Lexer → List Token
+stepping zero v = []
+stepping (suc f) v = stepped v .token ∷ (if ltb (stepped v .token .kind) Eof then stepping f (stepped v .view) else [])

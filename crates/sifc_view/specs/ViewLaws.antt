@@ -9,6 +9,7 @@ use borrow.Author.Tests.{lt-ltb, le-ltb, ltb-false}
 use lib.Dec.{T, ltb}
 use lib.ListN.{length, drop, length-drop}
 use lib.Seq.{drop-drop}
+use denote.Ref.{now}
 use Rattle.sifc_err.specs.declared.Token.{Token}
 use Rattle.sifc_err.specs.declared.Ending.{Ending}
 use Rattle.sifc_err.specs.declared.Ending.the-variants.{TrueEnd, UnknownChar, UnterminatedString, Panic}
@@ -19,7 +20,8 @@ use Rattle.sifc_lex.specs.Kind.{Eof}
 use Rattle.sifc_lex.specs.Lex.{token, step, endKind, endLen, ended, onStep, before, lexed as lexedAll, lex}
 use Rattle.sifc_lex.specs.LexLaws.{Fair, fair-step, lexAt, lexAt-turn}
 use Rattle.sifc_view.specs.declared.next.Lexed.{Lexed}
-use Rattle.sifc_view.specs.View.{lexed, onNext, nextFrom, nextOf, clipped, nextAt, viewed}
+use Rattle.sifc_view.specs.declared.view.Lexer.{Lexer}
+use Rattle.sifc_view.specs.View.{lexed, onNext, nextFrom, nextOf, clipped, nextAt, viewed, stepped, stepping}
 
 -- ── turns ──
 
@@ -184,3 +186,14 @@ viewed-from (suc f) s off h l =
 pub lex-viewed : (s : List ℕ) → lex s ≡ viewed (suc (length s)) s 0
 unfolding lex lexedAll lexAt
 lex-viewed s = viewed-from (suc (length s)) s 0 (omega arith) (omega arith)
+
+-- the view that lexing answers stands where lexing goes on
+stepping-viewed : (f : ℕ) (v : Lexer) → stepping f v ≡ viewed f (now (v .script)) (v .off)
+unfolding stepping stepped viewed
+stepping-viewed zero v = refl
+stepping-viewed (suc f) v =
+    ap (λ (ts : List Token). nextAt (now (v .script)) (v .off) .token ∷ (if ltb (nextAt (now (v .script)) (v .off) .token .kind) Eof then ts else [])) (stepping-viewed f (stepped v .view))
+
+-- Lexing a view at a script's start, and then each view that lexing answers, gives the script's token list.
+pub lex-stepped : (v : Lexer) → v .off ≡ 0 → lex (now (v .script)) ≡ stepping (suc (length (now (v .script)))) v
+lex-stepped v e = lex-viewed (now (v .script)) ∙ ap (viewed (suc (length (now (v .script)))) (now (v .script))) (sym e) ∙ sym (stepping-viewed (suc (length (now (v .script)))) v)

@@ -6,7 +6,7 @@ mod view;
 pub use next::Lexed;
 pub use next::next_at;
 pub use view::Lexer;
+pub use view::Stepped;
 pub use view::lex;
-pub use view::moved;
 pub use view::new;
 pub use view::token_from;

@@ -2,13 +2,20 @@
 // is not covered. Callers use token_from, whose parameters are plain.
 use crate::next::Lexed;
 use crate::next::next_at;
+use sifc_err::Token;
 ghost use mathlib.Core.Path.{_≡_};
-ghost use Rattle.sifc_view.specs.View.{nextAt};
+ghost use Rattle.sifc_view.specs.View.{nextAt, stepped};
 
 // Lexer of lex.rs: the script, and how far it is lexed.
 pub struct Lexer<'a> {
     pub script: &'a [u8],
     pub off: usize,
+}
+
+// A token, with the view moved on to where lexing goes on.
+pub struct Stepped<'a> {
+    pub token: Token,
+    pub view: Lexer<'a>,
 }
 
 // A view at the script's start.
@@ -18,20 +25,17 @@ pub fn new<'a>(script: &'a [u8]) -> Lexer<'a>
     Lexer { script, off: 0 }
 }
 
-// The next token, and where the view is to go on.
-pub fn lex<'a>(view: Lexer<'a>) -> Lexed
-    ensures { λ r. ⌜ r ≡ nextAt (now (view .entry .script)) (view .entry .off) ⌝ }
+// The next token, with the view moved on.
+pub fn lex<'a>(view: Lexer<'a>) -> Stepped<'a>
+    ensures { λ r. ⌜ r ≡ stepped (view .entry) ⌝ }
 {
-    next_at(view.script, view.off)
-}
-
-// The view moved on to an offset.
-pub fn moved<'a>(view: Lexer<'a>, off: usize) -> Lexer<'a>
-    ensures { λ r. ⌜ (r .script ≡ view .entry .script) × (r .off ≡ off) ⌝ }
-{
-    Lexer {
-        script: view.script,
-        off,
+    let found = next_at(view.script, view.off);
+    Stepped {
+        token: found.token,
+        view: Lexer {
+            script: view.script,
+            off: found.next,
+        },
     }
 }
 
@@ -39,5 +43,11 @@ pub fn moved<'a>(view: Lexer<'a>, off: usize) -> Lexer<'a>
 pub fn token_from(script: &[u8], off: usize) -> Lexed
     ensures { λ r. ⌜ r ≡ nextAt (now (script .entry)) off ⌝ }
 {
-    lex(moved(new(script), off))
+    let mut view = new(script);
+    view.off = off;
+    let step = lex(view);
+    Lexed {
+        token: step.token,
+        next: step.view.off,
+    }
 }
