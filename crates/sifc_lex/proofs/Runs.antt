@@ -5,14 +5,15 @@ use mathlib.Core.List.{List, [], _∷_}
 use mathlib.Core.Bool.{Bool, true, false}
 use native.Mathlib.Omega.{arith}
 use native.Mathlib.Numerals.{add-one, one-add}
-use borrow.Author.Tests.{eq-eqb, ne-eqb}
-use lib.Dec.{eqb}
-use lib.ListN.{take, drop, length, getD, drop-of-length-le}
+use borrow.Author.Tests.{eq-eqb, ne-eqb, ltb-true, ltb-false}
+use lib.Dec.{eqb, ltb}
+use lib.ListN.{take, drop, length, getD, drop-of-length-le, List·getD-eq-default}
 use lib.Seq.{drop-cons, drop-drop}
 use Rattle.sifc_err.specs.declared.Ending.the-variants.{TrueEnd, UnknownChar, UnterminatedString, Panic}
 use Rattle.sifc_lex.specs.declared.lex.Step.{Step}
 use Rattle.sifc_lex.specs.declared.lex.Step.the-variants.{Skip, Word, Stop}
 use Rattle.sifc_lex.specs.Base.{if_then_else_, span}
+use Rattle.sifc_lex.specs.BaseLaws.{and-false}
 use Rattle.sifc_lex.specs.Reserved.{nameKind}
 use Rattle.sifc_lex.specs.Lex.{white, letter, step, alnum, digit, inLine, inStr, hashComment, lineEnd, slashComment, nextIs, lexSlash, closed, lexStr, pointed, fraction, lexNum, lexIdent, oneSign, doubles, doubleKind, lexSign}
 
@@ -97,17 +98,25 @@ unfolding lexSlash nextIs if_then_else_
 slash-two s at h e = rw (drop-cons s at 0 h) (rw (eq-eqb (getD s at 0) 47 e) refl)
 
 -- a sign: no next byte, one that makes no sign of two, one that does
-pub sign-alone : (s : List ℕ) (at b : ℕ) → length s ≤ at → lexSign b (drop at s) ≡ oneSign b
-unfolding lexSign
-sign-alone s at b h = rw (drop-of-length-le s h) refl
+pub none-at : (s : List ℕ) (at b : ℕ) → length s ≤ at → doubleKind doubles b (getD s at 0) ≡ 0
+unfolding doubleKind doubles if_then_else_
+none-at s at b h = rw (List·getD-eq-default s 0 h) (simp (and-false))
 
-pub sign-one : (s : List ℕ) (at b : ℕ) → at < length s → doubleKind doubles b (getD s at 0) ≡ 0 → lexSign b (drop at s) ≡ oneSign b
+pub sign-one : (s : List ℕ) (at b : ℕ) → doubleKind doubles b (getD s at 0) ≡ 0 → lexSign b (drop at s) ≡ oneSign b
 unfolding lexSign if_then_else_
-sign-one s at b h e = rw (drop-cons s at 0 h) (rw (eq-eqb (doubleKind doubles b (getD s at 0)) 0 e) refl)
+sign-one s at b e = go (ltb at (length s)) refl
+  where
+    go : (t : Bool) → ltb at (length s) ≡ t → lexSign b (drop at s) ≡ oneSign b
+    go true z = rw (drop-cons s at 0 (ltb-true at (length s) z)) (rw (eq-eqb (doubleKind doubles b (getD s at 0)) 0 e) refl)
+    go false z = rw (drop-of-length-le s (ltb-false at (length s) z)) refl
 
-pub sign-two : (s : List ℕ) (at b : ℕ) → at < length s → (doubleKind doubles b (getD s at 0) ≡ 0 → ⊥) → lexSign b (drop at s) ≡ Word (doubleKind doubles b (getD s at 0)) 2
+pub sign-two : (s : List ℕ) (at b : ℕ) → (doubleKind doubles b (getD s at 0) ≡ 0 → ⊥) → lexSign b (drop at s) ≡ Word (doubleKind doubles b (getD s at 0)) 2
 unfolding lexSign if_then_else_
-sign-two s at b h n = rw (drop-cons s at 0 h) (rw (ne-eqb (doubleKind doubles b (getD s at 0)) 0 n) refl)
+sign-two s at b n = go (ltb at (length s)) refl
+  where
+    go : (t : Bool) → ltb at (length s) ≡ t → lexSign b (drop at s) ≡ Word (doubleKind doubles b (getD s at 0)) 2
+    go true z = rw (drop-cons s at 0 (ltb-true at (length s) z)) (rw (ne-eqb (doubleKind doubles b (getD s at 0)) 0 n) refl)
+    go false z = absurd (n (none-at s at b (ltb-false at (length s) z)))
 
 -- The turn at an index of the script, arm by arm.
 pub turn-end : (s : List ℕ) (at : ℕ) → length s ≤ at → step (drop at s) ≡ Stop 0 TrueEnd

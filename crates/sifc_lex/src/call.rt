@@ -13,6 +13,7 @@ ghost use Prim.Native.Nat.{_+_, _*_, _-_, _≤_, _<_};
 ghost use lib.ListN.{length, take, set, replicate};
 ghost use Rattle.sifc_lex.specs.Tokens.{lexCalled, lexCall, checkOf, tokensCalled, answerOf, afterEntry, byEnding, tokensCall};
 ghost use Rattle.sifc_lex.specs.Loaded.{Loaded, usedBy};
+ghost use Rattle.sifc_lex.specs.Class.{greatestFrom};
 
 // What the tokens call answers.
 pub enum TokensAnswer {
@@ -104,12 +105,32 @@ fn used_by(lexed: LexAnswer) -> usize
     }
 }
 
+// The greatest byte of a script; 0 if it has none. The loop has no other way out, so it is compiled to
+// steps of many bytes.
+fn greatest(s: &[u8]) -> u8
+    ensures { λ r. ⌜ r ≡ greatestFrom 0 (now (s .entry)) ⌝ }
+{
+    let mut most: u8 = 0;
+    let mut i = 0;
+    while i < s.len() {
+        let b = s[i];
+        if most < b {
+            most = b;
+        }
+        i += 1;
+    }
+    most
+}
+
 // The tests on a script alone, refusals 1 and 2.
 pub fn check_script(script: &[u8]) -> Checked
     ensures { λ r. ⌜ r ≡ checkOf (now (script .entry)) ⌝ }
 {
     if 65535 < script.len() {
         return Checked::Refused(Refusal::LongScript);
+    }
+    if greatest(script) < 128 {
+        return Checked::Fine;
     }
     let first = run_end(script, 0, Class::Ascii);
     if first < script.len() {

@@ -11,6 +11,9 @@ use Rattle.sifc_lex.proofs.call.check_script.Tie as tie
 use Rattle.sifc_lex.proofs.call.check_script.Reads as reads
 use Rattle.sifc_lex.proofs.call.check_script.Lts as lts
 use Rattle.sifc_lex.proofs.lex.run_end.Reads as run-end-reads
+use Rattle.sifc_lex.proofs.call.greatest.Reads as greatest-reads
+use Rattle.sifc_lex.proofs.Greatest.{all-ascii}
+use native.Mathlib.Omega.{arith}
 
 -- src/tokens.rt:110:9
 returns : tie.Need-returns
@@ -19,29 +22,39 @@ returns c =
     let start = c .before .before in
     rw (lt-ltb 65535 (length (start .args .script .now)) (c .if1 .taken)) refl
 
--- src/tokens.rt:112:9
-run-end-requires : tie.Need-run-end-requires
-run-end-requires c κs = search needs
+greatest-requires : tie.Need-greatest-requires
+greatest-requires c κs = search needs
 
--- src/tokens.rt:114:9
 returns-2 : tie.Need-returns-2
 unfolding checkOf if_then_else_
 returns-2 c =
-    let c-run-end = c .before in
-    let c-if1 = c-run-end .before in
+    let c-greatest = c .before in
+    let c-if1 = c-greatest .before in
     let start = c-if1 .before .before in
-    let f : c-run-end .run-end .result ≡ span ascii (start .args .script .now) = c-run-end .run-end .ensures ∙ zero-add _ in
-    rw (le-ltb 65535 (length (start .args .script .now)) (c-if1 .if1 .left)) (rw (lt-ltb (span ascii (start .args .script .now)) (length (start .args .script .now)) (rw f at (c .if2 .taken))) (rw f refl))
+    let s = start .args .script .now in
+    let a : span ascii s ≡ length s = all-ascii 0 s (rw (c-greatest .greatest .ensures) at (c .if2 .taken)) in
+    rw (le-ltb 65535 (length s) (c-if1 .if1 .left)) (rw (le-ltb (span ascii s) (length s) (omega (arith, a))) refl)
 
--- src/tokens.rt:106:1
+run-end-requires : tie.Need-run-end-requires
+run-end-requires c κs = search needs
+
 returns-3 : tie.Need-returns-3
 unfolding checkOf if_then_else_
 returns-3 c =
     let c-run-end = c .before in
-    let c-if1 = c-run-end .before in
+    let c-if1 = c-run-end .before .before .before in
     let start = c-if1 .before .before in
     let f : c-run-end .run-end .result ≡ span ascii (start .args .script .now) = c-run-end .run-end .ensures ∙ zero-add _ in
-    rw (le-ltb 65535 (length (start .args .script .now)) (c-if1 .if1 .left)) (rw (le-ltb (span ascii (start .args .script .now)) (length (start .args .script .now)) (rw f at (c .if2 .left))) refl)
+    rw (le-ltb 65535 (length (start .args .script .now)) (c-if1 .if1 .left)) (rw (lt-ltb (span ascii (start .args .script .now)) (length (start .args .script .now)) (rw f at (c .if3 .taken))) (rw f refl))
+
+returns-4 : tie.Need-returns-4
+unfolding checkOf if_then_else_
+returns-4 c =
+    let c-run-end = c .before in
+    let c-if1 = c-run-end .before .before .before in
+    let start = c-if1 .before .before in
+    let f : c-run-end .run-end .result ≡ span ascii (start .args .script .now) = c-run-end .run-end .ensures ∙ zero-add _ in
+    rw (le-ltb 65535 (length (start .args .script .now)) (c-if1 .if1 .left)) (rw (le-ltb (span ascii (start .args .script .now)) (length (start .args .script .now)) (rw f at (c .if3 .left))) refl)
 
 pub check-script-spec : {M : Type 1} → statement M
-check-script-spec = tie.close (tie.spec returns run-end-requires returns-2 returns-3)
+check-script-spec = tie.close (tie.spec returns greatest-requires returns-2 run-end-requires returns-3 returns-4)
