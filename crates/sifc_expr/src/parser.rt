@@ -440,9 +440,6 @@ fn mod_expr(
     requires { ⌜ Ready (inp (now script) (now offs) (now words) lim) (mem (now symbols) (now head) (now load)) w ⌝ }
     ensures { λ r. ⌜ Does 0 (λ c. rest c 1 (walkers c depth .unary)) (inp (now (script .entry)) (now (offs .entry)) (now (words .entry)) lim) (mem (now (symbols .entry)) (now (head .entry)) (now (load .entry))) w r (mem (now (symbols .exit)) (now (head .exit)) (now (load .exit))) ⌝ }
 {
-    if !binds(words, w.at, 1) {
-        return Parsed::Done(w);
-    }
     let mut x = w;
     loop {
         let op = x.at;

@@ -76,7 +76,7 @@ use EqualityExpr.{equality-expr-binds-requires, equality-expr-returns, equality-
 use FnCallExpr.{fn-call-expr-returns, fn-call-expr-sub-below, fn-call-expr-primary-expr-requires, fn-call-expr-enum-known-first, fn-call-expr-same-length, fn-call-expr-same-length-2, fn-call-expr-same-length-3, fn-call-expr-returns-2, fn-call-expr-top-requires, fn-call-expr-kind-at-requires, fn-call-expr-call-requires, fn-call-expr-same-length-4, fn-call-expr-same-length-5, fn-call-expr-same-length-6, fn-call-expr-returns-3, fn-call-expr-dot-requires, fn-call-expr-same-length-7, fn-call-expr-same-length-8, fn-call-expr-same-length-9, fn-call-expr-returns-4, fn-call-expr-index-requires, fn-call-expr-same-length-10, fn-call-expr-same-length-11, fn-call-expr-same-length-12, fn-call-expr-returns-5, fn-call-expr-same-length-13, fn-call-expr-same-length-14, fn-call-expr-same-length-15, fn-call-expr-returns-6}
 use GroupExpr.{group-expr-consume-requires, group-expr-enum-known-passed, group-expr-returns, group-expr-assign-expr-requires, group-expr-enum-known-inner, group-expr-same-length, group-expr-same-length-2, group-expr-same-length-3, group-expr-returns-2, group-expr-expect-requires, group-expr-same-length-4, group-expr-same-length-5, group-expr-same-length-6, group-expr-returns-3}
 use Index.{index-consume-requires, index-enum-known-passed, index-returns, index-assign-expr-requires, index-enum-known-inner, index-same-length, index-same-length-2, index-same-length-3, index-returns-2, index-expect-requires, index-enum-known-closed, index-same-length-4, index-same-length-5, index-same-length-6, index-returns-3, index-end-index-requires, index-same-length-7, index-same-length-8, index-same-length-9, index-returns-4}
-use ModExpr.{mod-expr-binds-requires, mod-expr-returns, mod-expr-loop-holds, mod-expr-kind-at-requires, mod-expr-looseness-requires, mod-expr-same-length, mod-expr-same-length-2, mod-expr-same-length-3, mod-expr-returns-2, mod-expr-consume-requires, mod-expr-enum-known-passed, mod-expr-same-length-4, mod-expr-same-length-5, mod-expr-same-length-6, mod-expr-returns-3, mod-expr-unary-expr-requires, mod-expr-enum-known-operand, mod-expr-same-length-7, mod-expr-same-length-8, mod-expr-same-length-9, mod-expr-returns-4, mod-expr-cast-push-node, mod-expr-push-node-requires, mod-expr-enum-known-made, mod-expr-same-length-10, mod-expr-same-length-11, mod-expr-same-length-12, mod-expr-returns-5, mod-expr-loop-less, mod-expr-loop-again, mod-expr-Inv-loop, mod-expr-μ-loop}
+use ModExpr.{mod-expr-loop-holds, mod-expr-kind-at-requires, mod-expr-looseness-requires, mod-expr-same-length, mod-expr-same-length-2, mod-expr-same-length-3, mod-expr-returns, mod-expr-consume-requires, mod-expr-enum-known-passed, mod-expr-same-length-4, mod-expr-same-length-5, mod-expr-same-length-6, mod-expr-returns-2, mod-expr-unary-expr-requires, mod-expr-enum-known-operand, mod-expr-same-length-7, mod-expr-same-length-8, mod-expr-same-length-9, mod-expr-returns-3, mod-expr-cast-push-node, mod-expr-push-node-requires, mod-expr-enum-known-made, mod-expr-same-length-10, mod-expr-same-length-11, mod-expr-same-length-12, mod-expr-returns-4, mod-expr-loop-less, mod-expr-loop-again, mod-expr-Inv-loop, mod-expr-μ-loop}
 use MulOrDivExpr.{mul-or-div-expr-binds-requires, mul-or-div-expr-returns, mul-or-div-expr-mod-expr-requires, mul-or-div-expr-enum-known-lhs, mul-or-div-expr-same-length, mul-or-div-expr-same-length-2, mul-or-div-expr-same-length-3, mul-or-div-expr-returns-2, mul-or-div-expr-loop-holds, mul-or-div-expr-kind-at-requires, mul-or-div-expr-looseness-requires, mul-or-div-expr-same-length-4, mul-or-div-expr-same-length-5, mul-or-div-expr-same-length-6, mul-or-div-expr-returns-3, mul-or-div-expr-consume-requires, mul-or-div-expr-enum-known-passed, mul-or-div-expr-same-length-7, mul-or-div-expr-same-length-8, mul-or-div-expr-same-length-9, mul-or-div-expr-returns-4, mul-or-div-expr-unary-expr-requires, mul-or-div-expr-enum-known-operand, mul-or-div-expr-same-length-10, mul-or-div-expr-same-length-11, mul-or-div-expr-same-length-12, mul-or-div-expr-returns-5, mul-or-div-expr-mod-expr-requires-2, mul-or-div-expr-enum-known-rhs, mul-or-div-expr-same-length-13, mul-or-div-expr-same-length-14, mul-or-div-expr-same-length-15, mul-or-div-expr-returns-6, mul-or-div-expr-cast-push-node, mul-or-div-expr-push-node-requires, mul-or-div-expr-enum-known-made, mul-or-div-expr-same-length-16, mul-or-div-expr-same-length-17, mul-or-div-expr-same-length-18, mul-or-div-expr-returns-7, mul-or-div-expr-loop-less, mul-or-div-expr-loop-again, mul-or-div-expr-Inv-loop, mul-or-div-expr-μ-loop}
 use OrExpr.{or-expr-binds-requires, or-expr-returns, or-expr-and-expr-requires, or-expr-enum-known-lhs, or-expr-same-length, or-expr-same-length-2, or-expr-same-length-3, or-expr-returns-2, or-expr-loop-holds, or-expr-kind-at-requires, or-expr-looseness-requires, or-expr-same-length-4, or-expr-same-length-5, or-expr-same-length-6, or-expr-returns-3, or-expr-consume-requires, or-expr-enum-known-passed, or-expr-same-length-7, or-expr-same-length-8, or-expr-same-length-9, or-expr-returns-4, or-expr-unary-expr-requires, or-expr-enum-known-operand, or-expr-same-length-10, or-expr-same-length-11, or-expr-same-length-12, or-expr-returns-5, or-expr-and-expr-requires-2, or-expr-enum-known-rhs, or-expr-same-length-13, or-expr-same-length-14, or-expr-same-length-15, or-expr-returns-6, or-expr-cast-push-node, or-expr-push-node-requires, or-expr-enum-known-made, or-expr-same-length-16, or-expr-same-length-17, or-expr-same-length-18, or-expr-returns-7, or-expr-loop-less, or-expr-loop-again, or-expr-Inv-loop, or-expr-μ-loop}
 use ParamList.{param-list-loop-holds, param-list-kind-at-requires, param-list-with-count-requires, param-list-same-length, param-list-same-length-2, param-list-same-length-3, param-list-returns, param-list-add-error-requires, param-list-same-length-4, param-list-same-length-5, param-list-same-length-6, param-list-returns-2, param-list-add-error-requires-2, param-list-same-length-7, param-list-same-length-8, param-list-same-length-9, param-list-returns-3, param-list-assign-expr-requires, param-list-enum-known-item, param-list-same-length-10, param-list-same-length-11, param-list-same-length-12, param-list-returns-4, param-list-separator-requires, param-list-enum-known-comma, param-list-same-length-13, param-list-same-length-14, param-list-same-length-15, param-list-returns-5, param-list-add-n, param-list-loop-less, param-list-loop-again, param-list-Inv-loop, param-list-μ-loop}
@@ -112,7 +112,7 @@ pub +add-or-sub-expr+and-expr+assign-expr+call+compr-expr+dot+equality-expr+fn-c
     (λ t. fn-call-expr-lts.spec (fn-call-expr-calls t) (fn-call-expr-at t) fn-call-expr.Post (fn-call-expr-returns t) (fn-call-expr-sub-below t) (fn-call-expr-primary-expr-requires t) (fn-call-expr-enum-known-first t) (fn-call-expr-same-length t) (fn-call-expr-same-length-2 t) (fn-call-expr-same-length-3 t) (fn-call-expr-returns-2 t) (fn-call-expr-top-requires t) (fn-call-expr-kind-at-requires t) (fn-call-expr-call-requires t) (fn-call-expr-same-length-4 t) (fn-call-expr-same-length-5 t) (fn-call-expr-same-length-6 t) (fn-call-expr-returns-3 t) (fn-call-expr-dot-requires t) (fn-call-expr-same-length-7 t) (fn-call-expr-same-length-8 t) (fn-call-expr-same-length-9 t) (fn-call-expr-returns-4 t) (fn-call-expr-index-requires t) (fn-call-expr-same-length-10 t) (fn-call-expr-same-length-11 t) (fn-call-expr-same-length-12 t) (fn-call-expr-returns-5 t) (fn-call-expr-same-length-13 t) (fn-call-expr-same-length-14 t) (fn-call-expr-same-length-15 t) (fn-call-expr-returns-6 t))
     (λ t. group-expr-lts.spec (group-expr-calls t) (group-expr-at t) group-expr.Post (group-expr-consume-requires t) (group-expr-enum-known-passed t) (group-expr-returns t) (group-expr-assign-expr-requires t) (group-expr-enum-known-inner t) (group-expr-same-length t) (group-expr-same-length-2 t) (group-expr-same-length-3 t) (group-expr-returns-2 t) (group-expr-expect-requires t) (group-expr-same-length-4 t) (group-expr-same-length-5 t) (group-expr-same-length-6 t) (group-expr-returns-3 t))
     (λ t. index-lts.spec (index-calls t) (index-at t) index.Post (index-consume-requires t) (index-enum-known-passed t) (index-returns t) (index-assign-expr-requires t) (index-enum-known-inner t) (index-same-length t) (index-same-length-2 t) (index-same-length-3 t) (index-returns-2 t) (index-expect-requires t) (index-enum-known-closed t) (index-same-length-4 t) (index-same-length-5 t) (index-same-length-6 t) (index-returns-3 t) (index-end-index-requires t) (index-same-length-7 t) (index-same-length-8 t) (index-same-length-9 t) (index-returns-4 t))
-    (λ t. mod-expr-lts.spec (mod-expr-calls t) (mod-expr-at t) mod-expr.Post mod-expr-Inv-loop mod-expr-μ-loop (mod-expr-binds-requires t) (mod-expr-returns t) (mod-expr-loop-holds t) (mod-expr-kind-at-requires t) (mod-expr-looseness-requires t) (mod-expr-same-length t) (mod-expr-same-length-2 t) (mod-expr-same-length-3 t) (mod-expr-returns-2 t) (mod-expr-consume-requires t) (mod-expr-enum-known-passed t) (mod-expr-same-length-4 t) (mod-expr-same-length-5 t) (mod-expr-same-length-6 t) (mod-expr-returns-3 t) (mod-expr-unary-expr-requires t) (mod-expr-enum-known-operand t) (mod-expr-same-length-7 t) (mod-expr-same-length-8 t) (mod-expr-same-length-9 t) (mod-expr-returns-4 t) (mod-expr-cast-push-node t) (mod-expr-push-node-requires t) (mod-expr-enum-known-made t) (mod-expr-same-length-10 t) (mod-expr-same-length-11 t) (mod-expr-same-length-12 t) (mod-expr-returns-5 t) (mod-expr-loop-less t) (mod-expr-loop-again t))
+    (λ t. mod-expr-lts.spec (mod-expr-calls t) (mod-expr-at t) mod-expr.Post mod-expr-Inv-loop mod-expr-μ-loop (mod-expr-loop-holds t) (mod-expr-kind-at-requires t) (mod-expr-looseness-requires t) (mod-expr-same-length t) (mod-expr-same-length-2 t) (mod-expr-same-length-3 t) (mod-expr-returns t) (mod-expr-consume-requires t) (mod-expr-enum-known-passed t) (mod-expr-same-length-4 t) (mod-expr-same-length-5 t) (mod-expr-same-length-6 t) (mod-expr-returns-2 t) (mod-expr-unary-expr-requires t) (mod-expr-enum-known-operand t) (mod-expr-same-length-7 t) (mod-expr-same-length-8 t) (mod-expr-same-length-9 t) (mod-expr-returns-3 t) (mod-expr-cast-push-node t) (mod-expr-push-node-requires t) (mod-expr-enum-known-made t) (mod-expr-same-length-10 t) (mod-expr-same-length-11 t) (mod-expr-same-length-12 t) (mod-expr-returns-4 t) (mod-expr-loop-less t) (mod-expr-loop-again t))
     (λ t. mul-or-div-expr-lts.spec (mul-or-div-expr-calls t) (mul-or-div-expr-at t) mul-or-div-expr.Post mul-or-div-expr-Inv-loop mul-or-div-expr-μ-loop (mul-or-div-expr-binds-requires t) (mul-or-div-expr-returns t) (mul-or-div-expr-mod-expr-requires t) (mul-or-div-expr-enum-known-lhs t) (mul-or-div-expr-same-length t) (mul-or-div-expr-same-length-2 t) (mul-or-div-expr-same-length-3 t) (mul-or-div-expr-returns-2 t) (mul-or-div-expr-loop-holds t) (mul-or-div-expr-kind-at-requires t) (mul-or-div-expr-looseness-requires t) (mul-or-div-expr-same-length-4 t) (mul-or-div-expr-same-length-5 t) (mul-or-div-expr-same-length-6 t) (mul-or-div-expr-returns-3 t) (mul-or-div-expr-consume-requires t) (mul-or-div-expr-enum-known-passed t) (mul-or-div-expr-same-length-7 t) (mul-or-div-expr-same-length-8 t) (mul-or-div-expr-same-length-9 t) (mul-or-div-expr-returns-4 t) (mul-or-div-expr-unary-expr-requires t) (mul-or-div-expr-enum-known-operand t) (mul-or-div-expr-same-length-10 t) (mul-or-div-expr-same-length-11 t) (mul-or-div-expr-same-length-12 t) (mul-or-div-expr-returns-5 t) (mul-or-div-expr-mod-expr-requires-2 t) (mul-or-div-expr-enum-known-rhs t) (mul-or-div-expr-same-length-13 t) (mul-or-div-expr-same-length-14 t) (mul-or-div-expr-same-length-15 t) (mul-or-div-expr-returns-6 t) (mul-or-div-expr-cast-push-node t) (mul-or-div-expr-push-node-requires t) (mul-or-div-expr-enum-known-made t) (mul-or-div-expr-same-length-16 t) (mul-or-div-expr-same-length-17 t) (mul-or-div-expr-same-length-18 t) (mul-or-div-expr-returns-7 t) (mul-or-div-expr-loop-less t) (mul-or-div-expr-loop-again t))
     (λ t. or-expr-lts.spec (or-expr-calls t) (or-expr-at t) or-expr.Post or-expr-Inv-loop or-expr-μ-loop (or-expr-binds-requires t) (or-expr-returns t) (or-expr-and-expr-requires t) (or-expr-enum-known-lhs t) (or-expr-same-length t) (or-expr-same-length-2 t) (or-expr-same-length-3 t) (or-expr-returns-2 t) (or-expr-loop-holds t) (or-expr-kind-at-requires t) (or-expr-looseness-requires t) (or-expr-same-length-4 t) (or-expr-same-length-5 t) (or-expr-same-length-6 t) (or-expr-returns-3 t) (or-expr-consume-requires t) (or-expr-enum-known-passed t) (or-expr-same-length-7 t) (or-expr-same-length-8 t) (or-expr-same-length-9 t) (or-expr-returns-4 t) (or-expr-unary-expr-requires t) (or-expr-enum-known-operand t) (or-expr-same-length-10 t) (or-expr-same-length-11 t) (or-expr-same-length-12 t) (or-expr-returns-5 t) (or-expr-and-expr-requires-2 t) (or-expr-enum-known-rhs t) (or-expr-same-length-13 t) (or-expr-same-length-14 t) (or-expr-same-length-15 t) (or-expr-returns-6 t) (or-expr-cast-push-node t) (or-expr-push-node-requires t) (or-expr-enum-known-made t) (or-expr-same-length-16 t) (or-expr-same-length-17 t) (or-expr-same-length-18 t) (or-expr-returns-7 t) (or-expr-loop-less t) (or-expr-loop-again t))
     (λ t. param-list-lts.spec (param-list-calls t) (param-list-at t) param-list.Post param-list-Inv-loop param-list-μ-loop (param-list-loop-holds t) (param-list-kind-at-requires t) (param-list-with-count-requires t) (param-list-same-length t) (param-list-same-length-2 t) (param-list-same-length-3 t) (param-list-returns t) (param-list-add-error-requires t) (param-list-same-length-4 t) (param-list-same-length-5 t) (param-list-same-length-6 t) (param-list-returns-2 t) (param-list-add-error-requires-2 t) (param-list-same-length-7 t) (param-list-same-length-8 t) (param-list-same-length-9 t) (param-list-returns-3 t) (param-list-assign-expr-requires t) (param-list-enum-known-item t) (param-list-same-length-10 t) (param-list-same-length-11 t) (param-list-same-length-12 t) (param-list-returns-4 t) (param-list-separator-requires t) (param-list-enum-known-comma t) (param-list-same-length-13 t) (param-list-same-length-14 t) (param-list-same-length-15 t) (param-list-returns-5 t) (param-list-add-n t) (param-list-loop-less t) (param-list-loop-again t))

@@ -246,7 +246,7 @@ abbrev pub index-calls : ℕ → index-lts.Claims
 index-calls t = (consume-reads.Asked, consume-reads.Learnt, assign-expr-below t, assign-expr.Post, expect-reads.Asked, expect-reads.Learnt, end-index-reads.Asked, end-index-reads.Learnt)
 
 abbrev pub mod-expr-calls : ℕ → mod-expr-lts.Claims
-mod-expr-calls t = (binds-reads.Asked, binds-reads.Learnt, kind-at-reads.Asked, kind-at-reads.Learnt, looseness-reads.Asked, looseness-reads.Learnt, consume-reads.Asked, consume-reads.Learnt, unary-expr-below t, unary-expr.Post, push-node-reads.Asked, push-node-reads.Learnt)
+mod-expr-calls t = (kind-at-reads.Asked, kind-at-reads.Learnt, looseness-reads.Asked, looseness-reads.Learnt, consume-reads.Asked, consume-reads.Learnt, unary-expr-below t, unary-expr.Post, push-node-reads.Asked, push-node-reads.Learnt)
 
 abbrev pub mul-or-div-expr-calls : ℕ → mul-or-div-expr-lts.Claims
 mul-or-div-expr-calls t = (binds-reads.Asked, binds-reads.Learnt, mod-expr-below t, mod-expr.Post, kind-at-reads.Asked, kind-at-reads.Learnt, looseness-reads.Asked, looseness-reads.Learnt, consume-reads.Asked, consume-reads.Learnt, unary-expr-below t, unary-expr.Post, push-node-reads.Asked, push-node-reads.Learnt)

@@ -31,20 +31,9 @@ mod-expr-Inv-loop script offs words symbols₀ head₀ load₀ lim depth x₀ sy
 abbrev pub mod-expr-μ-loop : mod-expr-lts.MeasureT-loop
 mod-expr-μ-loop script offs words symbols₀ head₀ load₀ lim depth x₀ symbols head load x = length words - x .at
 
-pub mod-expr-binds-requires : (t : ℕ) → mod-expr-lts.Need-binds-requires (mod-expr-calls t) (mod-expr-at t) mod-expr.Post mod-expr-Inv-loop mod-expr-μ-loop
-mod-expr-binds-requires t c κs =
-    let start = c .before .before .before .before .before .before in
-    start .pre .1 .stands .here
-
-pub mod-expr-returns : (t : ℕ) → mod-expr-lts.Need-returns (mod-expr-calls t) (mod-expr-at t) mod-expr.Post mod-expr-Inv-loop mod-expr-μ-loop
-mod-expr-returns t c =
-    let c-binds = c .before in
-    let start = c-binds .before .before .before .before .before .before .before in
-    ends-at-once 0 (start .args .depth) (start .pre .1) (sym (c-binds .binds .ensures) ∙ not-true _ (c .if1 .taken))
-
 pub mod-expr-loop-holds : (t : ℕ) → mod-expr-lts.Need-loop-holds (mod-expr-calls t) (mod-expr-at t) mod-expr.Post mod-expr-Inv-loop mod-expr-μ-loop
 mod-expr-loop-holds t c =
-    let start = c .before .before .before .before .before .before .before .before in
+    let start = c .before .before .before .before .before .before in
     looping (Turns 0 (start .args .depth)) (start .pre .1)
 
 pub mod-expr-kind-at-requires : (t : ℕ) → mod-expr-lts.Need-kind-at-requires (mod-expr-calls t) (mod-expr-at t) mod-expr.Post mod-expr-Inv-loop mod-expr-μ-loop
@@ -68,13 +57,13 @@ mod-expr-same-length-3 t c =
     let c-loop = c .before .before .before in
     c-loop .loop .inv .kept .load
 
-pub mod-expr-returns-2 : (t : ℕ) → mod-expr-lts.Need-returns-2 (mod-expr-calls t) (mod-expr-at t) mod-expr.Post mod-expr-Inv-loop mod-expr-μ-loop
-mod-expr-returns-2 t c =
+pub mod-expr-returns : (t : ℕ) → mod-expr-lts.Need-returns (mod-expr-calls t) (mod-expr-at t) mod-expr.Post mod-expr-Inv-loop mod-expr-μ-loop
+mod-expr-returns t c =
     let c-looseness = c .before in
     let c-kind-at = c-looseness .before in
     let c-loop = c-kind-at .before in
-    let start = c-loop .before .before .before .before .before .before .before .before .before in
-    ends 0 (start .args .depth) (c-loop .loop .inv) (begins 0 (start .args .depth) (start .pre .1) (idle (start .args .depth) (start .pre .1)) same refl) 0 (turns-end 0 (start .args .depth) ((c-loop .loop .inv) .is) (c-loop .loop .inv .f - 1) (λ z. c .if2 .taken (c-looseness .looseness .ensures ∙ ap looseness (c-kind-at .kind-at .ensures) ∙ z)))
+    let start = c-loop .before .before .before .before .before .before .before in
+    ends 0 (start .args .depth) (c-loop .loop .inv) (begins 0 (start .args .depth) (start .pre .1) (idle (start .args .depth) (start .pre .1)) same refl) 0 (turns-end 0 (start .args .depth) ((c-loop .loop .inv) .is) (c-loop .loop .inv .f - 1) (λ z. c .if1 .taken (c-looseness .looseness .ensures ∙ ap looseness (c-kind-at .kind-at .ensures) ∙ z)))
 
 pub mod-expr-consume-requires : (t : ℕ) → mod-expr-lts.Need-consume-requires (mod-expr-calls t) (mod-expr-at t) mod-expr.Post mod-expr-Inv-loop mod-expr-μ-loop
 mod-expr-consume-requires t c κs =
@@ -99,26 +88,26 @@ mod-expr-same-length-6 t c =
     let c-loop = c .before .before .before .before .before in
     c-loop .loop .inv .kept .load
 
-pub mod-expr-returns-3 : (t : ℕ) → mod-expr-lts.Need-returns-3 (mod-expr-calls t) (mod-expr-at t) mod-expr.Post mod-expr-Inv-loop mod-expr-μ-loop
-mod-expr-returns-3 t c =
+pub mod-expr-returns-2 : (t : ℕ) → mod-expr-lts.Need-returns-2 (mod-expr-calls t) (mod-expr-at t) mod-expr.Post mod-expr-Inv-loop mod-expr-μ-loop
+mod-expr-returns-2 t c =
     let c-consume = c .before in
-    let c-if2 = c-consume .before in
-    let c-looseness = c-if2 .before in
+    let c-if1 = c-consume .before in
+    let c-looseness = c-if1 .before in
     let c-kind-at = c-looseness .before in
     let c-loop = c-kind-at .before in
-    let start = c-loop .before .before .before .before .before .before .before .before .before in
-    ends 0 (start .args .depth) (c-loop .loop .inv) (begins 0 (start .args .depth) (start .pre .1) (idle (start .args .depth) (start .pre .1)) same refl) 1 (signs-not 0 (start .args .depth) ((c-loop .loop .inv) .is) (c-loop .loop .inv .f - 1) (ap looseness (sym (c-kind-at .kind-at .ensures)) ∙ sym (c-looseness .looseness .ensures) ∙ c-if2 .if2 .left) (c-consume .consume .ensures) (not-done _ (c .match .keys2)))
+    let start = c-loop .before .before .before .before .before .before .before in
+    ends 0 (start .args .depth) (c-loop .loop .inv) (begins 0 (start .args .depth) (start .pre .1) (idle (start .args .depth) (start .pre .1)) same refl) 1 (signs-not 0 (start .args .depth) ((c-loop .loop .inv) .is) (c-loop .loop .inv .f - 1) (ap looseness (sym (c-kind-at .kind-at .ensures)) ∙ sym (c-looseness .looseness .ensures) ∙ c-if1 .if1 .left) (c-consume .consume .ensures) (not-done _ (c .match .keys2)))
 
 pub mod-expr-unary-expr-requires : (t : ℕ) → mod-expr-lts.Need-unary-expr-requires (mod-expr-calls t) (mod-expr-at t) mod-expr.Post mod-expr-Inv-loop mod-expr-μ-loop
 mod-expr-unary-expr-requires t c κs =
     let c-passed = c .before .before .before .before in
     let c-consume = c-passed .before .before in
-    let c-if2 = c-consume .before in
-    let c-looseness = c-if2 .before in
+    let c-if1 = c-consume .before in
+    let c-looseness = c-if1 .before in
     let c-kind-at = c-looseness .before in
     let c-loop = c-kind-at .before in
-    let start = c-loop .before .before .before .before .before .before .before .before .before in
-    let s1 = signs 0 (start .args .depth) ((c-loop .loop .inv) .is) (c-loop .loop .inv .f - 1) (ap looseness (sym (c-kind-at .kind-at .ensures)) ∙ sym (c-looseness .looseness .ensures) ∙ c-if2 .if2 .left) (c-consume .consume .ensures) (c-passed .passed .given .1) in
+    let start = c-loop .before .before .before .before .before .before .before in
+    let s1 = signs 0 (start .args .depth) ((c-loop .loop .inv) .is) (c-loop .loop .inv .f - 1) (ap looseness (sym (c-kind-at .kind-at .ensures)) ∙ sym (c-looseness .looseness .ensures) ∙ c-if1 .if1 .left) (c-consume .consume .ensures) (c-passed .passed .given .1) in
     (omega (arith, start .pre .0), ready s1)
 
 pub mod-expr-enum-known-operand : (t : ℕ) → mod-expr-lts.Need-enum-known-operand (mod-expr-calls t) (mod-expr-at t) mod-expr.Post mod-expr-Inv-loop mod-expr-μ-loop
@@ -142,17 +131,17 @@ mod-expr-same-length-9 t c =
     let c-loop = c-unary-expr .before .before .before .before .before .before .before .before .before .before .before in
     c-unary-expr .unary-expr .kept .1 .1 .1 .1 .1 .0 ∙ c-loop .loop .inv .kept .load
 
-pub mod-expr-returns-4 : (t : ℕ) → mod-expr-lts.Need-returns-4 (mod-expr-calls t) (mod-expr-at t) mod-expr.Post mod-expr-Inv-loop mod-expr-μ-loop
-mod-expr-returns-4 t c =
+pub mod-expr-returns-3 : (t : ℕ) → mod-expr-lts.Need-returns-3 (mod-expr-calls t) (mod-expr-at t) mod-expr.Post mod-expr-Inv-loop mod-expr-μ-loop
+mod-expr-returns-3 t c =
     let c-unary-expr = c .before .before .before .before .before .before .before in
     let c-passed = c-unary-expr .before .before .before .before .before in
     let c-consume = c-passed .before .before in
-    let c-if2 = c-consume .before in
-    let c-looseness = c-if2 .before in
+    let c-if1 = c-consume .before in
+    let c-looseness = c-if1 .before in
     let c-kind-at = c-looseness .before in
     let c-loop = c-kind-at .before in
-    let start = c-loop .before .before .before .before .before .before .before .before .before in
-    let s1 = signs 0 (start .args .depth) ((c-loop .loop .inv) .is) (c-loop .loop .inv .f - 1) (ap looseness (sym (c-kind-at .kind-at .ensures)) ∙ sym (c-looseness .looseness .ensures) ∙ c-if2 .if2 .left) (c-consume .consume .ensures) (c-passed .passed .given .1) in
+    let start = c-loop .before .before .before .before .before .before .before in
+    let s1 = signs 0 (start .args .depth) ((c-loop .loop .inv) .is) (c-loop .loop .inv .f - 1) (ap looseness (sym (c-kind-at .kind-at .ensures)) ∙ sym (c-looseness .looseness .ensures) ∙ c-if1 .if1 .left) (c-consume .consume .ensures) (c-passed .passed .given .1) in
     ends 0 (start .args .depth) (c-loop .loop .inv) (begins 0 (start .args .depth) (start .pre .1) (idle (start .args .depth) (start .pre .1)) same refl) 1 (stops 1 (Operand 0 (start .args .depth)) (Rest 0 (start .args .depth) (c-loop .loop .x .at) (c-loop .loop .inv .f - 1)) s1 (c-unary-expr .unary-expr .ensures) (not-done _ (c .match2 .keys2)))
 
 pub mod-expr-cast-push-node : (t : ℕ) → mod-expr-lts.Need-cast-push-node (mod-expr-calls t) (mod-expr-at t) mod-expr.Post mod-expr-Inv-loop mod-expr-μ-loop
@@ -166,12 +155,12 @@ mod-expr-push-node-requires t c κs =
     let c-unary-expr = c-operand .before .before .before .before .before .before .before .before in
     let c-passed = c-unary-expr .before .before .before .before .before in
     let c-consume = c-passed .before .before in
-    let c-if2 = c-consume .before in
-    let c-looseness = c-if2 .before in
+    let c-if1 = c-consume .before in
+    let c-looseness = c-if1 .before in
     let c-kind-at = c-looseness .before in
     let c-loop = c-kind-at .before in
-    let start = c-loop .before .before .before .before .before .before .before .before .before in
-    let s1 = signs 0 (start .args .depth) ((c-loop .loop .inv) .is) (c-loop .loop .inv .f - 1) (ap looseness (sym (c-kind-at .kind-at .ensures)) ∙ sym (c-looseness .looseness .ensures) ∙ c-if2 .if2 .left) (c-consume .consume .ensures) (c-passed .passed .given .1) in
+    let start = c-loop .before .before .before .before .before .before .before in
+    let s1 = signs 0 (start .args .depth) ((c-loop .loop .inv) .is) (c-loop .loop .inv .f - 1) (ap looseness (sym (c-kind-at .kind-at .ensures)) ∙ sym (c-looseness .looseness .ensures) ∙ c-if1 .if1 .left) (c-consume .consume .ensures) (c-passed .passed .given .1) in
     let s2 = goes 1 (Operand 0 (start .args .depth)) (Rest 0 (start .args .depth) (c-loop .loop .x .at) (c-loop .loop .inv .f - 1)) s1 (c-unary-expr .unary-expr .ensures) (kept (c-unary-expr .unary-expr .kept)) (c-operand .operand .given .1) in
     let s3 = goes 0 (Below 0 (start .args .depth)) (Node 0 (start .args .depth) (c-loop .loop .x .at) (c-loop .loop .inv .f - 1)) s2 (idle (start .args .depth) (ready s2)) same refl in
     (ready s3 .even, ready s3 .used)
@@ -199,19 +188,19 @@ mod-expr-same-length-12 t c =
     let c-loop = c-unary-expr .before .before .before .before .before .before .before .before .before .before .before in
     c-push-node .push-node .kept .1 .0 ∙ c-unary-expr .unary-expr .kept .1 .1 .1 .1 .1 .0 ∙ c-loop .loop .inv .kept .load
 
-pub mod-expr-returns-5 : (t : ℕ) → mod-expr-lts.Need-returns-5 (mod-expr-calls t) (mod-expr-at t) mod-expr.Post mod-expr-Inv-loop mod-expr-μ-loop
-mod-expr-returns-5 t c =
+pub mod-expr-returns-4 : (t : ℕ) → mod-expr-lts.Need-returns-4 (mod-expr-calls t) (mod-expr-at t) mod-expr.Post mod-expr-Inv-loop mod-expr-μ-loop
+mod-expr-returns-4 t c =
     let c-push-node = c .before .before .before .before .before in
     let c-operand = c-push-node .before .before .before .before in
     let c-unary-expr = c-operand .before .before .before .before .before .before .before .before in
     let c-passed = c-unary-expr .before .before .before .before .before in
     let c-consume = c-passed .before .before in
-    let c-if2 = c-consume .before in
-    let c-looseness = c-if2 .before in
+    let c-if1 = c-consume .before in
+    let c-looseness = c-if1 .before in
     let c-kind-at = c-looseness .before in
     let c-loop = c-kind-at .before in
-    let start = c-loop .before .before .before .before .before .before .before .before .before in
-    let s1 = signs 0 (start .args .depth) ((c-loop .loop .inv) .is) (c-loop .loop .inv .f - 1) (ap looseness (sym (c-kind-at .kind-at .ensures)) ∙ sym (c-looseness .looseness .ensures) ∙ c-if2 .if2 .left) (c-consume .consume .ensures) (c-passed .passed .given .1) in
+    let start = c-loop .before .before .before .before .before .before .before in
+    let s1 = signs 0 (start .args .depth) ((c-loop .loop .inv) .is) (c-loop .loop .inv .f - 1) (ap looseness (sym (c-kind-at .kind-at .ensures)) ∙ sym (c-looseness .looseness .ensures) ∙ c-if1 .if1 .left) (c-consume .consume .ensures) (c-passed .passed .given .1) in
     let s2 = goes 1 (Operand 0 (start .args .depth)) (Rest 0 (start .args .depth) (c-loop .loop .x .at) (c-loop .loop .inv .f - 1)) s1 (c-unary-expr .unary-expr .ensures) (kept (c-unary-expr .unary-expr .kept)) (c-operand .operand .given .1) in
     let s3 = goes 0 (Below 0 (start .args .depth)) (Node 0 (start .args .depth) (c-loop .loop .x .at) (c-loop .loop .inv .f - 1)) s2 (idle (start .args .depth) (ready s2)) same refl in
     ends 0 (start .args .depth) (c-loop .loop .inv) (begins 0 (start .args .depth) (start .pre .1) (idle (start .args .depth) (start .pre .1)) same refl) 1 (stops 0 (λ x. push x 22 false 2 (c-loop .loop .x .at)) (λ x. Turns 0 (start .args .depth) x (c-loop .loop .inv .f - 1)) s3 (pushed (ready s3) (c-push-node .push-node .ensures)) (not-done _ (c .match3 .keys2)))
@@ -224,12 +213,12 @@ mod-expr-loop-less t c =
     let c-unary-expr = c-operand .before .before .before .before .before .before .before .before in
     let c-passed = c-unary-expr .before .before .before .before .before in
     let c-consume = c-passed .before .before in
-    let c-if2 = c-consume .before in
-    let c-looseness = c-if2 .before in
+    let c-if1 = c-consume .before in
+    let c-looseness = c-if1 .before in
     let c-kind-at = c-looseness .before in
     let c-loop = c-kind-at .before in
-    let start = c-loop .before .before .before .before .before .before .before .before .before in
-    let s1 = signs 0 (start .args .depth) ((c-loop .loop .inv) .is) (c-loop .loop .inv .f - 1) (ap looseness (sym (c-kind-at .kind-at .ensures)) ∙ sym (c-looseness .looseness .ensures) ∙ c-if2 .if2 .left) (c-consume .consume .ensures) (c-passed .passed .given .1) in
+    let start = c-loop .before .before .before .before .before .before .before in
+    let s1 = signs 0 (start .args .depth) ((c-loop .loop .inv) .is) (c-loop .loop .inv .f - 1) (ap looseness (sym (c-kind-at .kind-at .ensures)) ∙ sym (c-looseness .looseness .ensures) ∙ c-if1 .if1 .left) (c-consume .consume .ensures) (c-passed .passed .given .1) in
     let s2 = goes 1 (Operand 0 (start .args .depth)) (Rest 0 (start .args .depth) (c-loop .loop .x .at) (c-loop .loop .inv .f - 1)) s1 (c-unary-expr .unary-expr .ensures) (kept (c-unary-expr .unary-expr .kept)) (c-operand .operand .given .1) in
     let s3 = goes 0 (Below 0 (start .args .depth)) (Node 0 (start .args .depth) (c-loop .loop .x .at) (c-loop .loop .inv .f - 1)) s2 (idle (start .args .depth) (ready s2)) same refl in
     let s4 = goes 0 (λ x. push x 22 false 2 (c-loop .loop .x .at)) (λ x. Turns 0 (start .args .depth) x (c-loop .loop .inv .f - 1)) s3 (pushed (ready s3) (c-push-node .push-node .ensures)) (kept-nodes (c-push-node .push-node .kept .0) (c-push-node .push-node .kept .1 .0)) (c-made .made .given .1) in
@@ -243,12 +232,12 @@ mod-expr-loop-again t c =
     let c-unary-expr = c-operand .before .before .before .before .before .before .before .before in
     let c-passed = c-unary-expr .before .before .before .before .before in
     let c-consume = c-passed .before .before in
-    let c-if2 = c-consume .before in
-    let c-looseness = c-if2 .before in
+    let c-if1 = c-consume .before in
+    let c-looseness = c-if1 .before in
     let c-kind-at = c-looseness .before in
     let c-loop = c-kind-at .before in
-    let start = c-loop .before .before .before .before .before .before .before .before .before in
-    let s1 = signs 0 (start .args .depth) ((c-loop .loop .inv) .is) (c-loop .loop .inv .f - 1) (ap looseness (sym (c-kind-at .kind-at .ensures)) ∙ sym (c-looseness .looseness .ensures) ∙ c-if2 .if2 .left) (c-consume .consume .ensures) (c-passed .passed .given .1) in
+    let start = c-loop .before .before .before .before .before .before .before in
+    let s1 = signs 0 (start .args .depth) ((c-loop .loop .inv) .is) (c-loop .loop .inv .f - 1) (ap looseness (sym (c-kind-at .kind-at .ensures)) ∙ sym (c-looseness .looseness .ensures) ∙ c-if1 .if1 .left) (c-consume .consume .ensures) (c-passed .passed .given .1) in
     let s2 = goes 1 (Operand 0 (start .args .depth)) (Rest 0 (start .args .depth) (c-loop .loop .x .at) (c-loop .loop .inv .f - 1)) s1 (c-unary-expr .unary-expr .ensures) (kept (c-unary-expr .unary-expr .kept)) (c-operand .operand .given .1) in
     let s3 = goes 0 (Below 0 (start .args .depth)) (Node 0 (start .args .depth) (c-loop .loop .x .at) (c-loop .loop .inv .f - 1)) s2 (idle (start .args .depth) (ready s2)) same refl in
     let s4 = goes 0 (λ x. push x 22 false 2 (c-loop .loop .x .at)) (λ x. Turns 0 (start .args .depth) x (c-loop .loop .inv .f - 1)) s3 (pushed (ready s3) (c-push-node .push-node .ensures)) (kept-nodes (c-push-node .push-node .kept .0) (c-push-node .push-node .kept .1 .0)) (c-made .made .given .1) in
