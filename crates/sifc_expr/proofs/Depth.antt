@@ -1,10 +1,10 @@
--- One step of the depth, and of a level.
+-- One step of the depth.
 use Prim.Native.Nat.{ℕ, zero, suc, _-_}
 use native.Mathlib.Numerals.{sub-one}
 use mathlib.Core.Path.{_≡_, refl, sym, ap}
 use Rattle.sifc_err.specs.declared.Refusal.the-variants.{TooDeep}
-use Rattle.sifc_def.specs.State.{Ctx, St, refuse, Void, go-on}
-use Rattle.sifc_def.specs.Expr.{fuel, operators, levels, assignExpr, unaryExpr, fnCallExpr}
+use Rattle.sifc_def.specs.State.{Ctx, St, refuse}
+use Rattle.sifc_def.specs.Expr.{assignExpr, unaryExpr, fnCallExpr}
 use Rattle.sifc_def.specs.Walk.{walkers}
 
 pub assign-step : (c : Ctx) (d : ℕ) (s : St) → (d ≡ 0 → ⊥) → walkers c d .assign s ≡ assignExpr c (walkers c (d - 1)) s
@@ -33,13 +33,3 @@ unary-none c s e = ap (λ (m : ℕ). walkers c m .unary s) e
 pub call-none : (c : Ctx) (s : St) {d : ℕ} → d ≡ 0 → walkers c d .call s ≡ refuse TooDeep
 unfolding walkers
 call-none c s e = ap (λ (m : ℕ). walkers c m .call s) e
-
--- the level n + 1 over the level n
-pub level-step : (c : Ctx) (n : ℕ) (u : Void) (s : St) → levels c (suc n) u s ≡ go-on (levels c n u s) (λ a. operators c (fuel c) (suc n) (levels c n u))
-unfolding levels
-level-step c n u s = refl
-
--- the lowest level, over unary_expr
-pub level-first : (c : Ctx) (u : Void) (s : St) → levels c 1 u s ≡ go-on (u s) (λ a. operators c (fuel c) 1 u)
-unfolding levels
-level-first c u s = refl

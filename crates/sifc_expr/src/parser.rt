@@ -27,10 +27,12 @@ use sifc_step::top;
 use sifc_step::with_count;
 ghost use mathlib.Core.Path.{_≡_};
 ghost use Prim.Native.Nat.{_≤_, _<_};
-ghost use Rattle.sifc_def.specs.Expr.{fuel, levels, paramList, groupExpr, primaryExpr, callPart, dot, index};
+ghost use lib.ListN.{length};
+ghost use Rattle.sifc_def.specs.Expr.{fuel, paramList, groupExpr, primaryExpr, callPart, dot, index};
 ghost use Rattle.sifc_def.specs.Walk.{walkers};
-ghost use Rattle.sifc_step.specs.Abs.{inp, mem, Ready, Does, Counts, countOf};
+ghost use Rattle.sifc_step.specs.Abs.{inp, mem, kindAt, Ready, Does, Counts, countOf};
 ghost use Rattle.sifc_step.specs.Small.{nodeOf};
+ghost use Rattle.sifc_expr.specs.Rest.{rest, bindsIn};
 
 const LEFT_PAREN: u32 = 1;
 
@@ -98,16 +100,20 @@ fn assign_expr(
         return Parsed::Refused(Refusal::TooDeep);
     }
     let below = depth - 1;
-    let lhs = or_expr(script, offs, words, symbols, head, load, lim, w, below);
+    let operand = unary_expr(script, offs, words, symbols, head, load, lim, w, below);
+    let Parsed::Done(v) = operand else {
+        return operand;
+    };
+    let lhs = or_expr(script, offs, words, symbols, head, load, lim, v, below);
     let Parsed::Done(x) = lhs else {
         return lhs;
     };
     let n = x.nodes;
-    let to = top(head, load, n);
     let op = x.at;
     if kind_at(words, op) != EQ {
         return Parsed::Done(x);
     }
+    let to = top(head, load, n);
     let passed = consume(offs, words, lim, x);
     let Parsed::Done(y) = passed else {
         return passed;
@@ -119,7 +125,19 @@ fn assign_expr(
     assign_to(script, offs, words, symbols, head, load, lim, z, to, n, op)
 }
 
-// `||`.
+// Is the token a binary operator that binds within the n tightest levels?
+fn binds(words: &[u32], at: usize, n: usize) -> bool
+    requires { ⌜ at < length (now words) ⌝ }
+    ensures { λ r. ⌜ r ≡ bindsIn n (kindAt (now (words .entry)) at) ⌝ }
+{
+    let k = looseness(kind_at(words, at));
+    if k == 0 {
+        return false;
+    }
+    k <= n
+}
+
+// `||`. A level goes on after an operand: it reads the operators that bind within it, and the operand after each.
 fn or_expr(
     script: &[u8],
     offs: &[u32],
@@ -132,8 +150,11 @@ fn or_expr(
     depth: usize,
 ) -> Parsed
     requires { ⌜ Ready (inp (now script) (now offs) (now words) lim) (mem (now symbols) (now head) (now load)) w ⌝ }
-    ensures { λ r. ⌜ Does 1 (λ c. levels c 7 (walkers c depth .unary)) (inp (now (script .entry)) (now (offs .entry)) (now (words .entry)) lim) (mem (now (symbols .entry)) (now (head .entry)) (now (load .entry))) w r (mem (now (symbols .exit)) (now (head .exit)) (now (load .exit))) ⌝ }
+    ensures { λ r. ⌜ Does 0 (λ c. rest c 7 (walkers c depth .unary)) (inp (now (script .entry)) (now (offs .entry)) (now (words .entry)) lim) (mem (now (symbols .entry)) (now (head .entry)) (now (load .entry))) w r (mem (now (symbols .exit)) (now (head .exit)) (now (load .exit))) ⌝ }
 {
+    if !binds(words, w.at, 7) {
+        return Parsed::Done(w);
+    }
     let lhs = and_expr(script, offs, words, symbols, head, load, lim, w, depth);
     let Parsed::Done(first) = lhs else {
         return lhs;
@@ -148,11 +169,15 @@ fn or_expr(
         let Parsed::Done(next) = passed else {
             return passed;
         };
-        let rhs = and_expr(script, offs, words, symbols, head, load, lim, next, depth);
-        let Parsed::Done(y) = rhs else {
+        let operand = unary_expr(script, offs, words, symbols, head, load, lim, next, depth);
+        let Parsed::Done(y) = operand else {
+            return operand;
+        };
+        let rhs = and_expr(script, offs, words, symbols, head, load, lim, y, depth);
+        let Parsed::Done(v) = rhs else {
             return rhs;
         };
-        let made = push_node(head, load, y, BINARY_EXPR, op as u32);
+        let made = push_node(head, load, v, BINARY_EXPR, op as u32);
         let Parsed::Done(z) = made else {
             return made;
         };
@@ -173,8 +198,11 @@ fn and_expr(
     depth: usize,
 ) -> Parsed
     requires { ⌜ Ready (inp (now script) (now offs) (now words) lim) (mem (now symbols) (now head) (now load)) w ⌝ }
-    ensures { λ r. ⌜ Does 1 (λ c. levels c 6 (walkers c depth .unary)) (inp (now (script .entry)) (now (offs .entry)) (now (words .entry)) lim) (mem (now (symbols .entry)) (now (head .entry)) (now (load .entry))) w r (mem (now (symbols .exit)) (now (head .exit)) (now (load .exit))) ⌝ }
+    ensures { λ r. ⌜ Does 0 (λ c. rest c 6 (walkers c depth .unary)) (inp (now (script .entry)) (now (offs .entry)) (now (words .entry)) lim) (mem (now (symbols .entry)) (now (head .entry)) (now (load .entry))) w r (mem (now (symbols .exit)) (now (head .exit)) (now (load .exit))) ⌝ }
 {
+    if !binds(words, w.at, 6) {
+        return Parsed::Done(w);
+    }
     let lhs = equality_expr(script, offs, words, symbols, head, load, lim, w, depth);
     let Parsed::Done(first) = lhs else {
         return lhs;
@@ -189,11 +217,15 @@ fn and_expr(
         let Parsed::Done(next) = passed else {
             return passed;
         };
-        let rhs = equality_expr(script, offs, words, symbols, head, load, lim, next, depth);
-        let Parsed::Done(y) = rhs else {
+        let operand = unary_expr(script, offs, words, symbols, head, load, lim, next, depth);
+        let Parsed::Done(y) = operand else {
+            return operand;
+        };
+        let rhs = equality_expr(script, offs, words, symbols, head, load, lim, y, depth);
+        let Parsed::Done(v) = rhs else {
             return rhs;
         };
-        let made = push_node(head, load, y, BINARY_EXPR, op as u32);
+        let made = push_node(head, load, v, BINARY_EXPR, op as u32);
         let Parsed::Done(z) = made else {
             return made;
         };
@@ -214,8 +246,11 @@ fn equality_expr(
     depth: usize,
 ) -> Parsed
     requires { ⌜ Ready (inp (now script) (now offs) (now words) lim) (mem (now symbols) (now head) (now load)) w ⌝ }
-    ensures { λ r. ⌜ Does 1 (λ c. levels c 5 (walkers c depth .unary)) (inp (now (script .entry)) (now (offs .entry)) (now (words .entry)) lim) (mem (now (symbols .entry)) (now (head .entry)) (now (load .entry))) w r (mem (now (symbols .exit)) (now (head .exit)) (now (load .exit))) ⌝ }
+    ensures { λ r. ⌜ Does 0 (λ c. rest c 5 (walkers c depth .unary)) (inp (now (script .entry)) (now (offs .entry)) (now (words .entry)) lim) (mem (now (symbols .entry)) (now (head .entry)) (now (load .entry))) w r (mem (now (symbols .exit)) (now (head .exit)) (now (load .exit))) ⌝ }
 {
+    if !binds(words, w.at, 5) {
+        return Parsed::Done(w);
+    }
     let lhs = compr_expr(script, offs, words, symbols, head, load, lim, w, depth);
     let Parsed::Done(first) = lhs else {
         return lhs;
@@ -230,11 +265,15 @@ fn equality_expr(
         let Parsed::Done(next) = passed else {
             return passed;
         };
-        let rhs = compr_expr(script, offs, words, symbols, head, load, lim, next, depth);
-        let Parsed::Done(y) = rhs else {
+        let operand = unary_expr(script, offs, words, symbols, head, load, lim, next, depth);
+        let Parsed::Done(y) = operand else {
+            return operand;
+        };
+        let rhs = compr_expr(script, offs, words, symbols, head, load, lim, y, depth);
+        let Parsed::Done(v) = rhs else {
             return rhs;
         };
-        let made = push_node(head, load, y, BINARY_EXPR, op as u32);
+        let made = push_node(head, load, v, BINARY_EXPR, op as u32);
         let Parsed::Done(z) = made else {
             return made;
         };
@@ -255,8 +294,11 @@ fn compr_expr(
     depth: usize,
 ) -> Parsed
     requires { ⌜ Ready (inp (now script) (now offs) (now words) lim) (mem (now symbols) (now head) (now load)) w ⌝ }
-    ensures { λ r. ⌜ Does 1 (λ c. levels c 4 (walkers c depth .unary)) (inp (now (script .entry)) (now (offs .entry)) (now (words .entry)) lim) (mem (now (symbols .entry)) (now (head .entry)) (now (load .entry))) w r (mem (now (symbols .exit)) (now (head .exit)) (now (load .exit))) ⌝ }
+    ensures { λ r. ⌜ Does 0 (λ c. rest c 4 (walkers c depth .unary)) (inp (now (script .entry)) (now (offs .entry)) (now (words .entry)) lim) (mem (now (symbols .entry)) (now (head .entry)) (now (load .entry))) w r (mem (now (symbols .exit)) (now (head .exit)) (now (load .exit))) ⌝ }
 {
+    if !binds(words, w.at, 4) {
+        return Parsed::Done(w);
+    }
     let lhs = add_or_sub_expr(script, offs, words, symbols, head, load, lim, w, depth);
     let Parsed::Done(first) = lhs else {
         return lhs;
@@ -271,11 +313,15 @@ fn compr_expr(
         let Parsed::Done(next) = passed else {
             return passed;
         };
-        let rhs = add_or_sub_expr(script, offs, words, symbols, head, load, lim, next, depth);
-        let Parsed::Done(y) = rhs else {
+        let operand = unary_expr(script, offs, words, symbols, head, load, lim, next, depth);
+        let Parsed::Done(y) = operand else {
+            return operand;
+        };
+        let rhs = add_or_sub_expr(script, offs, words, symbols, head, load, lim, y, depth);
+        let Parsed::Done(v) = rhs else {
             return rhs;
         };
-        let made = push_node(head, load, y, BINARY_EXPR, op as u32);
+        let made = push_node(head, load, v, BINARY_EXPR, op as u32);
         let Parsed::Done(z) = made else {
             return made;
         };
@@ -296,8 +342,11 @@ fn add_or_sub_expr(
     depth: usize,
 ) -> Parsed
     requires { ⌜ Ready (inp (now script) (now offs) (now words) lim) (mem (now symbols) (now head) (now load)) w ⌝ }
-    ensures { λ r. ⌜ Does 1 (λ c. levels c 3 (walkers c depth .unary)) (inp (now (script .entry)) (now (offs .entry)) (now (words .entry)) lim) (mem (now (symbols .entry)) (now (head .entry)) (now (load .entry))) w r (mem (now (symbols .exit)) (now (head .exit)) (now (load .exit))) ⌝ }
+    ensures { λ r. ⌜ Does 0 (λ c. rest c 3 (walkers c depth .unary)) (inp (now (script .entry)) (now (offs .entry)) (now (words .entry)) lim) (mem (now (symbols .entry)) (now (head .entry)) (now (load .entry))) w r (mem (now (symbols .exit)) (now (head .exit)) (now (load .exit))) ⌝ }
 {
+    if !binds(words, w.at, 3) {
+        return Parsed::Done(w);
+    }
     let lhs = mul_or_div_expr(script, offs, words, symbols, head, load, lim, w, depth);
     let Parsed::Done(first) = lhs else {
         return lhs;
@@ -312,11 +361,15 @@ fn add_or_sub_expr(
         let Parsed::Done(next) = passed else {
             return passed;
         };
-        let rhs = mul_or_div_expr(script, offs, words, symbols, head, load, lim, next, depth);
-        let Parsed::Done(y) = rhs else {
+        let operand = unary_expr(script, offs, words, symbols, head, load, lim, next, depth);
+        let Parsed::Done(y) = operand else {
+            return operand;
+        };
+        let rhs = mul_or_div_expr(script, offs, words, symbols, head, load, lim, y, depth);
+        let Parsed::Done(v) = rhs else {
             return rhs;
         };
-        let made = push_node(head, load, y, BINARY_EXPR, op as u32);
+        let made = push_node(head, load, v, BINARY_EXPR, op as u32);
         let Parsed::Done(z) = made else {
             return made;
         };
@@ -337,8 +390,11 @@ fn mul_or_div_expr(
     depth: usize,
 ) -> Parsed
     requires { ⌜ Ready (inp (now script) (now offs) (now words) lim) (mem (now symbols) (now head) (now load)) w ⌝ }
-    ensures { λ r. ⌜ Does 1 (λ c. levels c 2 (walkers c depth .unary)) (inp (now (script .entry)) (now (offs .entry)) (now (words .entry)) lim) (mem (now (symbols .entry)) (now (head .entry)) (now (load .entry))) w r (mem (now (symbols .exit)) (now (head .exit)) (now (load .exit))) ⌝ }
+    ensures { λ r. ⌜ Does 0 (λ c. rest c 2 (walkers c depth .unary)) (inp (now (script .entry)) (now (offs .entry)) (now (words .entry)) lim) (mem (now (symbols .entry)) (now (head .entry)) (now (load .entry))) w r (mem (now (symbols .exit)) (now (head .exit)) (now (load .exit))) ⌝ }
 {
+    if !binds(words, w.at, 2) {
+        return Parsed::Done(w);
+    }
     let lhs = mod_expr(script, offs, words, symbols, head, load, lim, w, depth);
     let Parsed::Done(first) = lhs else {
         return lhs;
@@ -353,11 +409,15 @@ fn mul_or_div_expr(
         let Parsed::Done(next) = passed else {
             return passed;
         };
-        let rhs = mod_expr(script, offs, words, symbols, head, load, lim, next, depth);
-        let Parsed::Done(y) = rhs else {
+        let operand = unary_expr(script, offs, words, symbols, head, load, lim, next, depth);
+        let Parsed::Done(y) = operand else {
+            return operand;
+        };
+        let rhs = mod_expr(script, offs, words, symbols, head, load, lim, y, depth);
+        let Parsed::Done(v) = rhs else {
             return rhs;
         };
-        let made = push_node(head, load, y, BINARY_EXPR, op as u32);
+        let made = push_node(head, load, v, BINARY_EXPR, op as u32);
         let Parsed::Done(z) = made else {
             return made;
         };
@@ -378,13 +438,9 @@ fn mod_expr(
     depth: usize,
 ) -> Parsed
     requires { ⌜ Ready (inp (now script) (now offs) (now words) lim) (mem (now symbols) (now head) (now load)) w ⌝ }
-    ensures { λ r. ⌜ Does 1 (λ c. levels c 1 (walkers c depth .unary)) (inp (now (script .entry)) (now (offs .entry)) (now (words .entry)) lim) (mem (now (symbols .entry)) (now (head .entry)) (now (load .entry))) w r (mem (now (symbols .exit)) (now (head .exit)) (now (load .exit))) ⌝ }
+    ensures { λ r. ⌜ Does 0 (λ c. rest c 1 (walkers c depth .unary)) (inp (now (script .entry)) (now (offs .entry)) (now (words .entry)) lim) (mem (now (symbols .entry)) (now (head .entry)) (now (load .entry))) w r (mem (now (symbols .exit)) (now (head .exit)) (now (load .exit))) ⌝ }
 {
-    let lhs = unary_expr(script, offs, words, symbols, head, load, lim, w, depth);
-    let Parsed::Done(first) = lhs else {
-        return lhs;
-    };
-    let mut x = first;
+    let mut x = w;
     loop {
         let op = x.at;
         if looseness(kind_at(words, op)) != 1 {
@@ -394,9 +450,9 @@ fn mod_expr(
         let Parsed::Done(next) = passed else {
             return passed;
         };
-        let rhs = unary_expr(script, offs, words, symbols, head, load, lim, next, depth);
-        let Parsed::Done(y) = rhs else {
-            return rhs;
+        let operand = unary_expr(script, offs, words, symbols, head, load, lim, next, depth);
+        let Parsed::Done(y) = operand else {
+            return operand;
         };
         let made = push_node(head, load, y, BINARY_EXPR, op as u32);
         let Parsed::Done(z) = made else {

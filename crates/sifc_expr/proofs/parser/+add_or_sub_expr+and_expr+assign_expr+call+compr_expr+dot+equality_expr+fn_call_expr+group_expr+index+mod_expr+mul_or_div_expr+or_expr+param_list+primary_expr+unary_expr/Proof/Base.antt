@@ -49,6 +49,7 @@ use Rattle.sifc_expr.proofs.parser.+add_or_sub_expr+and_expr+assign_exp
 use Rattle.sifc_expr.proofs.parser.unary_expr.Reads as unary-expr
 use Rattle.sifc_expr.proofs.parser.unary_expr.Kinds as unary-expr-kinds
 use Rattle.sifc_expr.proofs.parser.+add_or_sub_expr+and_expr+assign_expr+call+compr_expr+dot+equality_expr+fn_call_expr+group_expr+index+mod_expr+mul_or_div_expr+or_expr+param_list+primary_expr+unary_expr.Lts-unary_expr as unary-expr-lts
+use Rattle.sifc_expr.proofs.parser.binds.Reads as binds-reads
 use Rattle.sifc_step.proofs.assign_to.Reads as assign-to-reads
 use Rattle.sifc_step.proofs.call_named.Reads as call-named-reads
 use Rattle.sifc_step.proofs.ident_expr.Reads as ident-expr-reads
@@ -215,25 +216,25 @@ abbrev pub unary-expr-below : ℕ → In 6 unary-expr-kinds.ps
 unary-expr-below t = and 6 unary-expr-kinds.ps (falls 6 unary-expr-kinds.ps _<_ μ-unary-expr t) unary-expr.Pre
 
 abbrev pub add-or-sub-expr-calls : ℕ → add-or-sub-expr-lts.Claims
-add-or-sub-expr-calls t = (mul-or-div-expr-below t, mul-or-div-expr.Post, kind-at-reads.Asked, kind-at-reads.Learnt, looseness-reads.Asked, looseness-reads.Learnt, consume-reads.Asked, consume-reads.Learnt, push-node-reads.Asked, push-node-reads.Learnt)
+add-or-sub-expr-calls t = (binds-reads.Asked, binds-reads.Learnt, mul-or-div-expr-below t, mul-or-div-expr.Post, kind-at-reads.Asked, kind-at-reads.Learnt, looseness-reads.Asked, looseness-reads.Learnt, consume-reads.Asked, consume-reads.Learnt, unary-expr-below t, unary-expr.Post, push-node-reads.Asked, push-node-reads.Learnt)
 
 abbrev pub and-expr-calls : ℕ → and-expr-lts.Claims
-and-expr-calls t = (equality-expr-below t, equality-expr.Post, kind-at-reads.Asked, kind-at-reads.Learnt, looseness-reads.Asked, looseness-reads.Learnt, consume-reads.Asked, consume-reads.Learnt, push-node-reads.Asked, push-node-reads.Learnt)
+and-expr-calls t = (binds-reads.Asked, binds-reads.Learnt, equality-expr-below t, equality-expr.Post, kind-at-reads.Asked, kind-at-reads.Learnt, looseness-reads.Asked, looseness-reads.Learnt, consume-reads.Asked, consume-reads.Learnt, unary-expr-below t, unary-expr.Post, push-node-reads.Asked, push-node-reads.Learnt)
 
 abbrev pub assign-expr-calls : ℕ → assign-expr-lts.Claims
-assign-expr-calls t = (or-expr-below t, or-expr.Post, top-reads.Asked, top-reads.Learnt, kind-at-reads.Asked, kind-at-reads.Learnt, consume-reads.Asked, consume-reads.Learnt, assign-expr-below t, assign-expr.Post, assign-to-reads.Asked, assign-to-reads.Learnt)
+assign-expr-calls t = (unary-expr-below t, unary-expr.Post, or-expr-below t, or-expr.Post, kind-at-reads.Asked, kind-at-reads.Learnt, top-reads.Asked, top-reads.Learnt, consume-reads.Asked, consume-reads.Learnt, assign-expr-below t, assign-expr.Post, assign-to-reads.Asked, assign-to-reads.Learnt)
 
 abbrev pub call-calls : ℕ → call-lts.Claims
 call-calls t = (consume-reads.Asked, consume-reads.Learnt, param-list-below t, param-list.Post, expect-reads.Asked, expect-reads.Learnt, call-named-reads.Asked, call-named-reads.Learnt)
 
 abbrev pub compr-expr-calls : ℕ → compr-expr-lts.Claims
-compr-expr-calls t = (add-or-sub-expr-below t, add-or-sub-expr.Post, kind-at-reads.Asked, kind-at-reads.Learnt, looseness-reads.Asked, looseness-reads.Learnt, consume-reads.Asked, consume-reads.Learnt, push-node-reads.Asked, push-node-reads.Learnt)
+compr-expr-calls t = (binds-reads.Asked, binds-reads.Learnt, add-or-sub-expr-below t, add-or-sub-expr.Post, kind-at-reads.Asked, kind-at-reads.Learnt, looseness-reads.Asked, looseness-reads.Learnt, consume-reads.Asked, consume-reads.Learnt, unary-expr-below t, unary-expr.Post, push-node-reads.Asked, push-node-reads.Learnt)
 
 abbrev pub dot-calls : ℕ → dot-lts.Claims
 dot-calls t = (consume-reads.Asked, consume-reads.Learnt, set-check-reads.Asked, set-check-reads.Learnt, assign-expr-below t, assign-expr.Post, end-dot-reads.Asked, end-dot-reads.Learnt)
 
 abbrev pub equality-expr-calls : ℕ → equality-expr-lts.Claims
-equality-expr-calls t = (compr-expr-below t, compr-expr.Post, kind-at-reads.Asked, kind-at-reads.Learnt, looseness-reads.Asked, looseness-reads.Learnt, consume-reads.Asked, consume-reads.Learnt, push-node-reads.Asked, push-node-reads.Learnt)
+equality-expr-calls t = (binds-reads.Asked, binds-reads.Learnt, compr-expr-below t, compr-expr.Post, kind-at-reads.Asked, kind-at-reads.Learnt, looseness-reads.Asked, looseness-reads.Learnt, consume-reads.Asked, consume-reads.Learnt, unary-expr-below t, unary-expr.Post, push-node-reads.Asked, push-node-reads.Learnt)
 
 abbrev pub fn-call-expr-calls : ℕ → fn-call-expr-lts.Claims
 fn-call-expr-calls t = (primary-expr-below t, primary-expr.Post, top-reads.Asked, top-reads.Learnt, kind-at-reads.Asked, kind-at-reads.Learnt, call-below t, call.Post, dot-below t, dot.Post, index-below t, index.Post)
@@ -245,13 +246,13 @@ abbrev pub index-calls : ℕ → index-lts.Claims
 index-calls t = (consume-reads.Asked, consume-reads.Learnt, assign-expr-below t, assign-expr.Post, expect-reads.Asked, expect-reads.Learnt, end-index-reads.Asked, end-index-reads.Learnt)
 
 abbrev pub mod-expr-calls : ℕ → mod-expr-lts.Claims
-mod-expr-calls t = (unary-expr-below t, unary-expr.Post, kind-at-reads.Asked, kind-at-reads.Learnt, looseness-reads.Asked, looseness-reads.Learnt, consume-reads.Asked, consume-reads.Learnt, push-node-reads.Asked, push-node-reads.Learnt)
+mod-expr-calls t = (kind-at-reads.Asked, kind-at-reads.Learnt, looseness-reads.Asked, looseness-reads.Learnt, consume-reads.Asked, consume-reads.Learnt, unary-expr-below t, unary-expr.Post, push-node-reads.Asked, push-node-reads.Learnt)
 
 abbrev pub mul-or-div-expr-calls : ℕ → mul-or-div-expr-lts.Claims
-mul-or-div-expr-calls t = (mod-expr-below t, mod-expr.Post, kind-at-reads.Asked, kind-at-reads.Learnt, looseness-reads.Asked, looseness-reads.Learnt, consume-reads.Asked, consume-reads.Learnt, push-node-reads.Asked, push-node-reads.Learnt)
+mul-or-div-expr-calls t = (binds-reads.Asked, binds-reads.Learnt, mod-expr-below t, mod-expr.Post, kind-at-reads.Asked, kind-at-reads.Learnt, looseness-reads.Asked, looseness-reads.Learnt, consume-reads.Asked, consume-reads.Learnt, unary-expr-below t, unary-expr.Post, push-node-reads.Asked, push-node-reads.Learnt)
 
 abbrev pub or-expr-calls : ℕ → or-expr-lts.Claims
-or-expr-calls t = (and-expr-below t, and-expr.Post, kind-at-reads.Asked, kind-at-reads.Learnt, looseness-reads.Asked, looseness-reads.Learnt, consume-reads.Asked, consume-reads.Learnt, push-node-reads.Asked, push-node-reads.Learnt)
+or-expr-calls t = (binds-reads.Asked, binds-reads.Learnt, and-expr-below t, and-expr.Post, kind-at-reads.Asked, kind-at-reads.Learnt, looseness-reads.Asked, looseness-reads.Learnt, consume-reads.Asked, consume-reads.Learnt, unary-expr-below t, unary-expr.Post, push-node-reads.Asked, push-node-reads.Learnt)
 
 abbrev pub param-list-calls : ℕ → param-list-lts.Claims
 param-list-calls t = (kind-at-reads.Asked, kind-at-reads.Learnt, with-count-reads.Asked, with-count-reads.Learnt, add-error-reads.Asked, add-error-reads.Learnt, assign-expr-below t, assign-expr.Post, separator-reads.Asked, separator-reads.Learnt)
