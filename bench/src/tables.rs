@@ -11,7 +11,6 @@ use std::time::{Duration, Instant};
 /// How many rounds are timed; the least time of a job counts, which other work on the machine disturbs
 /// least.
 const ROUNDS: usize = 15;
-const SHAPE_ROUNDS: usize = 7;
 
 /// A line of a table has this many rounds at the least, and ends when it has taken so long.
 const LEAST_ROUNDS: usize = 3;
@@ -130,7 +129,7 @@ impl Bench {
         let (jobs, counts): (Vec<Asked>, Vec<Counts>) =
             Side::ALL.map(|side| self.job(side, call, input)).into_iter().unzip();
         check_counts(name, &counts);
-        let times = self.timed(&jobs, ROUNDS);
+        let times = self.timed(&jobs);
         let [rust, ours, twin] = [0, 1, 2].map(|job| times[job]);
         print!("{name:<36}{:>7}{:>8}", rust.bytes, shown(call, &counts[1]));
         print!("{:>9.1}{:>9.1}{:>9.1}", rust.rate(), ours.rate(), twin.rate());
@@ -160,7 +159,7 @@ impl Bench {
         if small.script == whole.script {
             jobs.truncate(5);
         }
-        let times = self.timed(&jobs, SHAPE_ROUNDS);
+        let times = self.timed(&jobs);
         let (rust, ours, twin) = (times[0], times[1], times[2]);
         let beside_rust = *times.get(5).unwrap_or(&ours);
         let doubling = [ours.over(times[3]), twin.over(times[4])].map(|growth| 2.0 * growth);
@@ -200,11 +199,11 @@ impl Bench {
     }
 
     /// Times jobs in turn, so that a change in the machine's load meets all of them, and forgets them.
-    fn timed(&mut self, jobs: &[Asked], rounds: usize) -> Vec<Time> {
+    fn timed(&mut self, jobs: &[Asked]) -> Vec<Time> {
         let time = |job: &Asked| Time { bytes: job.bytes, seconds: f64::INFINITY };
         let mut times: Vec<Time> = jobs.iter().map(time).collect();
         let start = Instant::now();
-        for round in 0..rounds {
+        for round in 0..ROUNDS {
             if round >= LEAST_ROUNDS && start.elapsed() > LINE_TIME {
                 break;
             }

@@ -35,6 +35,7 @@ impl Parser<'_> {
     }
 
     fn assign_expr(&mut self) -> Step {
+        self.unary_expr()?;
         self.binary_expr(OR)?;
         if self.kind() != token::EQ {
             return Ok(());
@@ -66,15 +67,17 @@ impl Parser<'_> {
         }
     }
 
-    /// A level of binary operators, over the one that binds tighter.
+    /// A level of binary operators goes on after an operand: it reads the operators that bind within it, and
+    /// the operand after each.
     fn binary_expr(&mut self, level: u32) -> Step {
-        if level == 0 {
-            return self.unary_expr();
+        if !(1..=level).contains(&looseness(self.kind())) {
+            return Ok(());
         }
         self.binary_expr(level - 1)?;
         while looseness(self.kind()) == level {
             let op = self.at;
             self.consume()?;
+            self.unary_expr()?;
             self.binary_expr(level - 1)?;
             self.push(node(BINARY_EXPR, 2).with(op))?;
         }
