@@ -6,7 +6,7 @@ use sifc_def::Reading;
 use sifc_err::ParseErr;
 use sifc_err::ParseErrTy;
 use sifc_err::Token;
-use sifc_records::blank;
+use sifc_record::blank;
 use sifc_records::reading_records;
 ghost use mathlib.Core.Path.{_≡_};
 ghost use Rattle.sifc_read.specs.Parts.{arrays};

@@ -20,7 +20,8 @@ use Rattle.sifc_read.specs.Parts.{arrays}
 use Rattle.sifc_read.specs.LexedLaws.{lexed-back, length-offs, length-words, used-part}
 use Rattle.sifc_symtab.specs.Toks.{toksOf}
 use Rattle.sifc_records.specs.declared.call.Told.{Told}
-use Rattle.sifc_records.specs.Records.{blankErr, paddedErrs, entryRecords, recordsIn, Recorded, recorded, recordsOf, readingRecords, blankFrom, filledOf, Fillable}
+use Rattle.sifc_record.specs.Record.{blankErr, recordsIn, blankFrom, filledOf, Fillable}
+use Rattle.sifc_records.specs.Records.{paddedErrs, entryRecords, Recorded, recorded, recordsOf, readingRecords}
 use Rattle.sifc_records.specs.RecordLaws.{entry-of, records-back, Sounds, SoundsOf, read-sound, recordsBy, records-by}
 use Rattle.sifc_records.specs.Words.{Kept, kept, keptOf, readWords}
 use Rattle.sifc_records.proofs.Calls.{entry-same, readBy, read-by, entered}

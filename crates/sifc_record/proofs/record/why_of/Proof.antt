@@ -3,13 +3,13 @@ use mathlib.Core.Path.{refl, ap, _∙_}
 use borrow.Author.Tests.{ne-eqb}
 use Rattle.sifc_lex.specs.Base.{if_then_else_}
 use Rattle.sifc_def.specs.declared.Why.the-variants.{ExpectedIdent}
-use Rattle.sifc_records.specs.Records.{whyBy}
-use Rattle.sifc_records.proofs.Calls.{why-at}
-use Rattle.sifc_records.proofs.record.why_of.Statement.{statement}
-use Rattle.sifc_records.proofs.record.why_of.Tie as tie
-use Rattle.sifc_records.proofs.record.why_of.Reads as reads
-use Rattle.sifc_records.proofs.record.why_of.Lts as lts
-use Rattle.sifc_records.proofs.record.invalid_tkn.Reads as invalid-tkn-reads
+use Rattle.sifc_record.specs.Record.{whyBy}
+use Rattle.sifc_record.proofs.Made.{why-at}
+use Rattle.sifc_record.proofs.record.why_of.Statement.{statement}
+use Rattle.sifc_record.proofs.record.why_of.Tie as tie
+use Rattle.sifc_record.proofs.record.why_of.Reads as reads
+use Rattle.sifc_record.proofs.record.why_of.Lts as lts
+use Rattle.sifc_record.proofs.record.invalid_tkn.Reads as invalid-tkn-reads
 use Rattle.sifc_step.proofs.wide.Reads as wide-reads
 
 -- src/record.rt:38:9

@@ -4,13 +4,13 @@ use native.Mathlib.Omega.{arith}
 use lib.ListN.{take}
 use lib.Seq.{length-take-le}
 use Rattle.sifc_symtab.specs.Toks.{toksOf}
-use Rattle.sifc_records.proofs.Calls.{recorded-at}
-use Rattle.sifc_records.proofs.record.record_at.Statement.{statement}
-use Rattle.sifc_records.proofs.record.record_at.Tie as tie
-use Rattle.sifc_records.proofs.record.record_at.Reads as reads
-use Rattle.sifc_records.proofs.record.record_at.Lts as lts
+use Rattle.sifc_record.proofs.Made.{recorded-at}
+use Rattle.sifc_record.proofs.record.record_at.Statement.{statement}
+use Rattle.sifc_record.proofs.record.record_at.Tie as tie
+use Rattle.sifc_record.proofs.record.record_at.Reads as reads
+use Rattle.sifc_record.proofs.record.record_at.Lts as lts
 use Rattle.sifc_read.proofs.ty_of.Reads as ty-of-reads
-use Rattle.sifc_records.proofs.record.why_of.Reads as why-of-reads
+use Rattle.sifc_record.proofs.record.why_of.Reads as why-of-reads
 use Rattle.sifc_step.proofs.wide.Reads as wide-reads
 
 -- src/record.rt:68:17

@@ -1,4 +1,4 @@
--- `sifc_records::clear` meets its contract: a walk of its MIR, by hand. The borrow is opened once, before the loop, and closed once, after it; each turn takes one element out of the row and stores the blank record.
+-- `sifc_record::clear` meets its contract: a walk of its MIR, by hand. The borrow is opened once, before the loop, and closed once, after it; each turn takes one element out of the row and stores the blank record.
 -- Assumes nothing.
 use mathlib.Core.Path.{_≡_, refl, sym, ap, subst, _∙_}
 use Prim.Native.Nat.{ℕ, _<_, _≤_, _^_, _*_, _+_, _-_}
@@ -45,21 +45,21 @@ use denote.Triple.Clauses.{ensured, lasts}
 use denote.Triple.Table.{entered, cited}
 use denote.Triple.Walked.{says, needs, Stays, stay-slice, stay-none, walkOf, goes-slice, goes-none, Walks, ends-at, walked, walk-meets}
 use denote.Exit.{yes}
-use Rattle.sifc_records.specs.Records.{blankErr, blankFrom}
+use Rattle.sifc_record.specs.Record.{blankErr, blankFrom}
 use Rattle.sifc_err.specs.declared.parse_err.ParseErr.{ParseErr}
 use Rattle.sifc_err.proofs.parse_err.ParseErr as T
 use Rattle.sifc_err.proofs.parse_err.ParseErr.Laws as T′
-use Rattle.sifc_records.proofs.Turn.{Turn, turned, over, Less, less-wf, nearer}
-use Rattle.sifc_records.proofs.While.{whiles}
-use Rattle.sifc_records.proofs.record.blank as blank
-use Rattle.sifc_records.proofs.record.blank.Symbol as blank-def
-use Rattle.sifc_records.proofs.record.blank.Symbol.{name as #blank}
-use Rattle.sifc_records.proofs.record.blank.Met as blank-thm
-use Rattle.sifc_records.proofs.slice.clear.Key.{name as #clear}
-use Rattle.sifc_records.proofs.slice.clear as clear
-use Rattle.sifc_records.proofs.slice.clear.Statement as stated
-use Rattle.sifc_records.proofs.slice.clear.Code as code
-use Rattle.sifc_records.proofs.slice.clear.Code.Mir as mir
+use Rattle.sifc_record.proofs.Turn.{Turn, turned, over, Less, less-wf, nearer}
+use Rattle.sifc_record.proofs.While.{whiles}
+use Rattle.sifc_record.proofs.record.blank as blank
+use Rattle.sifc_record.proofs.record.blank.Symbol as blank-def
+use Rattle.sifc_record.proofs.record.blank.Symbol.{name as #blank}
+use Rattle.sifc_record.proofs.record.blank.Met as blank-thm
+use Rattle.sifc_record.proofs.slice.clear.Key.{name as #clear}
+use Rattle.sifc_record.proofs.slice.clear as clear
+use Rattle.sifc_record.proofs.slice.clear.Statement as stated
+use Rattle.sifc_record.proofs.slice.clear.Code as code
+use Rattle.sifc_record.proofs.slice.clear.Code.Mir as mir
 
 abbrev R : RattleType
 R = T.the-row
@@ -233,4 +233,4 @@ clear-spec 𝓤 H 𝓜 𝓖 𝓡 =
     entered 𝓤 H (tripleOf 𝓤 H (𝓖 .A) clear.signature (clear.spec 𝓤 H (𝓖 .A) (𝓜 .mem) (𝓡 .run)))
     (tables 𝓤 H 𝓜 𝓡 code.env .C) (tables 𝓤 H 𝓜 𝓡 code.env .Λ) #clear code.function (code.unfolded 𝓤 H 𝓜 𝓡)
     (clear-meets 𝓤 H (𝓖 .A) (givenOf 𝓤 H 𝓜 𝓖) (𝓜 .mem) (𝓡 .run) (tablesOf 𝓤 H 𝓜 (tables 𝓤 H 𝓜 𝓡 code.env))
-    (cited 𝓤 H (Blank 𝓤 H (𝓖 .A) (𝓜 .mem) (𝓡 .run)) 𝓜 𝓡 code.env #blank blank-def.routine code.calls-sifc-records·record·blank (blank-thm.met 𝓤 H 𝓜 𝓖 𝓡)))
+    (cited 𝓤 H (Blank 𝓤 H (𝓖 .A) (𝓜 .mem) (𝓡 .run)) 𝓜 𝓡 code.env #blank blank-def.routine code.calls-sifc-record·record·blank (blank-thm.met 𝓤 H 𝓜 𝓖 𝓡)))

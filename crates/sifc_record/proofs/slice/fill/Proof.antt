@@ -1,4 +1,4 @@
--- `sifc_records::fill` meets its contract: a walk of its MIR, whose numbers tools/walks/fill.py wrote. In each turn of the loop `record_at` is called on copies of the four shared
+-- `sifc_record::fill` meets its contract: a walk of its MIR, whose numbers tools/walks/fill.py wrote. In each turn of the loop `record_at` is called on copies of the four shared
 -- slices, and the errors are lent again to `push` and come back; after the loop they go to `clear` for good. All that the proof knows of the three is that they meet their contracts.
 -- Assumes nothing.
 use mathlib.Core.Path.{_≡_, refl, sym, ap, subst, _∙_}
@@ -49,27 +49,27 @@ use Rattle.sifc_err.specs.declared.parse_err.ParseErr.{ParseErr}
 use Rattle.sifc_err.proofs.parse_err.ParseErr as T
 use Rattle.sifc_err.proofs.parse_err.ParseErr.Laws as T′
 use Rattle.sifc_symtab.specs.Toks.{toksOf}
-use Rattle.sifc_records.specs.Records.{recordOf, recordsIn, Readable, blankFrom, filledOf, Fillable}
-use Rattle.sifc_records.proofs.Again.{LentAgain, lends-again, comes-back}
-use Rattle.sifc_records.proofs.Turn.{Turn, turned, over, Less, less-wf, nearer}
-use Rattle.sifc_records.proofs.While.{whiles}
-use Rattle.sifc_records.proofs.record.record_at as record-at
-use Rattle.sifc_records.proofs.record.record_at.Symbol as record-at-def
-use Rattle.sifc_records.proofs.record.record_at.Symbol.{name as #record-at}
-use Rattle.sifc_records.proofs.record.record_at.Met as record-at-thm
-use Rattle.sifc_records.proofs.slice.push as push
-use Rattle.sifc_records.proofs.slice.push.Symbol as push-def
-use Rattle.sifc_records.proofs.slice.push.Symbol.{name as #push}
-use Rattle.sifc_records.proofs.slice.push.Met as push-thm
-use Rattle.sifc_records.proofs.slice.clear as clear
-use Rattle.sifc_records.proofs.slice.clear.Symbol as clear-def
-use Rattle.sifc_records.proofs.slice.clear.Symbol.{name as #clear}
-use Rattle.sifc_records.proofs.slice.clear.Met as clear-thm
-use Rattle.sifc_records.proofs.slice.fill.Key.{name as #fill}
-use Rattle.sifc_records.proofs.slice.fill as fill
-use Rattle.sifc_records.proofs.slice.fill.Statement as stated
-use Rattle.sifc_records.proofs.slice.fill.Code as code
-use Rattle.sifc_records.proofs.slice.fill.Code.Mir as mir
+use Rattle.sifc_record.specs.Record.{recordOf, recordsIn, Readable, blankFrom, filledOf, Fillable}
+use Rattle.sifc_record.proofs.Again.{LentAgain, lends-again, comes-back}
+use Rattle.sifc_record.proofs.Turn.{Turn, turned, over, Less, less-wf, nearer}
+use Rattle.sifc_record.proofs.While.{whiles}
+use Rattle.sifc_record.proofs.record.record_at as record-at
+use Rattle.sifc_record.proofs.record.record_at.Symbol as record-at-def
+use Rattle.sifc_record.proofs.record.record_at.Symbol.{name as #record-at}
+use Rattle.sifc_record.proofs.record.record_at.Met as record-at-thm
+use Rattle.sifc_record.proofs.slice.push as push
+use Rattle.sifc_record.proofs.slice.push.Symbol as push-def
+use Rattle.sifc_record.proofs.slice.push.Symbol.{name as #push}
+use Rattle.sifc_record.proofs.slice.push.Met as push-thm
+use Rattle.sifc_record.proofs.slice.clear as clear
+use Rattle.sifc_record.proofs.slice.clear.Symbol as clear-def
+use Rattle.sifc_record.proofs.slice.clear.Symbol.{name as #clear}
+use Rattle.sifc_record.proofs.slice.clear.Met as clear-thm
+use Rattle.sifc_record.proofs.slice.fill.Key.{name as #fill}
+use Rattle.sifc_record.proofs.slice.fill as fill
+use Rattle.sifc_record.proofs.slice.fill.Statement as stated
+use Rattle.sifc_record.proofs.slice.fill.Code as code
+use Rattle.sifc_record.proofs.slice.fill.Code.Mir as mir
 
 abbrev R : RattleType
 R = T.the-row
@@ -522,6 +522,6 @@ fill-spec 𝓤 H 𝓜 𝓖 𝓡 =
     entered 𝓤 H (tripleOf 𝓤 H (𝓖 .A) fill.signature (fill.spec 𝓤 H (𝓖 .A) (𝓜 .mem) (𝓡 .run)))
     (tables 𝓤 H 𝓜 𝓡 code.env .C) (tables 𝓤 H 𝓜 𝓡 code.env .Λ) #fill code.function (code.unfolded 𝓤 H 𝓜 𝓡)
     (fill-meets 𝓤 H (𝓖 .A) (givenOf 𝓤 H 𝓜 𝓖) (𝓜 .mem) (𝓡 .run) (tablesOf 𝓤 H 𝓜 (tables 𝓤 H 𝓜 𝓡 code.env))
-    (cited 𝓤 H (RecordAt 𝓤 H (𝓖 .A) (𝓜 .mem) (𝓡 .run)) 𝓜 𝓡 code.env #record-at record-at-def.routine code.calls-sifc-records·record·record-at (record-at-thm.met 𝓤 H 𝓜 𝓖 𝓡))
-    (cited 𝓤 H (Push 𝓤 H (𝓖 .A) (𝓜 .mem) (𝓡 .run)) 𝓜 𝓡 code.env #push push-def.routine code.calls-sifc-records·slice·push (push-thm.met 𝓤 H 𝓜 𝓖 𝓡))
-    (cited 𝓤 H (Clear 𝓤 H (𝓖 .A) (𝓜 .mem) (𝓡 .run)) 𝓜 𝓡 code.env #clear clear-def.routine code.calls-sifc-records·slice·clear (clear-thm.met 𝓤 H 𝓜 𝓖 𝓡)))
+    (cited 𝓤 H (RecordAt 𝓤 H (𝓖 .A) (𝓜 .mem) (𝓡 .run)) 𝓜 𝓡 code.env #record-at record-at-def.routine code.calls-sifc-record·record·record-at (record-at-thm.met 𝓤 H 𝓜 𝓖 𝓡))
+    (cited 𝓤 H (Push 𝓤 H (𝓖 .A) (𝓜 .mem) (𝓡 .run)) 𝓜 𝓡 code.env #push push-def.routine code.calls-sifc-record·slice·push (push-thm.met 𝓤 H 𝓜 𝓖 𝓡))
+    (cited 𝓤 H (Clear 𝓤 H (𝓖 .A) (𝓜 .mem) (𝓡 .run)) 𝓜 𝓡 code.env #clear clear-def.routine code.calls-sifc-record·slice·clear (clear-thm.met 𝓤 H 𝓜 𝓖 𝓡)))

@@ -7,7 +7,7 @@ ghost use mathlib.Core.Path.{_≡_};
 ghost use Prim.Native.Nat.{_<_, _≤_};
 ghost use lib.ListN.{length, set, take};
 ghost use Rattle.sifc_symtab.specs.Toks.{toksOf};
-ghost use Rattle.sifc_records.specs.Records.{blankFrom, filledOf, Fillable};
+ghost use Rattle.sifc_record.specs.Record.{blankFrom, filledOf, Fillable};
 
 // Stores a record.
 pub fn push(errors: &mut [ParseErr], at: usize, e: ParseErr)

@@ -1,4 +1,4 @@
--- `sifc_records::push` meets its contract: a walk of its MIR, by hand. The borrow is opened, one element is taken out of the row and stored to, and the borrow is closed at the list with the record in it.
+-- `sifc_record::push` meets its contract: a walk of its MIR, by hand. The borrow is opened, one element is taken out of the row and stored to, and the borrow is closed at the list with the record in it.
 -- Assumes nothing.
 use mathlib.Core.Path.{refl, sym, ap, subst}
 use Prim.Native.Nat.{ℕ, _<_, _^_, _*_}
@@ -42,10 +42,10 @@ use denote.Exit.{yes}
 use Rattle.sifc_err.specs.declared.parse_err.ParseErr.{ParseErr}
 use Rattle.sifc_err.proofs.parse_err.ParseErr as T
 use Rattle.sifc_err.proofs.parse_err.ParseErr.Laws as T′
-use Rattle.sifc_records.proofs.slice.push.Key.{name as #push}
-use Rattle.sifc_records.proofs.slice.push as push
-use Rattle.sifc_records.proofs.slice.push.Statement as stated
-use Rattle.sifc_records.proofs.slice.push.Code as code
+use Rattle.sifc_record.proofs.slice.push.Key.{name as #push}
+use Rattle.sifc_record.proofs.slice.push as push
+use Rattle.sifc_record.proofs.slice.push.Statement as stated
+use Rattle.sifc_record.proofs.slice.push.Code as code
 
 abbrev R : RattleType
 R = T.the-row

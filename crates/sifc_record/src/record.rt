@@ -7,7 +7,7 @@ use sifc_step::wide;
 ghost use mathlib.Core.Path.{_≡_};
 ghost use lib.ListN.{take, getD};
 ghost use Rattle.sifc_symtab.specs.Toks.{toksOf};
-ghost use Rattle.sifc_records.specs.Records.{blankErr, invalidTkn, whyOf, recordOf, Readable};
+ghost use Rattle.sifc_record.specs.Record.{blankErr, invalidTkn, whyOf, recordOf, Readable};
 
 // The record of no error: line 0, column 0, no reason.
 pub fn blank() -> ParseErr

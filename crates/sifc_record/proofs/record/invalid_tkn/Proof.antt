@@ -1,10 +1,10 @@
 use borrow.Author.Tests.{eq-eqb, ne-eqb}
 use Rattle.sifc_lex.specs.Base.{if_then_else_}
-use Rattle.sifc_records.specs.Records.{invalidTkn}
-use Rattle.sifc_records.proofs.record.invalid_tkn.Statement.{statement}
-use Rattle.sifc_records.proofs.record.invalid_tkn.Tie as tie
-use Rattle.sifc_records.proofs.record.invalid_tkn.Reads as reads
-use Rattle.sifc_records.proofs.record.invalid_tkn.Lts as lts
+use Rattle.sifc_record.specs.Record.{invalidTkn}
+use Rattle.sifc_record.proofs.record.invalid_tkn.Statement.{statement}
+use Rattle.sifc_record.proofs.record.invalid_tkn.Tie as tie
+use Rattle.sifc_record.proofs.record.invalid_tkn.Reads as reads
+use Rattle.sifc_record.proofs.record.invalid_tkn.Lts as lts
 
 -- src/record.rt:28:9
 returns : tie.Need-returns
