@@ -15,8 +15,8 @@ use types.Run.{OneOf}
 use denote.Enum.Declared.{tagOf}
 use Rattle.sifc_err.specs.declared.Refusal.the-variants.{SourceFault}
 use Rattle.sifc_err.specs.declared.Token.{Token}
-use Rattle.sifc_lex.specs.Base.{if_then_else_}
-use Rattle.sifc_lex.specs.Reserved.{isStdLibFn}
+use Rattle.sifc_word.specs.Base.{if_then_else_}
+use Rattle.sifc_word.specs.Reserved.{isStdLibFn}
 use Rattle.sifc_def.specs.declared.Err.{Err}
 use Rattle.sifc_def.specs.declared.What.{What}
 use Rattle.sifc_def.specs.declared.What.the-variants.{Placeholder, Function, Variable, Other}

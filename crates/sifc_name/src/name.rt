@@ -2,7 +2,6 @@
 use sifc_def::What;
 use sifc_def::Why;
 use sifc_err::Refusal;
-use sifc_lex::is_std_lib_fn;
 use sifc_step::Limits;
 use sifc_step::Parsed;
 use sifc_step::Target;
@@ -18,6 +17,7 @@ use sifc_step::wide;
 use sifc_symtab::Found;
 use sifc_symtab::name;
 use sifc_symtab::retrieve;
+use sifc_word::is_std_lib_fn;
 ghost use mathlib.Core.Path.{_≡_};
 ghost use Prim.Native.Nat.{_+_, _-_, _≤_, _<_};
 ghost use lib.ListN.{length};

@@ -8,12 +8,12 @@ use lib.ListN.{length, take, drop, getD, replicate, length-append, length-drop, 
 use lib.Seq.{length-take-le, take-at}
 use Rattle.sifc_err.specs.declared.Refusal.{Refusal}
 use Rattle.sifc_err.specs.declared.Refusal.the-variants.{Uneven}
-use Rattle.sifc_lex.specs.declared.call.Checked.{Checked}
-use Rattle.sifc_lex.specs.declared.call.Checked.the-variants.{Fine}
-use Rattle.sifc_lex.specs.declared.call.Checked.the-variants as check
-use Rattle.sifc_lex.specs.Base.{if_then_else_}
+use Rattle.sifc_tokens.specs.declared.call.Checked.{Checked}
+use Rattle.sifc_tokens.specs.declared.call.Checked.the-variants.{Fine}
+use Rattle.sifc_tokens.specs.declared.call.Checked.the-variants as check
+use Rattle.sifc_word.specs.Base.{if_then_else_}
 use Rattle.sifc_lex.specs.Lex.{token}
-use Rattle.sifc_lex.specs.Tokens.{padded, zeroed, checkOf}
+use Rattle.sifc_tokens.specs.Tokens.{padded, zeroed, checkOf}
 use Rattle.sifc_def.specs.State.{tokenAt}
 use Rattle.sifc_def.specs.Read.{Arrays, even, entry}
 use Rattle.sifc_symtab.specs.Toks.{toksOf, toks-at}

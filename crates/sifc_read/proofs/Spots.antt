@@ -6,9 +6,9 @@ use native.Mathlib.Omega.{arith}
 use native.Mathlib.Numerals.{add-one}
 use lib.ListN.{length, take, drop, getD, set, length-append, length-drop, length-map}
 use lib.Seq.{take-suc, drop-cons, length-take-le, set-at, getD-at}
-use Rattle.sifc_lex.specs.declared.place.Place.{Place}
-use Rattle.sifc_lex.specs.Place.{placeOf, place, walkedTo}
-use Rattle.sifc_lex.specs.PlaceLaws.{walked-none, walked-line, place-inside, place-even, place-ragged}
+use Rattle.sifc_tokens.specs.declared.place.Place.{Place}
+use Rattle.sifc_tokens.specs.Place.{placeOf, place, walkedTo}
+use Rattle.sifc_tokens.specs.PlaceLaws.{walked-none, walked-line, place-inside, place-even, place-ragged}
 use Rattle.sifc_def.specs.ReadLaws.{PlaceFits, place-fits}
 use Rattle.sifc_read.specs.declared.place.Spot.{Spot}
 use Rattle.sifc_read.specs.Parts.{Reached, SpotOf, placeWord, placeWordAt}

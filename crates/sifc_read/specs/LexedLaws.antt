@@ -9,11 +9,11 @@ use lib.Dec.{T, eqb}
 use lib.ListN.{length, take, replicate, length-map}
 use lib.Seq.{take-at}
 use Rattle.sifc_err.specs.declared.Token.{Token}
-use Rattle.sifc_lex.specs.Kind.{Eof, LexPanic}
+use Rattle.sifc_word.specs.Kind.{Eof, LexPanic}
 use Rattle.sifc_lex.specs.Lex.{lex}
 use Rattle.sifc_lex.specs.LexLaws.{Run, lex-runs, lex-count}
 use Rattle.sifc_lex.specs.LexLaws.Run.{last, more}
-use Rattle.sifc_lex.specs.Tokens.{tokenWord, offsOf, wordsOf, padded}
+use Rattle.sifc_tokens.specs.Tokens.{tokenWord, offsOf, wordsOf, padded}
 use Rattle.sifc_def.specs.State.{tokenAt}
 use Rattle.sifc_symtab.specs.Toks.{toksOf, SmallKinds, toks-back}
 use Rattle.sifc_step.specs.Abs.{kindAt, Tokens}

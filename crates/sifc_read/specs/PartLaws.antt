@@ -12,10 +12,10 @@ use lib.Seq.{take-suc}
 use Rattle.sifc_err.specs.declared.Token.{Token}
 use Rattle.sifc_err.specs.declared.Refusal.{Refusal}
 use Rattle.sifc_err.specs.declared.parse_err.ParseErrTy.{ParseErrTy}
-use Rattle.sifc_lex.specs.declared.place.Place.{Place}
+use Rattle.sifc_tokens.specs.declared.place.Place.{Place}
 use Rattle.sifc_lex.specs.Lex.{lex, ending}
-use Rattle.sifc_lex.specs.Place.{placeOf}
-use Rattle.sifc_lex.specs.Tokens.{offsOf, wordsOf, padded, zeroed}
+use Rattle.sifc_tokens.specs.Place.{placeOf}
+use Rattle.sifc_tokens.specs.Tokens.{offsOf, wordsOf, padded, zeroed}
 use Rattle.sifc_def.specs.declared.Early.the-variants.{By}
 use Rattle.sifc_def.specs.declared.Err.{Err}
 use Rattle.sifc_def.specs.declared.Reading.the-variants as reading

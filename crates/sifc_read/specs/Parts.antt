@@ -5,9 +5,9 @@ use mathlib.Core.List.{List, map}
 use mathlib.Core.Bool.{Bool}
 use lib.ListN.{length, take, getD}
 use Rattle.sifc_err.specs.declared.Token.{Token}
-use Rattle.sifc_lex.specs.declared.place.Place.{Place}
-use Rattle.sifc_lex.specs.Place.{placeOf, walkedTo}
-use Rattle.sifc_lex.specs.Tokens.{padded, zeroed}
+use Rattle.sifc_tokens.specs.declared.place.Place.{Place}
+use Rattle.sifc_tokens.specs.Place.{placeOf, walkedTo}
+use Rattle.sifc_tokens.specs.Tokens.{padded, zeroed}
 use Rattle.sifc_def.specs.declared.Reading.{Reading}
 use Rattle.sifc_def.specs.declared.Reading.the-variants as reading
 use Rattle.sifc_def.specs.declared.Summary.{Summary}

@@ -1,9 +1,9 @@
 // What lies past the used part of the lent arrays is set to 0.
-use sifc_lex::clear_from;
+use sifc_tokens::clear_from;
 ghost use mathlib.Core.Path.{_≡_};
 ghost use Prim.Native.Nat.{_≤_};
 ghost use lib.ListN.{length, take};
-ghost use Rattle.sifc_lex.specs.Tokens.{padded, zeroed};
+ghost use Rattle.sifc_tokens.specs.Tokens.{padded, zeroed};
 ghost use Rattle.sifc_def.specs.Read.{clearedArrays};
 ghost use Rattle.sifc_read.specs.Parts.{arrays};
 

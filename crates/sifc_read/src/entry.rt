@@ -1,7 +1,7 @@
 // The tests of entry.
 use sifc_err::Refusal;
-use sifc_lex::Checked;
-use sifc_lex::check_script;
+use sifc_tokens::Checked;
+use sifc_tokens::check_script;
 ghost use mathlib.Core.Path.{_≡_};
 ghost use mathlib.Core.List.{[]};
 ghost use Rattle.sifc_def.specs.Read.{entry as entryOf, even as evenOf};

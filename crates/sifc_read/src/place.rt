@@ -1,12 +1,12 @@
 // The places of the listed errors, in one pass over the script as long as they rise.
-use sifc_lex::Place;
-use sifc_lex::walk_place;
 use sifc_step::wide;
+use sifc_tokens::Place;
+use sifc_tokens::walk_place;
 ghost use mathlib.Core.Path.{_≡_};
 ghost use mathlib.Core.List.{_++_, map};
 ghost use Prim.Native.Nat.{_≤_, _<_};
 ghost use lib.ListN.{length, take, drop, getD};
-ghost use Rattle.sifc_lex.specs.Place.{placeOf};
+ghost use Rattle.sifc_tokens.specs.Place.{placeOf};
 ghost use Rattle.sifc_def.specs.ReadLaws.{PlaceFits};
 ghost use Rattle.sifc_read.specs.Parts.{Reached, SpotOf, placeWord, placeWordAt};
 

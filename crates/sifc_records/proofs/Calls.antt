@@ -7,10 +7,10 @@ use lib.Dec.{eqb}
 use lib.ListN.{length}
 use Rattle.sifc_err.specs.declared.Refusal.{Refusal}
 use Rattle.sifc_err.specs.declared.Refusal.the-variants.{Uneven}
-use Rattle.sifc_lex.specs.declared.call.Checked.{Checked}
-use Rattle.sifc_lex.specs.declared.call.Checked.the-variants.{Fine}
-use Rattle.sifc_lex.specs.declared.call.Checked.the-variants as check
-use Rattle.sifc_lex.specs.Base.{if_then_else_}
+use Rattle.sifc_tokens.specs.declared.call.Checked.{Checked}
+use Rattle.sifc_tokens.specs.declared.call.Checked.the-variants.{Fine}
+use Rattle.sifc_tokens.specs.declared.call.Checked.the-variants as check
+use Rattle.sifc_word.specs.Base.{if_then_else_}
 use Rattle.sifc_def.specs.declared.Reading.{Reading}
 use Rattle.sifc_def.specs.declared.Reading.the-variants.{Refused}
 use Rattle.sifc_def.specs.Read.{Arrays, called, roomsOf, entry, even, read, answered}

@@ -8,11 +8,11 @@ use lib.ListN.{length, take, drop, replicate, length-append, length-map}
 use lib.Seq.{take-length, take-append-seam, length-take-le, length-front}
 use Rattle.sifc_err.specs.declared.Token.{Token}
 use Rattle.sifc_err.specs.declared.parse_err.ParseErr.{ParseErr}
-use Rattle.sifc_lex.specs.declared.call.Checked.{Checked}
-use Rattle.sifc_lex.specs.declared.call.Checked.the-variants.{Fine}
-use Rattle.sifc_lex.specs.declared.call.Checked.the-variants as check
+use Rattle.sifc_tokens.specs.declared.call.Checked.{Checked}
+use Rattle.sifc_tokens.specs.declared.call.Checked.the-variants.{Fine}
+use Rattle.sifc_tokens.specs.declared.call.Checked.the-variants as check
 use Rattle.sifc_lex.specs.Lex.{lex}
-use Rattle.sifc_lex.specs.Tokens.{offsOf, wordsOf, padded}
+use Rattle.sifc_tokens.specs.Tokens.{offsOf, wordsOf, padded}
 use Rattle.sifc_def.specs.State.{Ctx}
 use Rattle.sifc_def.specs.Error.{parseErr, errPlace, errReason}
 use Rattle.sifc_def.specs.Read.{Arrays, roomsOf, Found, Outcome, found, refused, ctxOf, filled, read, answered}

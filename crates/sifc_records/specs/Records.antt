@@ -5,10 +5,10 @@ use lib.Dec.{eqb}
 use lib.ListN.{length, replicate}
 use Rattle.sifc_err.specs.declared.Refusal.the-variants.{Uneven}
 use Rattle.sifc_err.specs.declared.parse_err.ParseErr.{ParseErr}
-use Rattle.sifc_lex.specs.declared.call.Checked.{Checked}
-use Rattle.sifc_lex.specs.declared.call.Checked.the-variants.{Fine}
-use Rattle.sifc_lex.specs.declared.call.Checked.the-variants as check
-use Rattle.sifc_lex.specs.Base.{if_then_else_}
+use Rattle.sifc_tokens.specs.declared.call.Checked.{Checked}
+use Rattle.sifc_tokens.specs.declared.call.Checked.the-variants.{Fine}
+use Rattle.sifc_tokens.specs.declared.call.Checked.the-variants as check
+use Rattle.sifc_word.specs.Base.{if_then_else_}
 use Rattle.sifc_def.specs.declared.Reading.{Reading}
 use Rattle.sifc_def.specs.declared.Reading.the-variants.{Refused}
 use Rattle.sifc_def.specs.State.{Ctx}

@@ -9,12 +9,12 @@ use lib.ListN.{length, take, replicate, length-append, length-map}
 use lib.Seq.{length-take-le}
 use Rattle.sifc_err.specs.declared.Refusal.{Refusal}
 use Rattle.sifc_err.specs.declared.Refusal.the-variants.{Flagged, TextFull}
-use Rattle.sifc_lex.specs.declared.call.Checked.{Checked}
-use Rattle.sifc_lex.specs.declared.call.Checked.the-variants.{Fine}
-use Rattle.sifc_lex.specs.declared.call.Checked.the-variants as check
-use Rattle.sifc_lex.specs.Base.{if_then_else_}
+use Rattle.sifc_tokens.specs.declared.call.Checked.{Checked}
+use Rattle.sifc_tokens.specs.declared.call.Checked.the-variants.{Fine}
+use Rattle.sifc_tokens.specs.declared.call.Checked.the-variants as check
+use Rattle.sifc_word.specs.Base.{if_then_else_}
 use Rattle.sifc_lex.specs.Lex.{lex}
-use Rattle.sifc_lex.specs.Tokens.{offsOf, wordsOf, padded, zeroed}
+use Rattle.sifc_tokens.specs.Tokens.{offsOf, wordsOf, padded, zeroed}
 use Rattle.sifc_def.specs.declared.Reading.{Reading}
 use Rattle.sifc_def.specs.declared.Reading.the-variants as reading
 use Rattle.sifc_def.specs.declared.Summary.{Summary}

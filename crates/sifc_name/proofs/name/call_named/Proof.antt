@@ -4,7 +4,7 @@ use mathlib.Core.Path.{_≡_, refl, sym, ap, _∙_, subst}
 use mathlib.Core.Bool.{true}
 use borrow.Author.Tests.{not-true, not-false}
 use Prim.Native.Nat.{suc}
-use Rattle.sifc_lex.specs.Reserved.{isStdLibFn}
+use Rattle.sifc_word.specs.Reserved.{isStdLibFn}
 use Rattle.sifc_def.specs.State.{push}
 use Rattle.sifc_def.specs.Expr.{callNamed, callName, callDeclared}
 use Rattle.sifc_symtab.specs.Table.{foundOf}
@@ -20,7 +20,7 @@ use Rattle.sifc_name.proofs.name.call_word.Reads as call-word-reads
 use Rattle.sifc_name.proofs.name.is_named.Reads as is-named-reads
 use Rattle.sifc_step.proofs.push_node.Reads as push-node-reads
 use Rattle.sifc_step.proofs.wide.Reads as wide-reads
-use Rattle.sifc_lex.proofs.is_std_lib_fn.Reads as is-std-lib-fn-reads
+use Rattle.sifc_word.proofs.is_std_lib_fn.Reads as is-std-lib-fn-reads
 use Rattle.sifc_symtab.proofs.retrieve.Reads as retrieve-reads
 use Rattle.sifc_symtab.proofs.name.Reads as name-reads
 

@@ -4,7 +4,7 @@ use Rattle.sifc_name.proofs.name.sym_exists.Statement.{statement}
 use Rattle.sifc_name.proofs.name.sym_exists.Tie as tie
 use Rattle.sifc_name.proofs.name.sym_exists.Reads as reads
 use Rattle.sifc_name.proofs.name.sym_exists.Lts as lts
-use Rattle.sifc_lex.proofs.is_std_lib_fn.Reads as is-std-lib-fn-reads
+use Rattle.sifc_word.proofs.is_std_lib_fn.Reads as is-std-lib-fn-reads
 use Rattle.sifc_symtab.proofs.retrieve.Reads as retrieve-reads
 use Rattle.sifc_symtab.proofs.name.Reads as name-reads
 

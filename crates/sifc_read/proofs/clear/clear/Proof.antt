@@ -4,7 +4,7 @@ use Rattle.sifc_read.proofs.clear.clear.Statement.{statement}
 use Rattle.sifc_read.proofs.clear.clear.Tie as tie
 use Rattle.sifc_read.proofs.clear.clear.Reads as reads
 use Rattle.sifc_read.proofs.clear.clear.Lts as lts
-use Rattle.sifc_lex.proofs.clear_from.Reads as clear-from-reads
+use Rattle.sifc_tokens.proofs.clear_from.Reads as clear-from-reads
 
 -- src/clear.rt:22:5
 clear-from-requires : tie.Need-clear-from-requires

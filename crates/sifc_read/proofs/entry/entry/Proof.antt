@@ -5,7 +5,7 @@ use Rattle.sifc_read.proofs.entry.entry.Statement.{statement}
 use Rattle.sifc_read.proofs.entry.entry.Tie as tie
 use Rattle.sifc_read.proofs.entry.entry.Reads as reads
 use Rattle.sifc_read.proofs.entry.entry.Lts as lts
-use Rattle.sifc_lex.proofs.check_script.Reads as check-script-reads
+use Rattle.sifc_tokens.proofs.check_script.Reads as check-script-reads
 use Rattle.sifc_read.proofs.entry.even.Reads as even-reads
 
 -- src/entry.rt:42:9

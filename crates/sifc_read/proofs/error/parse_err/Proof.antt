@@ -5,7 +5,7 @@ use Rattle.sifc_read.proofs.error.parse_err.Statement.{statement}
 use Rattle.sifc_read.proofs.error.parse_err.Tie as tie
 use Rattle.sifc_read.proofs.error.parse_err.Reads as reads
 use Rattle.sifc_read.proofs.error.parse_err.Lts as lts
-use Rattle.sifc_lex.proofs.place_at.Reads as place-at-reads
+use Rattle.sifc_tokens.proofs.place_at.Reads as place-at-reads
 use Rattle.sifc_read.proofs.error.token_at.Reads as token-at-reads
 use Rattle.sifc_read.proofs.error.ty_of.Reads as ty-of-reads
 

@@ -1,12 +1,12 @@
 use borrow.Author.Needs.{needs}
 use native.Mathlib.Omega.{arith}
 use mathlib.Core.Path.{sym}
-use Rattle.sifc_lex.specs.PlaceLaws.{walked-none}
+use Rattle.sifc_tokens.specs.PlaceLaws.{walked-none}
 use Rattle.sifc_read.proofs.place.spot_at.Statement.{statement}
 use Rattle.sifc_read.proofs.place.spot_at.Tie as tie
 use Rattle.sifc_read.proofs.place.spot_at.Reads as reads
 use Rattle.sifc_read.proofs.place.spot_at.Lts as lts
-use Rattle.sifc_lex.proofs.walk_place.Reads as walk-place-reads
+use Rattle.sifc_tokens.proofs.walk_place.Reads as walk-place-reads
 use Rattle.sifc_read.proofs.place.within.Reads as within-reads
 
 -- src/place.rt:25:9

@@ -1,5 +1,5 @@
 use borrow.Author.Tests.{eq-eqb, ne-eqb}
-use Rattle.sifc_lex.specs.Base.{if_then_else_}
+use Rattle.sifc_word.specs.Base.{if_then_else_}
 use Rattle.sifc_record.specs.Record.{invalidTkn}
 use Rattle.sifc_record.proofs.record.invalid_tkn.Statement.{statement}
 use Rattle.sifc_record.proofs.record.invalid_tkn.Tie as tie

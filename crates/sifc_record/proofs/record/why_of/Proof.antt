@@ -1,7 +1,7 @@
 use borrow.Author.Needs.{needs}
 use mathlib.Core.Path.{refl, ap, _∙_}
 use borrow.Author.Tests.{ne-eqb}
-use Rattle.sifc_lex.specs.Base.{if_then_else_}
+use Rattle.sifc_word.specs.Base.{if_then_else_}
 use Rattle.sifc_def.specs.declared.Why.the-variants.{ExpectedIdent}
 use Rattle.sifc_record.specs.Record.{whyBy}
 use Rattle.sifc_record.proofs.Made.{why-at}
