@@ -5,16 +5,16 @@ use mathlib.Core.Bool.{false}
 use Rattle.sifc_def.specs.State.{push}
 use Rattle.sifc_step.specs.Steps.{kept-nodes, begin, blank, blanks, gives, go, stop, last, by}
 use Rattle.sifc_step.specs.SmallLaws.{pushed-as}
-use Rattle.sifc_stmt.specs.Promise.{nodeAndName, arrayAndName}
-use Rattle.sifc_stmt.proofs.Tags.{not-done}
-use Rattle.sifc_stmt.proofs.Ends.{free, array-none, array-some}
-use Rattle.sifc_stmt.proofs.decl.declare_array.Statement.{statement}
-use Rattle.sifc_stmt.proofs.decl.declare_array.Tie as tie
-use Rattle.sifc_stmt.proofs.decl.declare_array.Reads as reads
-use Rattle.sifc_stmt.proofs.decl.declare_array.Lts as lts
+use Rattle.sifc_declare.specs.Promise.{nodeAndName, arrayAndName}
+use Rattle.sifc_declare.proofs.Tags.{not-done}
+use Rattle.sifc_declare.proofs.Ends.{free, array-none, array-some}
+use Rattle.sifc_declare.proofs.declare.declare_array.Statement.{statement}
+use Rattle.sifc_declare.proofs.declare.declare_array.Tie as tie
+use Rattle.sifc_declare.proofs.declare.declare_array.Reads as reads
+use Rattle.sifc_declare.proofs.declare.declare_array.Lts as lts
 use Rattle.sifc_step.proofs.head_word.Reads as head-word-reads
 use Rattle.sifc_step.proofs.push_node.Reads as push-node-reads
-use Rattle.sifc_stmt.proofs.decl.declare_other.Reads as declare-other-reads
+use Rattle.sifc_declare.proofs.declare.declare_other.Reads as declare-other-reads
 
 -- src/decl.rt:268:9
 declare-other-requires : tie.Need-declare-other-requires

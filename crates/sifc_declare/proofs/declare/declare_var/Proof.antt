@@ -8,12 +8,12 @@ use Rattle.sifc_def.specs.Symbols.{store}
 use Rattle.sifc_def.specs.Stmt.{declareVar}
 use Rattle.sifc_step.specs.Steps.{kept-nodes, begin, blank, blanks, gives, go, stop, last, read}
 use Rattle.sifc_step.specs.SmallLaws.{pushed-as, put}
-use Rattle.sifc_stmt.proofs.Tags.{not-done}
-use Rattle.sifc_stmt.proofs.Ends.{fits-variable}
-use Rattle.sifc_stmt.proofs.decl.declare_var.Statement.{statement}
-use Rattle.sifc_stmt.proofs.decl.declare_var.Tie as tie
-use Rattle.sifc_stmt.proofs.decl.declare_var.Reads as reads
-use Rattle.sifc_stmt.proofs.decl.declare_var.Lts as lts
+use Rattle.sifc_declare.proofs.Tags.{not-done}
+use Rattle.sifc_declare.proofs.Ends.{fits-variable}
+use Rattle.sifc_declare.proofs.declare.declare_var.Statement.{statement}
+use Rattle.sifc_declare.proofs.declare.declare_var.Tie as tie
+use Rattle.sifc_declare.proofs.declare.declare_var.Reads as reads
+use Rattle.sifc_declare.proofs.declare.declare_var.Lts as lts
 use Rattle.sifc_step.proofs.head_word.Reads as head-word-reads
 use Rattle.sifc_step.proofs.push_node.Reads as push-node-reads
 use Rattle.sifc_step.proofs.store_name.Reads as store-name-reads

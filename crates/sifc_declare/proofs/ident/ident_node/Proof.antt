@@ -7,12 +7,12 @@ use Rattle.sifc_def.specs.State.{go-on, return, ident, push}
 use Rattle.sifc_def.specs.Stmt.{identNode}
 use Rattle.sifc_step.specs.Steps.{same, begin, blank, blanks, gives, go, stop, last}
 use Rattle.sifc_step.specs.SmallLaws.{named, pushed}
-use Rattle.sifc_stmt.proofs.Tags.{not-done}
-use Rattle.sifc_stmt.proofs.Ends.{as-value}
-use Rattle.sifc_stmt.proofs.stmt.ident_node.Statement.{statement}
-use Rattle.sifc_stmt.proofs.stmt.ident_node.Tie as tie
-use Rattle.sifc_stmt.proofs.stmt.ident_node.Reads as reads
-use Rattle.sifc_stmt.proofs.stmt.ident_node.Lts as lts
+use Rattle.sifc_declare.proofs.Tags.{not-done}
+use Rattle.sifc_declare.proofs.Ends.{as-value}
+use Rattle.sifc_declare.proofs.ident.ident_node.Statement.{statement}
+use Rattle.sifc_declare.proofs.ident.ident_node.Tie as tie
+use Rattle.sifc_declare.proofs.ident.ident_node.Reads as reads
+use Rattle.sifc_declare.proofs.ident.ident_node.Lts as lts
 use Rattle.sifc_step.proofs.match_ident.Reads as match-ident-reads
 use Rattle.sifc_step.proofs.push_node.Reads as push-node-reads
 

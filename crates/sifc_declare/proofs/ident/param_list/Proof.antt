@@ -14,17 +14,17 @@ use Rattle.sifc_step.specs.Abs.{inp, mem}
 use Rattle.sifc_step.specs.Steps.{kept, same, begin, blank, blanks, gives, go, stop, last, read, yes, no, test, ahead-of, none-is, counted}
 use Rattle.sifc_step.specs.SmallLaws.{separated, thrown-counting}
 use Rattle.sifc_step.specs.Loops.{Looping, looping, turn, turn-own, onward, recount}
-use Rattle.sifc_stmt.proofs.Tags.{not-done}
-use Rattle.sifc_stmt.proofs.Ends.{as-param, none-used, zero-used, node-ahead, separated-kept}
-use Rattle.sifc_stmt.proofs.stmt.param_list.Statement.{statement}
-use Rattle.sifc_stmt.proofs.stmt.param_list.Tie as tie
-use Rattle.sifc_stmt.proofs.stmt.param_list.Reads as reads
-use Rattle.sifc_stmt.proofs.stmt.param_list.Lts as lts
+use Rattle.sifc_declare.proofs.Tags.{not-done}
+use Rattle.sifc_declare.proofs.Ends.{as-param, none-used, zero-used, node-ahead, separated-kept}
+use Rattle.sifc_declare.proofs.ident.param_list.Statement.{statement}
+use Rattle.sifc_declare.proofs.ident.param_list.Tie as tie
+use Rattle.sifc_declare.proofs.ident.param_list.Reads as reads
+use Rattle.sifc_declare.proofs.ident.param_list.Lts as lts
 use Rattle.sifc_step.proofs.add_error.Reads as add-error-reads
 use Rattle.sifc_step.proofs.kind_at.Reads as kind-at-reads
 use Rattle.sifc_step.proofs.separator.Reads as separator-reads
 use Rattle.sifc_step.proofs.with_count.Reads as with-count-reads
-use Rattle.sifc_stmt.proofs.stmt.ident_node.Reads as ident-node-reads
+use Rattle.sifc_declare.proofs.ident.ident_node.Reads as ident-node-reads
 
 abbrev Inv-loop : tie.InvT-loop
 Inv-loop script offs words symbols₀ head₀ load₀ lim x₀ n₀ symbols head load x n = Looping (λ x f. paramList x (param x) f 0) (λ x f. paramList x (param x) f n) (inp script offs words lim) (mem symbols₀ head₀ load₀) x₀ (mem symbols head load) x × (n ≤ 64) × (n ≤ x .nodes)

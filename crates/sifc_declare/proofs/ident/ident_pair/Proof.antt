@@ -7,16 +7,16 @@ use Rattle.sifc_def.specs.Stmt.{identNode, identPair}
 use Rattle.sifc_step.specs.declared.walk.Walk.{Walk}
 use Rattle.sifc_step.specs.Steps.{kept, kept-nodes, same, begin, blank, blanks, gives, go, stop, none-is}
 use Rattle.sifc_step.specs.SmallLaws.{expected, pushed}
-use Rattle.sifc_stmt.proofs.Tags.{not-done}
-use Rattle.sifc_stmt.proofs.Ends.{paired}
-use Rattle.sifc_stmt.proofs.stmt.ident_pair.Statement.{statement}
-use Rattle.sifc_stmt.proofs.stmt.ident_pair.Tie as tie
-use Rattle.sifc_stmt.proofs.stmt.ident_pair.Reads as reads
-use Rattle.sifc_stmt.proofs.stmt.ident_pair.Lts as lts
+use Rattle.sifc_declare.proofs.Tags.{not-done}
+use Rattle.sifc_declare.proofs.Ends.{paired}
+use Rattle.sifc_declare.proofs.ident.ident_pair.Statement.{statement}
+use Rattle.sifc_declare.proofs.ident.ident_pair.Tie as tie
+use Rattle.sifc_declare.proofs.ident.ident_pair.Reads as reads
+use Rattle.sifc_declare.proofs.ident.ident_pair.Lts as lts
 use Rattle.sifc_step.proofs.expect.Reads as expect-reads
 use Rattle.sifc_step.proofs.push_node.Reads as push-node-reads
 use Rattle.sifc_step.proofs.with_count.Reads as with-count-reads
-use Rattle.sifc_stmt.proofs.stmt.ident_node.Reads as ident-node-reads
+use Rattle.sifc_declare.proofs.ident.ident_node.Reads as ident-node-reads
 
 -- src/stmt.rt:190:9
 ident-node-requires : tie.Need-ident-node-requires

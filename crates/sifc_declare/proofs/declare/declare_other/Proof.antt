@@ -7,13 +7,13 @@ use Rattle.sifc_def.specs.Symbols.{store}
 use Rattle.sifc_step.specs.Abs.{kindIn, flagIn, kidsIn}
 use Rattle.sifc_step.specs.Steps.{kept-nodes, begin, blank, blanks, gives, go, stop, last}
 use Rattle.sifc_step.specs.SmallLaws.{pushed, put}
-use Rattle.sifc_stmt.specs.Promise.{nodeAndName}
-use Rattle.sifc_stmt.proofs.Tags.{not-done}
-use Rattle.sifc_stmt.proofs.Ends.{fits-other}
-use Rattle.sifc_stmt.proofs.decl.declare_other.Statement.{statement}
-use Rattle.sifc_stmt.proofs.decl.declare_other.Tie as tie
-use Rattle.sifc_stmt.proofs.decl.declare_other.Reads as reads
-use Rattle.sifc_stmt.proofs.decl.declare_other.Lts as lts
+use Rattle.sifc_declare.specs.Promise.{nodeAndName}
+use Rattle.sifc_declare.proofs.Tags.{not-done}
+use Rattle.sifc_declare.proofs.Ends.{fits-other}
+use Rattle.sifc_declare.proofs.declare.declare_other.Statement.{statement}
+use Rattle.sifc_declare.proofs.declare.declare_other.Tie as tie
+use Rattle.sifc_declare.proofs.declare.declare_other.Reads as reads
+use Rattle.sifc_declare.proofs.declare.declare_other.Lts as lts
 use Rattle.sifc_step.proofs.push_node.Reads as push-node-reads
 use Rattle.sifc_step.proofs.store_name.Reads as store-name-reads
 

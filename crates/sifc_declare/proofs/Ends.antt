@@ -29,7 +29,7 @@ use Rattle.sifc_step.specs.Small.{Separates, Idents}
 use Rattle.sifc_step.specs.Steps.{kind-is, length-nodes, blank, blanks, At, Ends, NotDone, by, counted}
 use Rattle.sifc_step.specs.SmallLaws.{named, separated}
 use Rattle.sifc_step.specs.Loops.{Looping}
-use Rattle.sifc_stmt.specs.Promise.{AheadOf, freely, nodeAndName, arrayAndName}
+use Rattle.sifc_declare.specs.Promise.{AheadOf, freely, nodeAndName, arrayAndName}
 
 -- ── what follows a call that is itself of two parts ──
 
