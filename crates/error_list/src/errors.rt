@@ -9,7 +9,7 @@ use sifc_err::Token;
 use sifc_record::blank;
 use sifc_records::reading_records;
 ghost use mathlib.Core.Path.{_≡_};
-ghost use Rattle.sifc_read.specs.Parts.{arrays};
+ghost use Rattle.sifc_lent.specs.Parts.{arrays};
 ghost use Rattle.sifc_records.specs.Records.{readingRecords, blankRecords};
 ghost use Rattle.sifc_records.specs.RecordLaws.{errorsOf, callOf};
 ghost use Rattle.sifc_def.specs.Read.{called};

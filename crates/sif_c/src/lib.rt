@@ -5,7 +5,7 @@ use sifc_told::told_text;
 ghost use mathlib.Core.Path.{_≡_};
 ghost use Rattle.sifc_tokens.specs.Tokens.{tokensCalled, tokensCall};
 ghost use Rattle.sifc_def.specs.Read.{called, reading as readingOf, textCall};
-ghost use Rattle.sifc_read.specs.Parts.{arrays};
+ghost use Rattle.sifc_lent.specs.Parts.{arrays};
 ghost use Rattle.sifc_told.specs.Hosts.{answer, earlyNumbers, readAnswer, told as toldOf, textAnswer, textTold, toldText};
 
 // The tokens call. It returns the refusal's number, 0 for none, and sets count, kind and offset; what

@@ -24,11 +24,11 @@ use Rattle.sifc_def.specs.Read.{Arrays, roomsOf, clearedArrays, even, entry, re
 use Rattle.sifc_step.specs.declared.walk.Walked.{Walked}
 use Rattle.sifc_step.specs.Abs.{Tokens, inp, mem}
 use Rattle.sifc_step.specs.Book.{Walks}
-use Rattle.sifc_read.specs.Parts.{arrays, Entered, Fits, finishOf}
+use Rattle.sifc_lent.specs.Parts.{arrays, Entered, Fits, finishOf}
 use Rattle.sifc_program.specs.Program.{Starts}
-use Rattle.sifc_read.specs.EntryLaws.{entry-same}
-use Rattle.sifc_read.specs.LexedLaws.{lexed-tokens}
-use Rattle.sifc_read.specs.PartLaws.{Held, used-offs, used-words, used-toks, same-arrays, fits-is, finish-is}
+use Rattle.sifc_lent.specs.EntryLaws.{entry-same}
+use Rattle.sifc_lent.specs.LexedLaws.{lexed-tokens}
+use Rattle.sifc_lent.specs.PartLaws.{Held, used-offs, used-words, used-toks, same-arrays, fits-is, finish-is}
 
 -- ── lexing ──
 

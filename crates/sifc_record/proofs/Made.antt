@@ -6,7 +6,7 @@ use Rattle.sifc_err.specs.declared.Token.{Token}
 use Rattle.sifc_err.specs.declared.parse_err.ParseErrTy.{ParseErrTy}
 use Rattle.sifc_def.specs.declared.Why.{Why}
 use Rattle.sifc_def.specs.Error.{tyOf}
-use Rattle.sifc_read.specs.Parts.{bare}
+use Rattle.sifc_lent.specs.Parts.{bare}
 use Rattle.sifc_record.specs.Record.{whyBy, whyOf, recordOf}
 
 -- the reason of a word whose number is known

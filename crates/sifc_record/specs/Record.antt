@@ -10,7 +10,7 @@ use Rattle.sifc_word.specs.Base.{if_then_else_}
 use Rattle.sifc_def.specs.declared.Why.{Why}
 use Rattle.sifc_def.specs.declared.Why.the-variants.{InvalidIdent, InvalidTkn, InvalidTknMsg, InvalidAssign, InvalidForStmt, InvalidIfStmt, TknMismatch, FnParmCntExceeded, WrongFnParmCnt, UndeclSym, UnassignedVar, ExpectedIdent}
 use Rattle.sifc_def.specs.Error.{tyOf}
-use Rattle.sifc_read.specs.Parts.{bare}
+use Rattle.sifc_lent.specs.Parts.{bare}
 
 -- "error records blank: line 0, column 0, no reason"
 abbrev pub blankErr : ParseErr

@@ -2,7 +2,7 @@
 use sifc_def::Why;
 use sifc_err::ParseErr;
 use sifc_err::ParseErrTy;
-use sifc_read::ty_of;
+use sifc_lent::ty_of;
 use sifc_step::wide;
 ghost use mathlib.Core.Path.{_≡_};
 ghost use lib.ListN.{take, getD};

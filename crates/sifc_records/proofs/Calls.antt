@@ -14,8 +14,8 @@ use Rattle.sifc_word.specs.Base.{if_then_else_}
 use Rattle.sifc_def.specs.declared.Reading.{Reading}
 use Rattle.sifc_def.specs.declared.Reading.the-variants.{Refused}
 use Rattle.sifc_def.specs.Read.{Arrays, called, roomsOf, entry, even, read, answered}
-use Rattle.sifc_read.specs.Parts.{arrays, Entered}
-use Rattle.sifc_read.specs.EntryLaws as words
+use Rattle.sifc_lent.specs.Parts.{arrays, Entered}
+use Rattle.sifc_lent.specs.EntryLaws as words
 use Rattle.sifc_records.specs.declared.call.Told.{Told}
 use Rattle.sifc_records.specs.Records.{entryRecords}
 use Rattle.sifc_records.specs.RecordLaws.{entryBy, entry-by, entry-of}

@@ -16,8 +16,8 @@ use Rattle.sifc_tokens.specs.Tokens.{offsOf, wordsOf, padded}
 use Rattle.sifc_def.specs.State.{Ctx}
 use Rattle.sifc_def.specs.Error.{parseErr, errPlace, errReason}
 use Rattle.sifc_def.specs.Read.{Arrays, roomsOf, Found, Outcome, found, refused, ctxOf, filled, read, answered}
-use Rattle.sifc_read.specs.Parts.{arrays}
-use Rattle.sifc_read.specs.LexedLaws.{lexed-back, length-offs, length-words, used-part}
+use Rattle.sifc_lent.specs.Parts.{arrays}
+use Rattle.sifc_lent.specs.LexedLaws.{lexed-back, length-offs, length-words, used-part}
 use Rattle.sifc_symtab.specs.Toks.{toksOf}
 use Rattle.sifc_records.specs.declared.call.Told.{Told}
 use Rattle.sifc_record.specs.Record.{blankErr, recordsIn, blankFrom, filledOf, Fillable}

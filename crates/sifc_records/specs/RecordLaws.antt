@@ -34,7 +34,7 @@ use Rattle.sifc_def.specs.StepLaws.{Each, FairErr}
 use Rattle.sifc_def.specs.TokLaws.{worth, lexed-toks}
 use Rattle.sifc_def.specs.WalkLaws.{Ended, walk-ends}
 use Rattle.sifc_def.specs.ReadLaws.{PlaceFits, place-fits}
-use Rattle.sifc_read.specs.Parts.{bare}
+use Rattle.sifc_lent.specs.Parts.{bare}
 use Rattle.sifc_record.specs.Record.{invalidTkn, whyBy, whyOf, recordOf, recordsIn}
 use Rattle.sifc_records.specs.Records.{entryRecords, Recorded, recorded, recordsOf, readingRecords}
 use Rattle.sifc_records.specs.Listed.{Spoken, Listed, walk-lists}

@@ -29,10 +29,10 @@ use Rattle.sifc_def.specs.Canon.Demand3.{Shows, shows-text, found-same, Typed, 
 use Rattle.sifc_put.specs.Place.{Inp, inp}
 use Rattle.sifc_put.specs.Post.{SpotOf}
 use Rattle.sifc_put.specs.Spans.{SpansProgram}
-use Rattle.sifc_read.specs.Parts.{arrays}
-use Rattle.sifc_read.specs.EntryLaws.{entry-same}
-use Rattle.sifc_read.specs.LexedLaws.{length-offs, length-words, used-part}
-use Rattle.sifc_read.specs.PartLaws.{zeroed-long, same-arrays}
+use Rattle.sifc_lent.specs.Parts.{arrays}
+use Rattle.sifc_lent.specs.EntryLaws.{entry-same}
+use Rattle.sifc_lent.specs.LexedLaws.{length-offs, length-words, used-part}
+use Rattle.sifc_lent.specs.PartLaws.{zeroed-long, same-arrays}
 use Rattle.sifc_text.specs.Stands.{left}
 use Rattle.sifc_text.specs.Bridge.{bridge}
 use Rattle.sifc_text_stmt.specs.Kinds.{programL}

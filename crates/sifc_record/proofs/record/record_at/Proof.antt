@@ -9,7 +9,7 @@ use Rattle.sifc_record.proofs.record.record_at.Statement.{statement}
 use Rattle.sifc_record.proofs.record.record_at.Tie as tie
 use Rattle.sifc_record.proofs.record.record_at.Reads as reads
 use Rattle.sifc_record.proofs.record.record_at.Lts as lts
-use Rattle.sifc_read.proofs.ty_of.Reads as ty-of-reads
+use Rattle.sifc_lent.proofs.ty_of.Reads as ty-of-reads
 use Rattle.sifc_record.proofs.record.why_of.Reads as why-of-reads
 use Rattle.sifc_step.proofs.wide.Reads as wide-reads
 
