@@ -1,4 +1,4 @@
-"""Writes crates/sifc_records/proofs/slice/fill/Proof.antt: the walk of `fill` (crates/sifc_records/src/slice.rt).
+"""Writes crates/sifc_record/proofs/slice/fill/Proof.antt: the walk of `fill` (crates/sifc_record/src/slice.rt).
 The locals, in the order of its MIR: 0 the result; 1 to 4 offs, words, places, reasons; 5 tokens; 6 n; 7 from; 8 errors;
 9 i; 10 e; 11 the test; 12 what push returns; 13 and 14 errors lent to it; 15 what clear returns; 16 and 17 errors lent to it.
 Run it in the repository's root, then `rt fmt`."""
@@ -15,7 +15,7 @@ sv = [f"s{sb(i)}" for i in S]
 T = []
 e = T.append
 
-e('''-- `sifc_records::fill` meets its contract: a walk of its MIR, whose numbers tools/walks/fill.py wrote. In each turn of the loop `record_at` is called on copies of the four shared
+e('''-- `sifc_record::fill` meets its contract: a walk of its MIR, whose numbers tools/walks/fill.py wrote. In each turn of the loop `record_at` is called on copies of the four shared
 -- slices, and the errors are lent again to `push` and come back; after the loop they go to `clear` for good. All that the proof knows of the three is that they meet their contracts.
 -- Assumes nothing.
 use mathlib.Core.Path.{_≡_, refl, sym, ap, subst, _∙_}
@@ -66,8 +66,8 @@ use Rattle.sifc_err.specs.declared.parse_err.ParseErr.{ParseErr}
 use Rattle.sifc_err.proofs.parse_err.ParseErr as T
 use Rattle.sifc_err.proofs.parse_err.ParseErr.Laws as T′
 use Rattle.sifc_symtab.specs.Toks.{toksOf}
-use Rattle.sifc_records.specs.Records.{recordOf, recordsIn, Readable, blankFrom, filledOf, Fillable}''')
-e(imports("sifc_records", "slice.fill", [("record.record_at", "record-at"), ("slice.push", "push"), ("slice.clear", "clear")], shared=[
+use Rattle.sifc_record.specs.Record.{recordOf, recordsIn, Readable, blankFrom, filledOf, Fillable}''')
+e(imports("sifc_record", "slice.fill", [("record.record_at", "record-at"), ("slice.push", "push"), ("slice.clear", "clear")], shared=[
     "Again.{LentAgain, lends-again, comes-back}", "Turn.{Turn, turned, over, Less, less-wf, nearer}", "While.{whiles}"], mir=True))
 e('''abbrev R : RattleType
 R = T.the-row
@@ -391,7 +391,7 @@ e(f'''  module _ (𝓣 : Tables 𝓤 H) (fm : FmC 𝓤 H (W .laws) (𝓣 .C)) {k
 ''')
 def pr(v, i):
     return v + " .1" * i + " .0"
-callees = [("RecordAt", "record-at", "sifc-records·record·record-at", "known-record"), ("Push", "push", "sifc-records·slice·push", "known-push"), ("Clear", "clear", "sifc-records·slice·clear", "known-clear")]
+callees = [("RecordAt", "record-at", "sifc-record·record·record-at", "known-record"), ("Push", "push", "sifc-record·slice·push", "known-push"), ("Clear", "clear", "sifc-record·slice·clear", "known-clear")]
 tri = " → ".join(f"Triple 𝓤 (𝓣 .C #{a}) ({c} 𝓤 H A mem run)" for c, a, _, _ in callees)
 kn = " ".join(n for _, _, _, n in callees)
 vals = nest(["slice-vals"] * 4 + ["uint-vals w64"] * 3 + ["slice-vals"])
@@ -421,5 +421,5 @@ fill-spec 𝓤 H 𝓜 𝓖 𝓡 =
     (fill-meets 𝓤 H (𝓖 .A) (givenOf 𝓤 H 𝓜 𝓖) (𝓜 .mem) (𝓡 .run) (tablesOf 𝓤 H 𝓜 (tables 𝓤 H 𝓜 𝓡 code.env))
     {cites})
 ''')
-os.makedirs("crates/sifc_records/proofs/slice/fill", exist_ok=True)
-open("crates/sifc_records/proofs/slice/fill/Proof.antt", "w").write("\n".join(T))
+os.makedirs("crates/sifc_record/proofs/slice/fill", exist_ok=True)
+open("crates/sifc_record/proofs/slice/fill/Proof.antt", "w").write("\n".join(T))

@@ -74,14 +74,16 @@ use Rattle.sifc_def.specs.declared.Reading.{Reading}
 use Rattle.sifc_def.proofs.Reading as Rd
 use Rattle.sifc_def.proofs.Reading.Laws as Rd′
 use Rattle.sifc_symtab.specs.Toks.{toksOf}
-use Rattle.sifc_read.specs.Parts.{arrays}
+use Rattle.sifc_lent.specs.Parts.{arrays}
 use Rattle.sifc_records.specs.declared.call.Told.{Told}
-use Rattle.sifc_records.specs.Records.{recorded, readingRecords, filledOf, Fillable}
+use Rattle.sifc_record.specs.Record.{filledOf, Fillable}
+use Rattle.sifc_record.proofs.Again.{LentAgain, lends-again, comes-back}
+use Rattle.sifc_records.specs.Records.{recorded, readingRecords}
 use Rattle.sifc_records.specs.Words.{kept, readWords}
 use Rattle.sifc_records.proofs.call.Told as To
 use Rattle.sifc_records.proofs.call.Told.Laws as To′''')
-e(imports("sifc_records", "call.reading_records", [("call.read_words", "read-words"), ("slice.fill", "fill")], shared=[
-    "Whole.{can-fill, whole as whole-is}", "Again.{LentAgain, lends-again, comes-back}", "Shared.{LentShared, lends-shared, comes-home}"]))
+e(imports("sifc_records", "call.reading_records", [("call.read_words", "read-words"), ("sifc_record:fill", "fill")], shared=[
+    "Whole.{can-fill, whole as whole-is}", "Shared.{LentShared, lends-shared, comes-home}"]))
 stays = {0: "stay-dropped (shrSliceOf (0 ∷ []) tt (plain (λ _. u8))) yes"}
 for i in range(1, 9):
     stays[i] = f"{'stay-slice' if i in BACK else 'gave-slice'} ({i} ∷ []) tt (plain (λ _. {row[i]}))"
@@ -333,7 +335,7 @@ def pr(v, i):
     return v + " .1" * i + " .0"
 tells = ["shr-slice-tells (named 0) (κs .0) u8"] + [f"mut-slice-tells (named {i}) ({pr('κs', i)}) {row[i]}" for i in range(1, 9)]
 goes = ["goes-dropped 𝓤 H A W 9 (shrSliceOf (0 ∷ []) tt (plain (λ _. u8))) yes (λ κs x f. refl)"] + [f"{'goes-slice' if i in BACK else 'goes-gave-slice'} 𝓤 H A W 9 {i} tt (plain (λ _. {row[i]}))" for i in range(1, 9)]
-callees = [("Words", "read-words", "sifc-records·call·read-words", "known-words"), ("Fill", "fill", "sifc-records·slice·fill", "known-fill")]
+callees = [("Words", "read-words", "sifc-records·call·read-words", "known-words"), ("Fill", "fill", "sifc-record·fill", "known-fill")]
 tri = lambda C: " → ".join(f"Triple 𝓤 ({C} #{a}) ({c} 𝓤 H A mem run)" for c, a, _, _ in callees)
 kn = " ".join(n for _, _, _, n in callees)
 wargs = " ".join([f"({pr('κs', i)})" for i in P] + [f"({pr('qs', i)})" for i in P] + [f"({pr('a', i)} .ptr .0)" for i in P] + [f"({pr('a', i)} .ptr .1)" for i in P] + [f"({pr('a', i)} .name)" for i in P] + [f"({pr('a', i)} .now)" for i in P] + [f"({pr('are', i)} .0 .1)" for i in P])

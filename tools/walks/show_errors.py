@@ -76,11 +76,12 @@ use Rattle.sifc_def.specs.declared.Reading.{Reading}
 use Rattle.sifc_def.specs.Read.{called}
 use Rattle.sifc_def.proofs.Reading as Rd
 use Rattle.sifc_def.proofs.Reading.Laws as Rd′
-use Rattle.sifc_read.specs.Parts.{arrays}
-use Rattle.sifc_records.specs.Records.{blankErr, blankRecords, Recorded, recorded, readingRecords}
+use Rattle.sifc_lent.specs.Parts.{arrays}
+use Rattle.sifc_record.specs.Record.{blankErr}
+use Rattle.sifc_records.specs.Records.{blankRecords, Recorded, recorded, readingRecords}
 use Rattle.sifc_records.specs.RecordLaws.{callOf, errorsOf, errors-fit}
-use Rattle.sifc_records.proofs.While.{whiles}''')
-e(imports("error_list", "errors.show_errors", [("sifc_records:blank", "blank"), ("sifc_records:reading_records", "reading-records"), ("errors.listed", "listed"), ("errors.print_error", "print-error")], shared=[
+use Rattle.sifc_record.proofs.While.{whiles}''')
+e(imports("error_list", "errors.show_errors", [("sifc_record:blank", "blank"), ("sifc_records:reading_records", "reading-records"), ("errors.listed", "listed"), ("errors.print_error", "print-error")], shared=[
     "Count.{Count, next, first, Less, less-wf, nearer}", "Local.{big-lit, array-typed, opens-array, lends-array, array-back, closes-array}"], mir=True))
 e(f'''-- the rows of an error record and of an answer
 abbrev R : RattleType
@@ -248,7 +249,7 @@ e(f'''  exits : (v : Reading) (u : Val) ({Z} : List ℕ) → Is Q v (u ∷ []) �
 {w.lines(6)}
       frame ! $ owned ! Q (Is Q) (EL.makes Rd.the-type Rd′.the-plain 𝓤 H A) v _ is $ done !
 ''')
-callees = [("Blank", "blank", "sifc-records·blank", "known-blank"), ("Records", "reading-records", "sifc-records·reading-records", "known-records"), ("Counted", "listed", "error-list·errors·listed", "known-listed"), ("Prints", "print-error", "error-list·errors·print-error", "known-print")]
+callees = [("Blank", "blank", "sifc-record·blank", "known-blank"), ("Records", "reading-records", "sifc-records·reading-records", "known-records"), ("Counted", "listed", "error-list·errors·listed", "known-listed"), ("Prints", "print-error", "error-list·errors·print-error", "known-print")]
 known = " ".join(f"({n} : Triple 𝓤 (𝓣 .C #{c}) ({C} 𝓤 H A at-mem run))" for C, c, _, n in callees)
 kn = " ".join(n for _, _, _, n in callees)
 ls = " ".join(f"l{sb(i)}" for i in range(NL))

@@ -4,9 +4,9 @@ use mathlib.Core.Path.{_≡_, sym, ap, _∙_}
 use mathlib.Core.List.{List}
 use Rattle.sifc_err.specs.declared.Refusal.{Refusal}
 use Rattle.sifc_err.specs.Refusal.{numberOf, kindOf, offsetOf}
-use Rattle.sifc_lex.specs.declared.call.TokensAnswer.{TokensAnswer}
-use Rattle.sifc_lex.specs.declared.call.TokensAnswer.the-variants.{Count, Refused}
-use Rattle.sifc_lex.specs.Tokens.{answerOf, TokensCall, tokensCalled}
+use Rattle.sifc_tokens.specs.declared.call.TokensAnswer.{TokensAnswer}
+use Rattle.sifc_tokens.specs.declared.call.TokensAnswer.the-variants.{Count, Refused}
+use Rattle.sifc_tokens.specs.Tokens.{answerOf, TokensCall, tokensCalled}
 use Rattle.sifc_def.specs.declared.Reading.{Reading}
 use Rattle.sifc_def.specs.declared.Texting.{Texting}
 use Rattle.sifc_def.specs.Read.{Arrays, Called, called, readNumbers, TextNumbers, textNumbers, Written, written}

@@ -1,11 +1,11 @@
 // The calls that hosts in other languages link, on plain slices. include/sif.h declares them.
-use sifc_lex::TokensAnswer;
+use sifc_tokens::TokensAnswer;
 use sifc_told::told;
 use sifc_told::told_text;
 ghost use mathlib.Core.Path.{_≡_};
-ghost use Rattle.sifc_lex.specs.Tokens.{tokensCalled, tokensCall};
+ghost use Rattle.sifc_tokens.specs.Tokens.{tokensCalled, tokensCall};
 ghost use Rattle.sifc_def.specs.Read.{called, reading as readingOf, textCall};
-ghost use Rattle.sifc_read.specs.Parts.{arrays};
+ghost use Rattle.sifc_lent.specs.Parts.{arrays};
 ghost use Rattle.sifc_told.specs.Hosts.{answer, earlyNumbers, readAnswer, told as toldOf, textAnswer, textTold, toldText};
 
 // The tokens call. It returns the refusal's number, 0 for none, and sets count, kind and offset; what
@@ -21,7 +21,7 @@ pub extern "C" fn sif_tokens(
 ) -> u32
     ensures { λ r. ⌜ tokensCalled (answer (now (count .exit)) r (now (kind .exit)) (now (offset .exit))) (now (offs .exit)) (now (words .exit)) ≡ tokensCall (now (script .entry)) (now (offs .entry)) (now (words .entry)) ⌝ }
 {
-    let said = sifc_lex::tokens(script, offs, words);
+    let said = sifc_tokens::tokens(script, offs, words);
     match said {
         TokensAnswer::Count(n) => {
             *count = n as u32;

@@ -6,7 +6,7 @@ pub use entries::after_newline;
 pub use entries::entry_at;
 use libc::STDOUT_FILENO;
 use sifc_err::Refusal;
-use sifc_lex::TokensAnswer;
+use sifc_tokens::TokensAnswer;
 
 // A token a line, its spelling as it stands; or all tokens on one line with a space between, the
 // spelling in hexadecimal and none for a Val, which is how the stored answers of the Rust are written.
@@ -68,7 +68,7 @@ fn print_token<'a>(script: &'a [u8], fixed: &'a [u8], off: u32, word: u32, layou
     let kind = word % 64;
     let len = (word / 64) as usize;
     let at = off as usize;
-    let place = sifc_lex::place_at(script, at);
+    let place = sifc_tokens::place_at(script, at);
     print_number(kind as usize);
     print(b":");
     print_number(place.line);
@@ -76,7 +76,7 @@ fn print_token<'a>(script: &'a [u8], fixed: &'a [u8], off: u32, word: u32, layou
     print_number(place.pos);
     print(b":");
     print_spelling(
-        sifc_lex::spelling(script, fixed, kind, at, len),
+        sifc_word::spelling(script, fixed, kind, at, len),
         kind,
         layout,
     );
@@ -104,7 +104,7 @@ fn print_gap(i: usize, layout: Layout) {
 }
 
 fn print_tokens(script: &[u8], offs: &[u32], words: &[u32], n: usize, layout: Layout) {
-    let fixed = sifc_lex::spellings();
+    let fixed = sifc_word::spellings();
     let mut i = 0;
     while i < n {
         if offs.len() <= i {
@@ -123,7 +123,7 @@ fn print_tokens(script: &[u8], offs: &[u32], words: &[u32], n: usize, layout: La
 pub fn show(script: &[u8], layout: Layout) {
     let mut offs = [0u32; 4097];
     let mut words = [0u32; 4097];
-    let said = sifc_lex::tokens(script, &mut offs, &mut words);
+    let said = sifc_tokens::tokens(script, &mut offs, &mut words);
     match said {
         TokensAnswer::Count(n) => print_tokens(script, &offs, &words, n, layout),
         TokensAnswer::Refused(refusal) => print_refusal(refusal),

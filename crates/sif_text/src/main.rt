@@ -4,7 +4,7 @@ use libc::STDIN_FILENO;
 use sif_show::print;
 use sifc_def::Texting;
 use sifc_err::Refusal;
-use sifc_lex::part;
+use sifc_word::part;
 
 // The longest script that is read.
 const MOST: usize = 4096;

@@ -4,7 +4,7 @@ use mathlib.Core.Path.{_≡_}
 use mathlib.Core.List.{List, [], _∷_}
 use mathlib.Core.Bool.{Bool, false}
 use lib.ListN.{length, getD}
-use Rattle.sifc_lex.specs.Kind.{RightBrace}
+use Rattle.sifc_word.specs.Kind.{RightBrace}
 use Rattle.sifc_def.specs.Ast.{Block}
 use Rattle.sifc_def.specs.State.{Ctx, Void, _>>=_, _>>_, expect, push}
 use Rattle.sifc_def.specs.Symbols.{levelNow, closeScope}

@@ -7,11 +7,11 @@ use lib.ListN.{length, replicate, getD}
 use Rattle.sifc_err.specs.declared.Token.{Token}
 use Rattle.sifc_err.specs.declared.Refusal.{Refusal}
 use Rattle.sifc_err.specs.ParseErr.{valuesOf}
-use Rattle.sifc_lex.specs.declared.place.Place.{Place}
-use Rattle.sifc_lex.specs.Kind.{Eof}
+use Rattle.sifc_tokens.specs.declared.place.Place.{Place}
+use Rattle.sifc_word.specs.Kind.{Eof}
 use Rattle.sifc_lex.specs.Lex.{token, lex}
-use Rattle.sifc_lex.specs.Place.{placeOf, place}
-use Rattle.sifc_lex.specs.Tokens.{offsOf, wordsOf, padded, zeroed}
+use Rattle.sifc_tokens.specs.Place.{placeOf, place}
+use Rattle.sifc_tokens.specs.Tokens.{offsOf, wordsOf, padded, zeroed}
 use Rattle.sifc_def.specs.declared.Early.{Early}
 use Rattle.sifc_def.specs.declared.Early.the-variants.{Never, By}
 use Rattle.sifc_def.specs.declared.Reading.{Reading}

@@ -4,7 +4,7 @@ use mathlib.Core.List.{List, [], _∷_, map}
 use mathlib.Core.Bool.{true, false}
 use Rattle.sifc_err.specs.declared.Refusal.the-variants.{SourceFault}
 use Rattle.sifc_err.specs.declared.parse_err.ParseErrTy.the-variants.{TknMismatch}
-use Rattle.sifc_lex.specs.Kind.{LeftBrace, RightBrace, Semicolon, Eq, Period, DoubleLeftBracket, DoubleRightBracket, Ident, Val, Var, If, Else, True, Eof}
+use Rattle.sifc_word.specs.Kind.{LeftBrace, RightBrace, Semicolon, Eq, Period, DoubleLeftBracket, DoubleRightBracket, Ident, Val, Var, If, Else, True, Eof}
 use Rattle.sifc_lex.specs.Lex.{token}
 use Rattle.sifc_def.specs.declared.Early.the-variants.{Never, By}
 use Rattle.sifc_def.specs.declared.Texting.the-variants.{Wrote}

@@ -7,7 +7,7 @@ use mathlib.Core.Bool.{true, false}
 use lib.ListN.{replicate}
 use Rattle.sifc_err.specs.declared.Refusal.the-variants.{LongScript, NotAscii, SourceFault, TooDeep, NodesFull, SymbolsFull, ErrorsFull}
 use Rattle.sifc_err.specs.declared.parse_err.ParseErrTy.the-variants.{TknMismatch}
-use Rattle.sifc_lex.specs.Kind.{LeftParen, RightParen, Semicolon, Eq, Star, Percent, Ident, Str, Val, Var, Eof, LexPanic}
+use Rattle.sifc_word.specs.Kind.{LeftParen, RightParen, Semicolon, Eq, Star, Percent, Ident, Str, Val, Var, Eof, LexPanic}
 use Rattle.sifc_lex.specs.Lex.{token}
 use Rattle.sifc_def.specs.declared.Early.the-variants.{Never, By}
 use Rattle.sifc_def.specs.Ast.{Program, ExprStmt, VarDecl, FnCallExpr, BinaryExpr, PrimaryExpr}

@@ -6,8 +6,8 @@ use Rattle.sifc_err.specs.declared.parse_err.ParseErr.{ParseErr}
 use Rattle.sifc_err.specs.declared.parse_err.ParseErrTy.{ParseErrTy}
 use Rattle.sifc_err.specs.declared.parse_err.ParseErrTy.the-variants as Ty
 use Rattle.sifc_err.specs.ParseErr.{valuesOf, continuableOf}
-use Rattle.sifc_lex.specs.declared.place.Place.{Place}
-use Rattle.sifc_lex.specs.Place.{placeOf}
+use Rattle.sifc_tokens.specs.declared.place.Place.{Place}
+use Rattle.sifc_tokens.specs.Place.{placeOf}
 use Rattle.sifc_def.specs.declared.Err.{Err}
 use Rattle.sifc_def.specs.declared.Why.{Why}
 use Rattle.sifc_def.specs.declared.Why.the-variants.{InvalidIdent, InvalidTkn, InvalidTknMsg, InvalidAssign, InvalidForStmt, InvalidIfStmt, TknMismatch, FnParmCntExceeded, WrongFnParmCnt, UndeclSym, UnassignedVar, ExpectedIdent}

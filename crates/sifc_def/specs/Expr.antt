@@ -5,9 +5,9 @@ use mathlib.Core.Option.{Option, none, some}
 use mathlib.Core.Bool.{Bool, true, false, _&&_, _||_, not}
 use lib.Dec.{eqb, leb}
 use lib.ListN.{length}
-use Rattle.sifc_lex.specs.Base.{if_then_else_, member}
-use Rattle.sifc_lex.specs.Kind.{LeftParen, RightParen, LeftBracket, RightBracket, Eq, Lt, Gt, Period, Comma, Bang, Plus, Minus, Star, Slash, Percent, At, EqEq, LtEq, GtEq, BangEq, AmpAmp, PipePipe, Ident, Str, Val, True, False, Eof}
-use Rattle.sifc_lex.specs.Reserved.{isStdLibFn}
+use Rattle.sifc_word.specs.Base.{if_then_else_, member}
+use Rattle.sifc_word.specs.Kind.{LeftParen, RightParen, LeftBracket, RightBracket, Eq, Lt, Gt, Period, Comma, Bang, Plus, Minus, Star, Slash, Percent, At, EqEq, LtEq, GtEq, BangEq, AmpAmp, PipePipe, Ident, Str, Val, True, False, Eof}
+use Rattle.sifc_word.specs.Reserved.{isStdLibFn}
 use Rattle.sifc_def.specs.declared.Why.the-variants.{InvalidTkn, InvalidTknMsg, InvalidAssign, FnParmCntExceeded, WrongFnParmCnt, UndeclSym}
 use Rattle.sifc_def.specs.declared.What.{What}
 use Rattle.sifc_def.specs.declared.What.the-variants.{Placeholder, Function, Variable, Other}

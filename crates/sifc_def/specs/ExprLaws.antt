@@ -10,9 +10,9 @@ use native.Mathlib.Omega.{arith}
 use lib.Dec.{T, eqb, eqb·zero-suc, eqb→eq}
 use lib.ListN.{length, getD}
 use borrow.Author.Tests.{leb-false, not-false}
-use Rattle.sifc_lex.specs.Base.{if_then_else_, member}
-use Rattle.sifc_lex.specs.Kind.{LeftParen, RightParen, LeftBracket, RightBracket, Eq, Period, Comma, At, Ident, Eof}
-use Rattle.sifc_lex.specs.Reserved.{isStdLibFn}
+use Rattle.sifc_word.specs.Base.{if_then_else_, member}
+use Rattle.sifc_word.specs.Kind.{LeftParen, RightParen, LeftBracket, RightBracket, Eq, Period, Comma, At, Ident, Eof}
+use Rattle.sifc_word.specs.Reserved.{isStdLibFn}
 use Rattle.sifc_def.specs.declared.Why.{Why}
 use Rattle.sifc_def.specs.declared.Why.the-variants.{InvalidTkn, InvalidAssign, WrongFnParmCnt, UndeclSym}
 use Rattle.sifc_def.specs.declared.What.{What}

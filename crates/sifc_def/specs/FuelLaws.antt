@@ -7,8 +7,8 @@ use mathlib.Core.Path.{_≡_, refl}
 use native.Mathlib.Omega.{arith}
 use lib.Dec.{eqb}
 use lib.ListN.{length}
-use Rattle.sifc_lex.specs.Base.{if_then_else_}
-use Rattle.sifc_lex.specs.Kind.{RightBrace, Comma, Eof}
+use Rattle.sifc_word.specs.Base.{if_then_else_}
+use Rattle.sifc_word.specs.Kind.{RightBrace, Comma, Eof}
 use Rattle.sifc_def.specs.declared.Err.{Err}
 use Rattle.sifc_def.specs.Ast.{BinaryExpr}
 use Rattle.sifc_def.specs.Error.{continuable}

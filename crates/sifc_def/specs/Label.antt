@@ -6,7 +6,7 @@ use mathlib.Core.List.{List, [], _∷_, map}
 use mathlib.Core.Bool.{Bool}
 use lib.Dec.{eqb}
 use Rattle.sifc_err.specs.declared.Token.{Token}
-use Rattle.sifc_lex.specs.Base.{if_then_else_, member}
+use Rattle.sifc_word.specs.Base.{if_then_else_, member}
 use Rattle.sifc_def.specs.Ast.{Block, VarDecl, FnDecl, TableItem, Table, Array, VarAssignExpr, BinaryExpr, UnaryExpr, PrimaryExpr}
 use Rattle.sifc_def.specs.State.{Node, W, tokenAt, wordIn}
 

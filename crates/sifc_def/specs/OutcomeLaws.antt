@@ -2,7 +2,7 @@
 use mathlib.Core.Bool.{Bool, true, false}
 use mathlib.Core.Path.{_≡_, refl}
 use Rattle.sifc_err.specs.declared.Refusal.{Refusal}
-use Rattle.sifc_lex.specs.Base.{if_then_else_}
+use Rattle.sifc_word.specs.Base.{if_then_else_}
 use Rattle.sifc_def.specs.declared.Err.{Err}
 use Rattle.sifc_def.specs.State.{St, Out, done, fail, refuse, M, go-on}
 

@@ -11,12 +11,12 @@ use Rattle.sifc_err.specs.declared.Ending.the-variants.{TrueEnd, UnknownChar, U
 use Rattle.sifc_err.specs.declared.Refusal.{Refusal}
 use Rattle.sifc_err.specs.declared.Refusal.the-variants.{Uneven, TokensFull, Flagged, TextFull}
 use Rattle.sifc_err.specs.Refusal.{numberOf, kindOf, offsetOf}
-use Rattle.sifc_lex.specs.declared.call.Checked.{Checked}
-use Rattle.sifc_lex.specs.declared.call.Checked.the-variants.{Fine}
-use Rattle.sifc_lex.specs.declared.call.Checked.the-variants as check
-use Rattle.sifc_lex.specs.Base.{if_then_else_}
+use Rattle.sifc_tokens.specs.declared.call.Checked.{Checked}
+use Rattle.sifc_tokens.specs.declared.call.Checked.the-variants.{Fine}
+use Rattle.sifc_tokens.specs.declared.call.Checked.the-variants as check
+use Rattle.sifc_word.specs.Base.{if_then_else_}
 use Rattle.sifc_lex.specs.Lex.{lex, ending}
-use Rattle.sifc_lex.specs.Tokens.{offsOf, wordsOf, padded, zeroed, checkOf}
+use Rattle.sifc_tokens.specs.Tokens.{offsOf, wordsOf, padded, zeroed, checkOf}
 use Rattle.sifc_def.specs.declared.Err.{Err}
 use Rattle.sifc_def.specs.declared.Early.{Early}
 use Rattle.sifc_def.specs.declared.Early.the-variants.{Never, By}

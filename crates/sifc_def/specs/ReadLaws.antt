@@ -12,11 +12,11 @@ use lib.ListN.{length, getD, length-reverse}
 use borrow.Author.Tests.{ltb-true, ltb-false}
 use Rattle.sifc_err.specs.declared.Refusal.the-variants.{TokensFull}
 use Rattle.sifc_err.specs.ParseErr.{valuesOf}
-use Rattle.sifc_lex.specs.declared.place.Place.{Place}
+use Rattle.sifc_tokens.specs.declared.place.Place.{Place}
 use Rattle.sifc_lex.specs.Lex.{lex}
 use Rattle.sifc_lex.specs.LexLaws.{lex-count}
-use Rattle.sifc_lex.specs.Place.{placeOf, place, walkedTo, nextPlace}
-use Rattle.sifc_lex.specs.PlaceLaws.{walked-none, walked-more, walked-line, walked-pos, place-inside, place-even, place-ragged}
+use Rattle.sifc_tokens.specs.Place.{placeOf, place, walkedTo, nextPlace}
+use Rattle.sifc_tokens.specs.PlaceLaws.{walked-none, walked-more, walked-line, walked-pos, place-inside, place-even, place-ragged}
 use Rattle.sifc_def.specs.declared.Err.{Err}
 use Rattle.sifc_def.specs.declared.Why.{Why}
 use Rattle.sifc_def.specs.declared.Why.the-variants.{InvalidIdent, InvalidTkn, InvalidTknMsg, InvalidAssign, InvalidForStmt, InvalidIfStmt, TknMismatch, FnParmCntExceeded, WrongFnParmCnt, UndeclSym, UnassignedVar, ExpectedIdent}

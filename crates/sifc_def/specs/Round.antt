@@ -11,8 +11,8 @@ use lib.ListN.{length, getD, length-append}
 use lib.Seq.{take-append-seam, drop-append-add}
 use Rattle.sifc_err.specs.declared.Refusal.{Refusal}
 use Rattle.sifc_err.specs.Refusal.{numberOf}
-use Rattle.sifc_lex.specs.Base.{if_then_else_, member, same}
-use Rattle.sifc_lex.specs.Kind.{Ident}
+use Rattle.sifc_word.specs.Base.{if_then_else_, member, same}
+use Rattle.sifc_word.specs.Kind.{Ident}
 use Rattle.sifc_def.specs.declared.What.{What}
 use Rattle.sifc_def.specs.declared.What.the-variants.{Placeholder, Function, Variable, Other}
 use Rattle.sifc_def.specs.State.{Node, node, Sym, Ctx, St, Out, done, fail, refuse, M, go-on, W, nameOf, wordAt, without}

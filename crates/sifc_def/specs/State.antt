@@ -9,8 +9,8 @@ use lib.ListN.{take, drop, length, getD}
 use Rattle.sifc_err.specs.declared.Token.{Token}
 use Rattle.sifc_err.specs.declared.Refusal.{Refusal}
 use Rattle.sifc_err.specs.declared.Refusal.the-variants.{SourceFault, NodesFull, ErrorsFull}
-use Rattle.sifc_lex.specs.Base.{if_then_else_, part}
-use Rattle.sifc_lex.specs.Kind.{Ident, Str, Eof, LexPanic}
+use Rattle.sifc_word.specs.Base.{if_then_else_, part}
+use Rattle.sifc_word.specs.Kind.{Ident, Str, Eof, LexPanic}
 use Rattle.sifc_lex.specs.Lex.{token}
 use Rattle.sifc_def.specs.declared.Err.{Err}
 use Rattle.sifc_def.specs.declared.Why.{Why}

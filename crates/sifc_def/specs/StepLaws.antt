@@ -11,8 +11,8 @@ use lib.Dec.{T, eqb, leb, ltb}
 use lib.ListN.{length}
 use borrow.Author.Tests.{eqb-true}
 use Rattle.sifc_err.specs.declared.Refusal.{Refusal}
-use Rattle.sifc_lex.specs.Base.{member}
-use Rattle.sifc_lex.specs.Kind.{Ident, Eof, LexPanic, Var, Fn, For}
+use Rattle.sifc_word.specs.Base.{member}
+use Rattle.sifc_word.specs.Kind.{Ident, Eof, LexPanic, Var, Fn, For}
 use Rattle.sifc_def.specs.declared.Err.{Err}
 use Rattle.sifc_def.specs.declared.Why.{Why}
 use Rattle.sifc_def.specs.declared.Why.the-variants.{InvalidIdent}

@@ -9,8 +9,8 @@ use native.Mathlib.Omega.{arith}
 use lib.Dec.{T, eqb, leb, ltb}
 use lib.ListN.{length, getD, take, length-reverse, length-map, length-take}
 use borrow.Author.Tests.{eqb-true, eqb-false}
-use Rattle.sifc_lex.specs.Base.{member}
-use Rattle.sifc_lex.specs.Kind.{LeftParen, RightParen, LeftBrace, RightBrace, LeftBracket, RightBracket, Semicolon, Eq, Comma, EqArrow, DoubleLeftBracket, DoubleRightBracket, Var, Fn, Return, If, Elif, Else, For, In, Eof}
+use Rattle.sifc_word.specs.Base.{member}
+use Rattle.sifc_word.specs.Kind.{LeftParen, RightParen, LeftBrace, RightBrace, LeftBracket, RightBracket, Semicolon, Eq, Comma, EqArrow, DoubleLeftBracket, DoubleRightBracket, Var, Fn, Return, If, Elif, Else, For, In, Eof}
 use Rattle.sifc_def.specs.declared.Why.{Why}
 use Rattle.sifc_def.specs.declared.Why.the-variants.{InvalidIdent, InvalidTknMsg, InvalidIfStmt, ExpectedIdent}
 use Rattle.sifc_def.specs.declared.What.the-variants.{Placeholder, Function, Other}

@@ -6,7 +6,7 @@ use mathlib.Core.Bool.{Bool, true, false, _&&_}
 use lib.Dec.{eqb, leb}
 use lib.ListN.{length}
 use Rattle.sifc_err.specs.declared.Refusal.the-variants.{SymbolsFull}
-use Rattle.sifc_lex.specs.Base.{if_then_else_, same}
+use Rattle.sifc_word.specs.Base.{if_then_else_, same}
 use Rattle.sifc_def.specs.declared.What.{What}
 use Rattle.sifc_def.specs.State.{Sym, Ctx, done, refuse, M, Void, _>>=_, _>>_, nameAt}
 

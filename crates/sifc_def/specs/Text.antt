@@ -6,7 +6,7 @@ use mathlib.Core.Bool.{Bool, true, false}
 use lib.Dec.{eqb, leb, ltb}
 use Rattle.sifc_lex.specs.declared.lex.Step.{Step}
 use Rattle.sifc_lex.specs.declared.lex.Step.the-variants.{Skip, Word, Stop}
-use Rattle.sifc_lex.specs.Base.{if_then_else_, member}
+use Rattle.sifc_word.specs.Base.{if_then_else_, member}
 use Rattle.sifc_lex.specs.Lex.{step}
 use Rattle.sifc_def.specs.Ascii.{ascii}
 use Rattle.sifc_def.specs.Ast.{Block, IfStmt, ElifStmt, ForStmt, ReturnStmt, ExprStmt, VarDecl, FnDecl, FnParams, IdentPair, ItemList, TableItem, Table, TableAccess, Array, ArrayItems, ArrayAccess, ArrayMutExpr, FnCallExpr, VarAssignExpr, BinaryExpr, UnaryExpr, PrimaryExpr}

@@ -13,11 +13,11 @@ use Rattle.sifc_err.specs.declared.Ending.{Ending}
 use Rattle.sifc_err.specs.declared.Ending.the-variants.{TrueEnd, UnknownChar, UnterminatedString, Panic}
 use Rattle.sifc_lex.specs.declared.lex.Step.{Step}
 use Rattle.sifc_lex.specs.declared.lex.Step.the-variants.{Skip, Word, Stop}
-use Rattle.sifc_lex.specs.Base.{member, same, span}
-use Rattle.sifc_lex.specs.BaseLaws.{and-left, and-right, if-either, same-lengths, length-span}
-use Rattle.sifc_lex.specs.Kind.{Var, Fn, For, Eof, LexPanic}
-use Rattle.sifc_lex.specs.Reserved.{reservedWords, kindAmong, nameKind}
-use Rattle.sifc_lex.specs.Reserved as Reserved
+use Rattle.sifc_word.specs.Base.{member, same, span}
+use Rattle.sifc_word.specs.BaseLaws.{and-left, and-right, if-either, same-lengths, length-span}
+use Rattle.sifc_word.specs.Kind.{Var, Fn, For, Eof, LexPanic}
+use Rattle.sifc_word.specs.Reserved.{reservedWords, kindAmong, nameKind}
+use Rattle.sifc_word.specs.Reserved as Reserved
 use Rattle.sifc_lex.specs.Lex.{white, digit, letter, alnum, inLine, inStr, Sign, doubles, singles, singleKind, doubleKind, oneSign, lexSign, hashComment, lineEnd, slashComment, nextIs, lexSlash, closed, lexStr, pointed, fraction, lexNum, lexIdent, step, endKind, endLen, Lexed, ended, onStep, lexFrom, lexed, lex}
 use Rattle.sifc_lex.specs.LexLaws.{Run, lex-runs}
 use Rattle.sifc_lex.specs.LexLaws.Run.{last, more}

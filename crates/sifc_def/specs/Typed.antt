@@ -7,8 +7,8 @@ use mathlib.Core.Option.{Option, none, some}
 use mathlib.Core.Bool.{Bool, true, false, _&&_, _||_, not}
 use lib.Dec.{T, eqb, leb, ltb}
 use lib.ListN.{length}
-use Rattle.sifc_lex.specs.Kind.{LeftParen, RightParen, LeftBrace, RightBrace, LeftBracket, RightBracket, Semicolon, Eq, Period, Comma, EqArrow, DoubleLeftBracket, DoubleRightBracket, Ident, Str, Var, Fn, Return, If, Elif, Else, For, In, Eof}
-use Rattle.sifc_lex.specs.Reserved.{isStdLibFn}
+use Rattle.sifc_word.specs.Kind.{LeftParen, RightParen, LeftBrace, RightBrace, LeftBracket, RightBracket, Semicolon, Eq, Period, Comma, EqArrow, DoubleLeftBracket, DoubleRightBracket, Ident, Str, Var, Fn, Return, If, Elif, Else, For, In, Eof}
+use Rattle.sifc_word.specs.Reserved.{isStdLibFn}
 use Rattle.sifc_def.specs.declared.What.{What}
 use Rattle.sifc_def.specs.declared.What.the-variants.{Placeholder, Function, Variable, Other}
 use Rattle.sifc_def.specs.Ascii.{ascii}

@@ -5,9 +5,9 @@ use mathlib.Core.Option.{Option, none, some}
 use mathlib.Core.Bool.{Bool, true, false}
 use lib.Dec.{eqb}
 use Rattle.sifc_err.specs.declared.Refusal.the-variants.{TooDeep}
-use Rattle.sifc_lex.specs.Base.{if_then_else_, member, same}
-use Rattle.sifc_lex.specs.Kind.{Eof}
-use Rattle.sifc_lex.specs.Reserved.{isStdLibFn}
+use Rattle.sifc_word.specs.Base.{if_then_else_, member, same}
+use Rattle.sifc_word.specs.Kind.{Eof}
+use Rattle.sifc_word.specs.Reserved.{isStdLibFn}
 use Rattle.sifc_def.specs.declared.Err.{Err}
 use Rattle.sifc_def.specs.Ast.{Program}
 use Rattle.sifc_def.specs.Error.{continuable}

@@ -2,18 +2,18 @@
 // as falling number. `depth` is how many more of the counted calls may be active.
 use sifc_def::Why;
 use sifc_err::Refusal;
+use sifc_name::assign_to;
+use sifc_name::call_named;
+use sifc_name::ident_expr;
 use sifc_step::Limits;
 use sifc_step::Parsed;
 use sifc_step::Target;
 use sifc_step::Walk;
 use sifc_step::add_error;
-use sifc_step::assign_to;
-use sifc_step::call_named;
 use sifc_step::consume;
 use sifc_step::end_dot;
 use sifc_step::end_index;
 use sifc_step::expect;
-use sifc_step::ident_expr;
 use sifc_step::is_literal;
 use sifc_step::is_unary;
 use sifc_step::kind_at;

@@ -12,9 +12,9 @@ use lib.Seq.{drop-cons, drop-drop}
 use Rattle.sifc_err.specs.declared.Ending.the-variants.{TrueEnd, UnknownChar, UnterminatedString, Panic}
 use Rattle.sifc_lex.specs.declared.lex.Step.{Step}
 use Rattle.sifc_lex.specs.declared.lex.Step.the-variants.{Skip, Word, Stop}
-use Rattle.sifc_lex.specs.Base.{if_then_else_, span}
-use Rattle.sifc_lex.specs.BaseLaws.{and-false}
-use Rattle.sifc_lex.specs.Reserved.{nameKind}
+use Rattle.sifc_word.specs.Base.{if_then_else_, span}
+use Rattle.sifc_word.specs.BaseLaws.{and-false}
+use Rattle.sifc_word.specs.Reserved.{nameKind}
 use Rattle.sifc_lex.specs.Lex.{white, letter, step, alnum, digit, inLine, inStr, hashComment, lineEnd, slashComment, nextIs, lexSlash, closed, lexStr, pointed, fraction, lexNum, lexIdent, oneSign, doubles, doubleKind, lexSign}
 
 -- what is left after a run

@@ -3,7 +3,7 @@ use Prim.Native.Nat.{ℕ}
 use mathlib.Core.List.{List, [], _∷_}
 use mathlib.Core.Bool.{Bool}
 use lib.Dec.{ltb}
-use Rattle.sifc_lex.specs.Base.{if_then_else_}
+use Rattle.sifc_word.specs.Base.{if_then_else_}
 use Rattle.sifc_lex.specs.declared.lex.Class.{Class}
 use Rattle.sifc_lex.specs.declared.lex.Class.the-variants.{Ascii, Digit, Alnum, InLine, InStr}
 use Rattle.sifc_lex.specs.Lex.{ascii, digit, alnum, inLine, inStr}

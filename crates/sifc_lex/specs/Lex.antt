@@ -9,8 +9,8 @@ use Rattle.sifc_err.specs.declared.Ending.{Ending}
 use Rattle.sifc_err.specs.declared.Ending.the-variants.{TrueEnd, UnknownChar, UnterminatedString, Panic}
 use Rattle.sifc_lex.specs.declared.lex.Step.{Step}
 use Rattle.sifc_lex.specs.declared.lex.Step.the-variants.{Skip, Word, Stop}
-use Rattle.sifc_lex.specs.Base.{if_then_else_, within, span}
-use Rattle.sifc_lex.specs.Reserved.{nameKind}
+use Rattle.sifc_word.specs.Base.{if_then_else_, within, span}
+use Rattle.sifc_word.specs.Reserved.{nameKind}
 
 abbrev pub token : ℕ → ℕ → ℕ → Token
 token k o l = record { kind = k; off = o; len = l }

@@ -16,10 +16,10 @@ use Rattle.sifc_err.specs.declared.Ending.{Ending}
 use Rattle.sifc_err.specs.declared.Ending.the-variants.{TrueEnd, UnknownChar, UnterminatedString, Panic}
 use Rattle.sifc_lex.specs.declared.lex.Step.{Step}
 use Rattle.sifc_lex.specs.declared.lex.Step.the-variants.{Skip, Word, Stop}
-use Rattle.sifc_lex.specs.Base.{if_then_else_, span, same}
-use Rattle.sifc_lex.specs.BaseLaws.{and-left, and-right, span-le, rest-of}
-use Rattle.sifc_lex.specs.Reserved.{reservedWords, kindAmong, nameKind}
-use Rattle.sifc_lex.specs.Reserved as Reserved
+use Rattle.sifc_word.specs.Base.{if_then_else_, span, same}
+use Rattle.sifc_word.specs.BaseLaws.{and-left, and-right, span-le, rest-of}
+use Rattle.sifc_word.specs.Reserved.{reservedWords, kindAmong, nameKind}
+use Rattle.sifc_word.specs.Reserved as Reserved
 use Rattle.sifc_lex.specs.Lex.{white, digit, letter, alnum, inLine, inStr, Sign, doubles, singles, singleKind, doubleKind, oneSign, lexSign, hashComment, lineEnd, slashComment, closed, lexStr, pointed, fraction, lexNum, lexIdent, nextIs, lexSlash, step, endKind, endLen, Lexed, before, ended, token, onStep, lexFrom, lexed, lex}
 
 pos-of-ne-zero : (k : ℕ) → (k ≡ 0 → ⊥) → 0 < k

@@ -15,9 +15,9 @@ use Rattle.sifc_err.specs.declared.Ending.{Ending}
 use Rattle.sifc_err.specs.declared.Ending.the-variants.{TrueEnd, UnknownChar, UnterminatedString, Panic}
 use Rattle.sifc_lex.specs.declared.lex.Step.{Step}
 use Rattle.sifc_lex.specs.declared.lex.Step.the-variants.{Skip, Word, Stop}
-use Rattle.sifc_lex.specs.Base.{if_then_else_, within, same, span, part}
-use Rattle.sifc_lex.specs.BaseLaws.{and-left, and-right, true-of, false-of, span-yes, span-no, span-again, length-span, span-stop}
-use Rattle.sifc_lex.specs.Reserved.{nameKind}
+use Rattle.sifc_word.specs.Base.{if_then_else_, within, same, span, part}
+use Rattle.sifc_word.specs.BaseLaws.{and-left, and-right, true-of, false-of, span-yes, span-no, span-again, length-span, span-stop}
+use Rattle.sifc_word.specs.Reserved.{nameKind}
 use Rattle.sifc_lex.specs.Lex.{token, white, digit, letter, alnum, inLine, inStr, Sign, doubles, singles, singleKind, doubleKind, oneSign, nextIs, lexSlash, lineEnd, hashComment, slashComment, closed, lexStr, pointed, fraction, lexNum, lexIdent, lexSign, step, onStep, ended, endKind, Lexed, lexFrom, lexed, lex}
 use Rattle.sifc_lex.specs.LexLaws.{lexAt, lexAt-turn}
 

@@ -1,16 +1,6 @@
-pub mod Base
-pub mod BaseLaws
-pub mod Kind
-pub mod Reserved
 pub mod Lex
 pub mod LexCases
 pub mod LexLaws
 pub mod LexTrip
 pub mod Unicode
-pub mod Place
-pub mod PlaceLaws
-pub mod Spelling
 pub mod Class
-pub mod Tokens
-pub mod TokensLaws
-pub mod Loaded

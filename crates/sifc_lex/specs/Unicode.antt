@@ -7,8 +7,8 @@ use mathlib.Core.List.{List, [], _∷_}
 use mathlib.Core.Bool.{Bool}
 use lib.Dec.{eqb, eqb→eq}
 use lib.ListN.{getD}
-use Rattle.sifc_lex.specs.Base.{if_then_else_}
-use Rattle.sifc_lex.specs.BaseLaws.{every, every-at}
+use Rattle.sifc_word.specs.Base.{if_then_else_}
+use Rattle.sifc_word.specs.BaseLaws.{every, every-at}
 use Rattle.sifc_lex.specs.Lex.{white, digit, letter}
 
 -- for each code point: 0 none of the three, 1 White_Space, 2 Alphabetic, 3 Nd

@@ -1,10 +1,10 @@
 // lex.rs: from bytes to tokens.
-use crate::reserved::name_kind;
 use sifc_err::Ending;
+use sifc_word::name_kind;
 ghost use mathlib.Core.Path.{_≡_};
 ghost use Prim.Native.Nat.{_+_, _≤_, _<_};
 ghost use lib.ListN.{length, drop, set, getD};
-ghost use Rattle.sifc_lex.specs.Base.{span};
+ghost use Rattle.sifc_word.specs.Base.{span};
 ghost use Rattle.sifc_lex.specs.Lex.{white, digit, letter, singles, doubles, singleKind, doubleKind, oneSign, hashComment, slashComment, lexSlash, lexStr, lexNum, lexIdent, lexSign, endKind, step as stepOf};
 ghost use Rattle.sifc_lex.specs.Class.{testOf};
 

@@ -7,8 +7,8 @@ use mathlib.Core.Bool.{Bool, true, false, _||_}
 use lib.ListN.{length, getD, take}
 use lib.Dec.{eqb, ltb}
 use borrow.Author.Tests.{eqb-true, ne-eqb}
-use Rattle.sifc_lex.specs.Base.{if_then_else_}
-use Rattle.sifc_lex.specs.Kind.{Eof, LexPanic}
+use Rattle.sifc_word.specs.Base.{if_then_else_}
+use Rattle.sifc_word.specs.Kind.{Eof, LexPanic}
 use Rattle.sifc_def.specs.declared.Err.{Err}
 use Rattle.sifc_def.specs.State.{Node, node, Ctx, St, Out, done, go-on, tokAt, arrive, consume, raise, expect, push}
 use Rattle.sifc_def.specs.declared.What.the-variants.{Placeholder, Function}

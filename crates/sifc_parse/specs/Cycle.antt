@@ -3,7 +3,7 @@ use Prim.Native.Nat.{ℕ, _≤_}
 use mathlib.Core.Path.{_≡_}
 use mathlib.Core.List.{List, [], _∷_}
 use mathlib.Core.Bool.{Bool, true, false}
-use Rattle.sifc_lex.specs.Kind.{RightParen, LeftBrace}
+use Rattle.sifc_word.specs.Kind.{RightParen, LeftBrace}
 use Rattle.sifc_def.specs.declared.What.the-variants.{Function}
 use Rattle.sifc_def.specs.Ast.{ForStmt, FnParams, FnDecl}
 use Rattle.sifc_def.specs.State.{Ctx, Void, _>>=_, _>>_, expect, push, loads}

@@ -12,8 +12,8 @@ use lib.Dec.{ltb, eqb}
 use borrow.Author.Tests.{eq-eqb, ne-eqb, ltb-true, ltb-false}
 use Rattle.sifc_err.specs.declared.Refusal.{Refusal}
 use Rattle.sifc_err.specs.declared.Refusal.the-variants.{SourceFault}
-use Rattle.sifc_lex.specs.Base.{if_then_else_}
-use Rattle.sifc_lex.specs.Kind.{Eof, LexPanic}
+use Rattle.sifc_word.specs.Base.{if_then_else_}
+use Rattle.sifc_word.specs.Kind.{Eof, LexPanic}
 use Rattle.sifc_lex.specs.Lex.{lex}
 use Rattle.sifc_def.specs.declared.Err.{Err}
 use Rattle.sifc_def.specs.declared.Why.{Why}

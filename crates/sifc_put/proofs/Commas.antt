@@ -4,7 +4,7 @@ use mathlib.Core.Path.{_≡_, refl, sym, ap, ap₂, _∙_, subst}
 use mathlib.Core.List.{List, [], _∷_, _++_}
 use lib.ListN.{length, getD}
 use lib.Seq.{take-length}
-use Rattle.sifc_lex.specs.Base.{part}
+use Rattle.sifc_word.specs.Base.{part}
 use Rattle.sifc_def.specs.State.{W}
 use Rattle.sifc_put.specs.declared.write.Put.{Put}
 use Rattle.sifc_put.specs.Place.{Carries, tokenOf}

@@ -4,7 +4,7 @@ use Prim.Native.Nat.{ℕ, suc, _+_, _-_, _/_, _%_, _≤_, _<_}
 use mathlib.Core.Path.{_≡_}
 use mathlib.Core.List.{List, [], _∷_}
 use lib.ListN.{length, getD}
-use Rattle.sifc_lex.specs.Base.{part}
+use Rattle.sifc_word.specs.Base.{part}
 use Rattle.sifc_def.specs.State.{W}
 
 -- what is read and never written: the script, the two token arrays, the two tree arrays

@@ -6,7 +6,7 @@ use mathlib.Core.List.{List, [], _∷_, _++_}
 use mathlib.Core.Bool.{Bool}
 use lib.Dec.{eqb}
 use lib.ListN.{length, getD, take, drop}
-use Rattle.sifc_lex.specs.Base.{if_then_else_, member}
+use Rattle.sifc_word.specs.Base.{if_then_else_, member}
 use Rattle.sifc_def.specs.Ast.{TableAccess, ArrayMutExpr, VarAssignExpr, BinaryExpr}
 use Rattle.sifc_def.specs.Expr.{looseness}
 use Rattle.sifc_def.specs.State.{W}

@@ -4,7 +4,7 @@ ghost use mathlib.Core.Path.{_≡_};
 ghost use mathlib.Core.List.{[], _∷_, _++_};
 ghost use Prim.Native.Nat.{_+_, _≤_};
 ghost use lib.ListN.{length};
-ghost use Rattle.sifc_lex.specs.Base.{part};
+ghost use Rattle.sifc_word.specs.Base.{part};
 ghost use Rattle.sifc_put.specs.Post.{Wrote, SpotOf, WritesOf, fixed, tokenL, leafL, comma, heightAt, Readable};
 
 const SPACE: u8 = 32;

@@ -10,25 +10,25 @@ use lib.ListN.{length, take, length-replicate}
 use Rattle.sifc_err.specs.declared.Ending.{Ending}
 use Rattle.sifc_err.specs.declared.Refusal.{Refusal}
 use Rattle.sifc_err.specs.declared.Refusal.the-variants.{TokensFull}
-use Rattle.sifc_lex.specs.declared.call.Checked.{Checked}
-use Rattle.sifc_lex.specs.declared.call.Checked.the-variants.{Fine}
-use Rattle.sifc_lex.specs.declared.call.Checked.the-variants as check
+use Rattle.sifc_tokens.specs.declared.call.Checked.{Checked}
+use Rattle.sifc_tokens.specs.declared.call.Checked.the-variants.{Fine}
+use Rattle.sifc_tokens.specs.declared.call.Checked.the-variants as check
 use Rattle.sifc_lex.specs.declared.lex.LexAnswer.{LexAnswer}
 use Rattle.sifc_lex.specs.declared.lex.LexAnswer.the-variants.{Ended, Full}
-use Rattle.sifc_lex.specs.Base.{if_then_else_}
+use Rattle.sifc_word.specs.Base.{if_then_else_}
 use Rattle.sifc_lex.specs.Lex.{lex, ending, endAt}
-use Rattle.sifc_lex.specs.Tokens.{offsOf, wordsOf, padded, zeroed, LexCall, lexCalled, lexCall}
+use Rattle.sifc_tokens.specs.Tokens.{offsOf, wordsOf, padded, zeroed, LexCall, lexCalled, lexCall}
 use Rattle.sifc_def.specs.declared.Reading.{Reading}
 use Rattle.sifc_def.specs.declared.Reading.the-variants as reading
 use Rattle.sifc_def.specs.Read.{Arrays, roomsOf, clearedArrays, even, entry, refused, faultOf, read, Called, called, answered, reading as readingOf}
 use Rattle.sifc_step.specs.declared.walk.Walked.{Walked}
 use Rattle.sifc_step.specs.Abs.{Tokens, inp, mem}
 use Rattle.sifc_step.specs.Book.{Walks}
-use Rattle.sifc_read.specs.Parts.{arrays, Entered, Fits, finishOf}
+use Rattle.sifc_lent.specs.Parts.{arrays, Entered, Fits, finishOf}
 use Rattle.sifc_program.specs.Program.{Starts}
-use Rattle.sifc_read.specs.EntryLaws.{entry-same}
-use Rattle.sifc_read.specs.LexedLaws.{lexed-tokens}
-use Rattle.sifc_read.specs.PartLaws.{Held, used-offs, used-words, used-toks, same-arrays, fits-is, finish-is}
+use Rattle.sifc_lent.specs.EntryLaws.{entry-same}
+use Rattle.sifc_lent.specs.LexedLaws.{lexed-tokens}
+use Rattle.sifc_lent.specs.PartLaws.{Held, used-offs, used-words, used-toks, same-arrays, fits-is, finish-is}
 
 -- ── lexing ──
 

@@ -13,7 +13,7 @@ use Rattle.sifc_step.specs.declared.walk.Walk.{Walk}
 use Rattle.sifc_step.specs.declared.walk.Last.{Last}
 use Rattle.sifc_step.specs.declared.walk.Walked.{Walked}
 use Rattle.sifc_step.specs.declared.walk.Walked.the-variants.{Finished, Refused}
-use Rattle.sifc_read.specs.Parts.{arrays, Within, WithinOf, summaryOf, settledOf, finishOf}
+use Rattle.sifc_lent.specs.Parts.{arrays, Within, WithinOf, summaryOf, settledOf, finishOf}
 
 pub told : {n k m : ℕ} {flag : Bool} {e e′ : Early} → e ≡ e′ → _≡_ {A = Summary} (record { tokens = n; nodes = k; errors = m; flag = flag; early = e }) (record { tokens = n; nodes = k; errors = m; flag = flag; early = e′ })
 told {n} {k} {m} {flag} e = ap (λ (z : Early). record { tokens = n; nodes = k; errors = m; flag = flag; early = z }) e

@@ -1,4 +1,2 @@
-pub mod Fronts
-pub mod Spots
 pub mod Ends
 pub mod Calls

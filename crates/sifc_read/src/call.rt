@@ -1,18 +1,18 @@
 // The reading call.
-use crate::clear::clear_all;
-use crate::entry::entry;
 use crate::finish::finish;
 use sifc_def::Reading;
 use sifc_err::Ending;
 use sifc_err::Refusal;
-use sifc_lex::Checked;
+use sifc_lent::clear_all;
+use sifc_lent::entry_tests;
 use sifc_lex::LexAnswer;
-use sifc_lex::lex_tokens;
 use sifc_program::parse;
 use sifc_step::Limits;
+use sifc_tokens::Checked;
+use sifc_tokens::lex_tokens;
 ghost use mathlib.Core.Path.{_≡_};
 ghost use Rattle.sifc_def.specs.Read.{faultOf, roomsOf, read, called, answered, reading as readingOf};
-ghost use Rattle.sifc_read.specs.Parts.{arrays, Entered};
+ghost use Rattle.sifc_lent.specs.Parts.{arrays, Entered};
 
 // The kind of the lexing panic that ends the tokens, if one does.
 fn fault_of(ending: Ending) -> u32
@@ -84,7 +84,7 @@ pub fn reading(
 ) -> Reading
     ensures { λ r. ⌜ called r (arrays (now (offs .exit)) (now (words .exit)) (now (heads .exit)) (now (loads .exit)) (now (symbols .exit)) (now (places .exit)) (now (reasons .exit))) ≡ readingOf (now (script .entry)) (arrays (now (offs .entry)) (now (words .entry)) (now (heads .entry)) (now (loads .entry)) (now (symbols .entry)) (now (places .entry)) (now (reasons .entry))) ⌝ }
 {
-    let checked = entry(script, offs, words, heads, loads, places, reasons);
+    let checked = entry_tests(script, offs, words, heads, loads, places, reasons);
     match checked {
         Checked::Fine => after_entry(script, offs, words, heads, loads, symbols, places, reasons),
         Checked::Refused(refusal) => Reading::Refused(refusal),

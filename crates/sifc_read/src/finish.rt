@@ -1,11 +1,11 @@
 // What a walk over all declarations came to, made into the answer and the arrays that the call leaves.
-use crate::clear::clear;
-use crate::clear::clear_all;
-use crate::clear::keep;
-use crate::error::early_of;
-use crate::place::set_places;
 use sifc_def::Reading;
 use sifc_def::Summary;
+use sifc_lent::clear_all;
+use sifc_lent::clear_array;
+use sifc_lent::early_of;
+use sifc_lent::keep;
+use sifc_lent::set_places;
 use sifc_step::Last;
 use sifc_step::Walk;
 use sifc_step::Walked;
@@ -14,7 +14,7 @@ ghost use mathlib.Core.List.{[]};
 ghost use Prim.Native.Nat.{_<_};
 ghost use lib.ListN.{length};
 ghost use Rattle.sifc_def.specs.Read.{called};
-ghost use Rattle.sifc_read.specs.Parts.{arrays, Within, Fits, summaryOf, settledOf, finishOf};
+ghost use Rattle.sifc_lent.specs.Parts.{arrays, Within, Fits, summaryOf, settledOf, finishOf};
 
 // The answer: how many tokens, nodes and errors, has_err, and the error that ended the reading.
 fn summary_of(
@@ -55,7 +55,7 @@ fn settle(
     set_places(script, offs, places, w.errors);
     keep(heads, w.nodes);
     keep(loads, w.nodes);
-    clear(symbols);
+    clear_array(symbols);
     keep(places, w.errors);
     keep(reasons, w.errors);
 }

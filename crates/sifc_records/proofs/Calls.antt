@@ -1,37 +1,25 @@
--- The covered functions meet their definitions: the record of an error's words, and the call on words with the tests of entry.
-use Prim.Native.Nat.{ℕ, _+_, _/_, _%_}
+-- What the proofs of the call on words and of the tests of entry cite.
+use Prim.Native.Nat.{ℕ}
 use mathlib.Core.Path.{_≡_, refl, sym, ap, ap₂, _∙_}
 use mathlib.Core.List.{List, []}
 use borrow.Author.Tests.{eq-eqb, ne-eqb}
 use lib.Dec.{eqb}
 use lib.ListN.{length}
-use Rattle.sifc_err.specs.declared.Token.{Token}
-use Rattle.sifc_err.specs.declared.parse_err.ParseErrTy.{ParseErrTy}
 use Rattle.sifc_err.specs.declared.Refusal.{Refusal}
 use Rattle.sifc_err.specs.declared.Refusal.the-variants.{Uneven}
-use Rattle.sifc_lex.specs.declared.call.Checked.{Checked}
-use Rattle.sifc_lex.specs.declared.call.Checked.the-variants.{Fine}
-use Rattle.sifc_lex.specs.declared.call.Checked.the-variants as check
-use Rattle.sifc_lex.specs.Base.{if_then_else_}
-use Rattle.sifc_def.specs.declared.Why.{Why}
+use Rattle.sifc_tokens.specs.declared.call.Checked.{Checked}
+use Rattle.sifc_tokens.specs.declared.call.Checked.the-variants.{Fine}
+use Rattle.sifc_tokens.specs.declared.call.Checked.the-variants as check
+use Rattle.sifc_word.specs.Base.{if_then_else_}
 use Rattle.sifc_def.specs.declared.Reading.{Reading}
 use Rattle.sifc_def.specs.declared.Reading.the-variants.{Refused}
-use Rattle.sifc_def.specs.Error.{tyOf}
 use Rattle.sifc_def.specs.Read.{Arrays, called, roomsOf, entry, even, read, answered}
-use Rattle.sifc_read.specs.Parts.{arrays, bare, Entered}
-use Rattle.sifc_read.specs.EntryLaws as words
+use Rattle.sifc_lent.specs.Parts.{arrays, Entered}
+use Rattle.sifc_lent.specs.EntryLaws as words
 use Rattle.sifc_records.specs.declared.call.Told.{Told}
-use Rattle.sifc_records.specs.Records.{whyBy, whyOf, recordOf, entryRecords}
+use Rattle.sifc_records.specs.Records.{entryRecords}
 use Rattle.sifc_records.specs.RecordLaws.{entryBy, entry-by, entry-of}
 use Rattle.sifc_records.specs.Words.{told, toldOf, Kept, kept, keptOf, readWords}
-
--- the reason of a word whose number is known
-pub why-at : (w n a b : ℕ) → w % 16 ≡ n → a ≡ w / 16 % 65536 → b ≡ w / 1048576 → whyBy n a b ≡ whyOf w
-why-at w n a b e f g = cc
-
--- a record out of its parts
-pub recorded-at : (ts : List Token) (p w a b : ℕ) (t : ParseErrTy) (y : Why) → a ≡ p / 65536 → b ≡ p % 65536 → t ≡ tyOf (bare [] ts) y → y ≡ whyOf w → record { line = a + 1; pos = b; ty = t } ≡ recordOf ts p w
-recorded-at ts p w a b t y e f g h = let k : t ≡ tyOf (bare [] ts) (whyOf w) = g ∙ ap (tyOf (bare [] ts)) h in cc
 
 -- ── the tests of entry ──
 

@@ -8,19 +8,20 @@ use lib.ListN.{length, take, drop, replicate, length-append, length-map}
 use lib.Seq.{take-length, take-append-seam, length-take-le, length-front}
 use Rattle.sifc_err.specs.declared.Token.{Token}
 use Rattle.sifc_err.specs.declared.parse_err.ParseErr.{ParseErr}
-use Rattle.sifc_lex.specs.declared.call.Checked.{Checked}
-use Rattle.sifc_lex.specs.declared.call.Checked.the-variants.{Fine}
-use Rattle.sifc_lex.specs.declared.call.Checked.the-variants as check
+use Rattle.sifc_tokens.specs.declared.call.Checked.{Checked}
+use Rattle.sifc_tokens.specs.declared.call.Checked.the-variants.{Fine}
+use Rattle.sifc_tokens.specs.declared.call.Checked.the-variants as check
 use Rattle.sifc_lex.specs.Lex.{lex}
-use Rattle.sifc_lex.specs.Tokens.{offsOf, wordsOf, padded}
+use Rattle.sifc_tokens.specs.Tokens.{offsOf, wordsOf, padded}
 use Rattle.sifc_def.specs.State.{Ctx}
 use Rattle.sifc_def.specs.Error.{parseErr, errPlace, errReason}
 use Rattle.sifc_def.specs.Read.{Arrays, roomsOf, Found, Outcome, found, refused, ctxOf, filled, read, answered}
-use Rattle.sifc_read.specs.Parts.{arrays}
-use Rattle.sifc_read.specs.LexedLaws.{lexed-back, length-offs, length-words, used-part}
+use Rattle.sifc_lent.specs.Parts.{arrays}
+use Rattle.sifc_lent.specs.LexedLaws.{lexed-back, length-offs, length-words, used-part}
 use Rattle.sifc_symtab.specs.Toks.{toksOf}
 use Rattle.sifc_records.specs.declared.call.Told.{Told}
-use Rattle.sifc_records.specs.Records.{blankErr, paddedErrs, entryRecords, recordsIn, Recorded, recorded, recordsOf, readingRecords, blankFrom, filledOf, Fillable}
+use Rattle.sifc_record.specs.Record.{blankErr, recordsIn, blankFrom, filledOf, Fillable}
+use Rattle.sifc_records.specs.Records.{paddedErrs, entryRecords, Recorded, recorded, recordsOf, readingRecords}
 use Rattle.sifc_records.specs.RecordLaws.{entry-of, records-back, Sounds, SoundsOf, read-sound, recordsBy, records-by}
 use Rattle.sifc_records.specs.Words.{Kept, kept, keptOf, readWords}
 use Rattle.sifc_records.proofs.Calls.{entry-same, readBy, read-by, entered}

@@ -12,14 +12,14 @@ use Rattle.sifc_err.specs.declared.Refusal.{Refusal}
 use Rattle.sifc_err.specs.declared.Refusal.the-variants.{Uneven, TokensFull}
 use Rattle.sifc_err.specs.declared.parse_err.ParseErr.{ParseErr}
 use Rattle.sifc_err.specs.ParseErr.{valuesOf}
-use Rattle.sifc_lex.specs.declared.place.Place.{Place}
-use Rattle.sifc_lex.specs.declared.call.Checked.{Checked}
-use Rattle.sifc_lex.specs.declared.call.Checked.the-variants.{Fine}
-use Rattle.sifc_lex.specs.declared.call.Checked.the-variants as check
-use Rattle.sifc_lex.specs.Base.{if_then_else_}
+use Rattle.sifc_tokens.specs.declared.place.Place.{Place}
+use Rattle.sifc_tokens.specs.declared.call.Checked.{Checked}
+use Rattle.sifc_tokens.specs.declared.call.Checked.the-variants.{Fine}
+use Rattle.sifc_tokens.specs.declared.call.Checked.the-variants as check
+use Rattle.sifc_word.specs.Base.{if_then_else_}
 use Rattle.sifc_lex.specs.Lex.{lex}
 use Rattle.sifc_lex.specs.LexLaws.{lex-count}
-use Rattle.sifc_lex.specs.Place.{placeOf}
+use Rattle.sifc_tokens.specs.Place.{placeOf}
 use Rattle.sifc_def.specs.declared.Err.{Err}
 use Rattle.sifc_def.specs.declared.Why.{Why}
 use Rattle.sifc_def.specs.declared.Why.the-variants.{InvalidIdent, InvalidTkn, InvalidTknMsg, InvalidAssign, InvalidForStmt, InvalidIfStmt, TknMismatch, FnParmCntExceeded, WrongFnParmCnt, UndeclSym, UnassignedVar, ExpectedIdent}
@@ -34,8 +34,9 @@ use Rattle.sifc_def.specs.StepLaws.{Each, FairErr}
 use Rattle.sifc_def.specs.TokLaws.{worth, lexed-toks}
 use Rattle.sifc_def.specs.WalkLaws.{Ended, walk-ends}
 use Rattle.sifc_def.specs.ReadLaws.{PlaceFits, place-fits}
-use Rattle.sifc_read.specs.Parts.{bare}
-use Rattle.sifc_records.specs.Records.{invalidTkn, whyBy, whyOf, recordOf, recordsIn, entryRecords, Recorded, recorded, recordsOf, readingRecords}
+use Rattle.sifc_lent.specs.Parts.{bare}
+use Rattle.sifc_record.specs.Record.{invalidTkn, whyBy, whyOf, recordOf, recordsIn}
+use Rattle.sifc_records.specs.Records.{entryRecords, Recorded, recorded, recordsOf, readingRecords}
 use Rattle.sifc_records.specs.Listed.{Spoken, Listed, walk-lists}
 
 -- ── one error ──

@@ -1,14 +1,14 @@
 // The reading call on records: the covered part over words, and the call that a host uses.
-use crate::slice::fill;
 use sifc_def::Reading;
 use sifc_err::ParseErr;
 use sifc_err::Refusal;
-use sifc_lex::Checked;
+use sifc_lent::entry_tests;
 use sifc_read::after_entry;
-use sifc_read::entry_tests;
+use sifc_record::fill;
+use sifc_tokens::Checked;
 ghost use mathlib.Core.Path.{_≡_};
 ghost use mathlib.Core.List.{[]};
-ghost use Rattle.sifc_read.specs.Parts.{arrays};
+ghost use Rattle.sifc_lent.specs.Parts.{arrays};
 ghost use Rattle.sifc_records.specs.Records.{entryRecords, recorded, readingRecords};
 ghost use Rattle.sifc_records.specs.Words.{toldOf, kept, readWords};
 

@@ -7,7 +7,7 @@ use mathlib.Core.Bool.{Bool, true, false, _||_}
 use lib.ListN.{length, getD}
 use lib.Dec.{T, eqb}
 use Rattle.sifc_err.specs.declared.Refusal.{Refusal}
-use Rattle.sifc_lex.specs.Kind.{Eof, LexPanic}
+use Rattle.sifc_word.specs.Kind.{Eof, LexPanic}
 use Rattle.sifc_def.specs.declared.Err.{Err}
 use Rattle.sifc_def.specs.declared.Why.{Why}
 use Rattle.sifc_def.specs.declared.Why.the-variants.{InvalidIdent, InvalidTkn, InvalidTknMsg, InvalidAssign, InvalidForStmt, InvalidIfStmt, TknMismatch, FnParmCntExceeded, WrongFnParmCnt, UndeclSym, UnassignedVar, ExpectedIdent}

@@ -1,6 +1,5 @@
 pub mod Abs
 pub mod Small
-pub mod Name
 pub mod Steps
 pub mod SmallLaws
 pub mod Loops

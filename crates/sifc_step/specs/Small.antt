@@ -5,7 +5,7 @@ use mathlib.Core.List.{List, [], _∷_}
 use mathlib.Core.Bool.{Bool, true, false}
 use lib.Dec.{eqb}
 use lib.ListN.{length, getD}
-use Rattle.sifc_lex.specs.Kind.{Eof, Ident}
+use Rattle.sifc_word.specs.Kind.{Eof, Ident}
 use Rattle.sifc_def.specs.declared.Err.{Err}
 use Rattle.sifc_def.specs.declared.Why.{Why}
 use Rattle.sifc_def.specs.declared.What.{What}

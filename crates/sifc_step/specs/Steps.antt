@@ -13,7 +13,7 @@ use lib.Dec.{T, ltb, eqb, eqb→eq}
 use borrow.Author.Tests.{eq-eqb, ne-eqb, ltb-true, ltb-false}
 use Rattle.sifc_err.specs.declared.Refusal.{Refusal}
 use Rattle.sifc_err.specs.declared.Token.{Token}
-use Rattle.sifc_lex.specs.Base.{if_then_else_}
+use Rattle.sifc_word.specs.Base.{if_then_else_}
 use Rattle.sifc_def.specs.declared.Err.{Err}
 use Rattle.sifc_def.specs.declared.Why.the-variants.{InvalidIfStmt}
 use Rattle.sifc_def.specs.State.{Node, node, Ctx, St, Out, done, fail, refuse, M, Void, go-on, tokAt}

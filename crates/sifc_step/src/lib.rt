@@ -1,11 +1,7 @@
-// The small steps of a reading, and what an expression asks the symbol table.
-mod name;
+// The small steps of a reading.
 mod step;
 mod walk;
 
-pub use name::assign_to;
-pub use name::call_named;
-pub use name::ident_expr;
 pub use step::add_error;
 pub use step::add_error_w_pos;
 pub use step::close_scope;
@@ -22,6 +18,7 @@ pub use step::listed;
 pub use step::literal;
 pub use step::looseness;
 pub use step::match_ident;
+pub use step::one_less;
 pub use step::push_node;
 pub use step::separator;
 pub use step::set_check;

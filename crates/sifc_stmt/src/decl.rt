@@ -1,5 +1,7 @@
 // Variables, arrays and tables: var_decl, array_decl, table_decl and item_list of parser.rs.
-use sifc_def::What;
+use sifc_declare::declare_array;
+use sifc_declare::declare_other;
+use sifc_declare::declare_var;
 use sifc_def::Why;
 use sifc_expr::expr;
 use sifc_step::Limits;
@@ -12,15 +14,14 @@ use sifc_step::head_word;
 use sifc_step::kind_at;
 use sifc_step::match_ident;
 use sifc_step::push_node;
-use sifc_step::store_name;
 use sifc_step::with_count;
 ghost use mathlib.Core.Path.{_≡_};
 ghost use Prim.Native.Nat.{_≤_, _<_};
 ghost use Rattle.sifc_def.specs.Expr.{fuel};
-ghost use Rattle.sifc_def.specs.Stmt.{declareVar, commaList, arrayDecl, tableItem, itemList, tableDecl, initial as initialOf, varDecl};
+ghost use Rattle.sifc_def.specs.Stmt.{commaList, arrayDecl, tableItem, itemList, tableDecl, initial as initialOf, varDecl};
 ghost use Rattle.sifc_def.specs.Walk.{walkers};
 ghost use Rattle.sifc_step.specs.Abs.{inp, mem, kindAt, Ready, Does, Counts, countOf};
-ghost use Rattle.sifc_stmt.specs.Promise.{AheadOf, freely, Declares, varValue, nodeAndName, arrayAndName};
+ghost use Rattle.sifc_declare.specs.Promise.{AheadOf, varValue};
 
 const LEFT_BRACKET: u32 = 5;
 
@@ -42,21 +43,12 @@ const VAR: u32 = 34;
 
 const EOF: u32 = 47;
 
-// Kinds of nodes.
-const VAR_DECL: u32 = 8;
-
 const ITEM_LIST: u32 = 12;
-
-const ARRAY_ITEMS: u32 = 17;
 
 // Head words: kind + 64 × children.
 const TABLE_ITEM: u32 = 77;
 
 const TABLE: u32 = 78;
-
-const EMPTY_ARRAY: u32 = 16;
-
-const ARRAY: u32 = 80;
 
 // Messages of InvalidTkn: no '=' or ';', an unexpected end of file, no identifier.
 const EQ_OR_SEMICOLON: u32 = 1;
@@ -130,60 +122,6 @@ fn var_value(
     declare_var(script, offs, words, symbols, head, load, y, i, 1)
 }
 
-// The end of var_decl: token i is declared, with n initial values.
-fn declare_var(
-    script: &[u8],
-    offs: &[u32],
-    words: &[u32],
-    symbols: &mut [u32],
-    head: &mut [u32],
-    load: &mut [u32],
-    w: Walk,
-    i: usize,
-    n: usize,
-) -> Parsed
-    requires { ⌜ Ready (inp (now script) (now offs) (now words) (freely w)) (mem (now symbols) (now head) (now load)) w × (i < 65536) × (n ≤ 1) ⌝ }
-    ensures { λ r. ⌜ Declares (λ c. declareVar c i n) (now (script .entry)) (now (offs .entry)) (now (words .entry)) (mem (now (symbols .entry)) (now (head .entry)) (now (load .entry))) w r (mem (now (symbols .exit)) (now (head .exit)) (now (load .exit))) ⌝ }
-{
-    let global = w.level == 0;
-    let word = head_word(VAR_DECL, global, n);
-    let made = push_node(head, load, w, word, i as u32);
-    let Parsed::Done(x) = made else {
-        return made;
-    };
-    store_name(
-        script,
-        offs,
-        words,
-        symbols,
-        x,
-        i,
-        What::Variable(i, global),
-    )
-}
-
-// The node of a table or an array, and the name at token i.
-fn declare_other(
-    script: &[u8],
-    offs: &[u32],
-    words: &[u32],
-    symbols: &mut [u32],
-    head: &mut [u32],
-    load: &mut [u32],
-    w: Walk,
-    i: usize,
-    word: u32,
-) -> Parsed
-    requires { ⌜ Ready (inp (now script) (now offs) (now words) (freely w)) (mem (now symbols) (now head) (now load)) w × (i < 65536) ⌝ }
-    ensures { λ r. ⌜ Declares (λ c. nodeAndName c word i) (now (script .entry)) (now (offs .entry)) (now (words .entry)) (mem (now (symbols .entry)) (now (head .entry)) (now (load .entry))) w r (mem (now (symbols .exit)) (now (head .exit)) (now (load .exit))) ⌝ }
-{
-    let made = push_node(head, load, w, word, i as u32);
-    let Parsed::Done(x) = made else {
-        return made;
-    };
-    store_name(script, offs, words, symbols, x, i, What::Other)
-}
-
 // The value of the variable at token i, with the `;`.
 fn initial(
     script: &[u8],
@@ -247,32 +185,6 @@ fn array_decl(
         return ended;
     };
     declare_array(script, offs, words, symbols, head, load, v, i, y.count)
-}
-
-// The end of array_decl: token i is declared, with n items.
-fn declare_array(
-    script: &[u8],
-    offs: &[u32],
-    words: &[u32],
-    symbols: &mut [u32],
-    head: &mut [u32],
-    load: &mut [u32],
-    w: Walk,
-    i: usize,
-    n: usize,
-) -> Parsed
-    requires { ⌜ Ready (inp (now script) (now offs) (now words) (freely w)) (mem (now symbols) (now head) (now load)) w × (i < 65536) × (n ≤ 65536) ⌝ }
-    ensures { λ r. ⌜ Declares (λ c. arrayAndName c i n) (now (script .entry)) (now (offs .entry)) (now (words .entry)) (mem (now (symbols .entry)) (now (head .entry)) (now (load .entry))) w r (mem (now (symbols .exit)) (now (head .exit)) (now (load .exit))) ⌝ }
-{
-    if n == 0 {
-        return declare_other(script, offs, words, symbols, head, load, w, i, EMPTY_ARRAY);
-    }
-    let word = head_word(ARRAY_ITEMS, false, n);
-    let items = push_node(head, load, w, word, 0);
-    let Parsed::Done(x) = items else {
-        return items;
-    };
-    declare_other(script, offs, words, symbols, head, load, x, i, ARRAY)
 }
 
 // The items of an array: Done's count is how many there are.

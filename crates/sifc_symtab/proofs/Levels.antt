@@ -7,7 +7,7 @@ use mathlib.Core.Bool.{Bool, true, false}
 use native.Mathlib.Omega.{arith}
 use borrow.Author.Tests.{eqb-true, eqb-false, eq-eqb, ne-eqb}
 use lib.Dec.{eqb}
-use Rattle.sifc_lex.specs.Base.{same}
+use Rattle.sifc_word.specs.Base.{same}
 use Rattle.sifc_def.specs.declared.What.{What}
 use Rattle.sifc_def.specs.State.{Sym}
 use Rattle.sifc_def.specs.Symbols.{isSym, findAt, find, putAt}

@@ -5,8 +5,8 @@ use mathlib.Core.List.{List, []}
 use borrow.Author.Tests.{eq-eqb, ne-eqb}
 use lib.ListN.{length, take, drop, getD}
 use Rattle.sifc_err.specs.declared.Token.{Token}
-use Rattle.sifc_lex.specs.Base.{if_then_else_, part}
-use Rattle.sifc_lex.specs.Kind.{Eof}
+use Rattle.sifc_word.specs.Base.{if_then_else_, part}
+use Rattle.sifc_word.specs.Kind.{Eof}
 use Rattle.sifc_lex.specs.Lex.{token}
 use Rattle.sifc_def.specs.State.{nameOf, wordIn, tokenAt}
 use Rattle.sifc_symtab.specs.Toks.{toksOf, toks-at}

@@ -6,7 +6,7 @@ use mathlib.Core.Bool.{Bool, true, false, _&&_}
 use native.Mathlib.Omega.{arith}
 use borrow.Author.Tests.{eqb-true}
 use lib.Dec.{eqb}
-use Rattle.sifc_lex.specs.Base.{same}
+use Rattle.sifc_word.specs.Base.{same}
 use Rattle.sifc_def.specs.State.{Sym}
 use Rattle.sifc_symtab.specs.Chains.{Before, First, In, Behind, Chains}
 use Rattle.sifc_symtab.specs.Table.{levelAt, hashAt, hashOf, nameIn, tokenIn, symAt, bucketsOf, bucketAt, linked, Holds}

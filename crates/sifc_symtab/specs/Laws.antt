@@ -10,7 +10,7 @@ use lib.Dec.{leb}
 use lib.ListN.{length}
 use Rattle.sifc_err.specs.declared.Token.{Token}
 use Rattle.sifc_err.specs.declared.Refusal.the-variants.{SymbolsFull}
-use Rattle.sifc_lex.specs.Base.{if_then_else_}
+use Rattle.sifc_word.specs.Base.{if_then_else_}
 use Rattle.sifc_def.specs.declared.What.{What}
 use Rattle.sifc_def.specs.State.{Sym, Ctx, St, done, refuse, nameOf, wordIn, tokenAt, nameAt}
 use Rattle.sifc_def.specs.Symbols.{find, putAt, retrieve, store}

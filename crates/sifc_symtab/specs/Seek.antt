@@ -4,7 +4,7 @@ use mathlib.Core.Path.{_≡_}
 use mathlib.Core.List.{List}
 use mathlib.Core.Bool.{Bool, true, false}
 use lib.ListN.{length}
-use Rattle.sifc_lex.specs.Base.{same}
+use Rattle.sifc_word.specs.Base.{same}
 use Rattle.sifc_def.specs.State.{Sym}
 use Rattle.sifc_symtab.specs.declared.symtab.Spot.{Spot}
 use Rattle.sifc_symtab.specs.Chains.{In, Behind}

@@ -7,7 +7,7 @@ use mathlib.Core.Option.{Option, none, some}
 use mathlib.Core.Bool.{Bool, true, false}
 use lib.Dec.{eqb, leb}
 use lib.ListN.{length, getD, set}
-use Rattle.sifc_lex.specs.Base.{if_then_else_}
+use Rattle.sifc_word.specs.Base.{if_then_else_}
 use Rattle.sifc_def.specs.declared.What.{What}
 use Rattle.sifc_def.specs.declared.What.the-variants.{Placeholder, Function, Variable, Other}
 use Rattle.sifc_def.specs.Read.{wordsPerSymbol}

@@ -7,9 +7,9 @@ use native.Mathlib.Nat.{le-of-suc-le-suc, not-suc-le-zero}
 use lib.ListN.{length, take, getD, List·getD-eq-default}
 use lib.Seq.{getD-take}
 use Rattle.sifc_err.specs.declared.Token.{Token}
-use Rattle.sifc_lex.specs.Kind.{Eof}
+use Rattle.sifc_word.specs.Kind.{Eof}
 use Rattle.sifc_lex.specs.Lex.{token}
-use Rattle.sifc_lex.specs.Tokens.{offsOf, wordsOf}
+use Rattle.sifc_tokens.specs.Tokens.{offsOf, wordsOf}
 use Rattle.sifc_def.specs.State.{tokenAt}
 
 -- the token of an offset and a token word

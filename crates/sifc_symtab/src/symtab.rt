@@ -14,7 +14,7 @@ use crate::entry::what_at;
 use crate::token::hash_of;
 use crate::token::name;
 use sifc_def::What;
-use sifc_lex::same;
+use sifc_word::same;
 ghost use mathlib.Core.Path.{_≡_};
 ghost use Prim.Native.Nat.{_+_, _*_, _≤_, _<_};
 ghost use lib.ListN.{length};

@@ -1,5 +1,5 @@
 // The name of a token: get_name of token.rs.
-use sifc_lex::part;
+use sifc_word::part;
 ghost use mathlib.Core.Path.{_≡_};
 ghost use Prim.Native.Nat.{_-_};
 ghost use lib.ListN.{length, take, drop};

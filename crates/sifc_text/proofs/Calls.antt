@@ -9,12 +9,12 @@ use lib.ListN.{length, take, replicate, length-append, length-map}
 use lib.Seq.{length-take-le}
 use Rattle.sifc_err.specs.declared.Refusal.{Refusal}
 use Rattle.sifc_err.specs.declared.Refusal.the-variants.{Flagged, TextFull}
-use Rattle.sifc_lex.specs.declared.call.Checked.{Checked}
-use Rattle.sifc_lex.specs.declared.call.Checked.the-variants.{Fine}
-use Rattle.sifc_lex.specs.declared.call.Checked.the-variants as check
-use Rattle.sifc_lex.specs.Base.{if_then_else_}
+use Rattle.sifc_tokens.specs.declared.call.Checked.{Checked}
+use Rattle.sifc_tokens.specs.declared.call.Checked.the-variants.{Fine}
+use Rattle.sifc_tokens.specs.declared.call.Checked.the-variants as check
+use Rattle.sifc_word.specs.Base.{if_then_else_}
 use Rattle.sifc_lex.specs.Lex.{lex}
-use Rattle.sifc_lex.specs.Tokens.{offsOf, wordsOf, padded, zeroed}
+use Rattle.sifc_tokens.specs.Tokens.{offsOf, wordsOf, padded, zeroed}
 use Rattle.sifc_def.specs.declared.Reading.{Reading}
 use Rattle.sifc_def.specs.declared.Reading.the-variants as reading
 use Rattle.sifc_def.specs.declared.Summary.{Summary}
@@ -29,10 +29,10 @@ use Rattle.sifc_def.specs.Canon.Demand3.{Shows, shows-text, found-same, Typed, 
 use Rattle.sifc_put.specs.Place.{Inp, inp}
 use Rattle.sifc_put.specs.Post.{SpotOf}
 use Rattle.sifc_put.specs.Spans.{SpansProgram}
-use Rattle.sifc_read.specs.Parts.{arrays}
-use Rattle.sifc_read.specs.EntryLaws.{entry-same}
-use Rattle.sifc_read.specs.LexedLaws.{length-offs, length-words, used-part}
-use Rattle.sifc_read.specs.PartLaws.{zeroed-long, same-arrays}
+use Rattle.sifc_lent.specs.Parts.{arrays}
+use Rattle.sifc_lent.specs.EntryLaws.{entry-same}
+use Rattle.sifc_lent.specs.LexedLaws.{length-offs, length-words, used-part}
+use Rattle.sifc_lent.specs.PartLaws.{zeroed-long, same-arrays}
 use Rattle.sifc_text.specs.Stands.{left}
 use Rattle.sifc_text.specs.Bridge.{bridge}
 use Rattle.sifc_text_stmt.specs.Kinds.{programL}

@@ -1,7 +1,7 @@
 -- What is promised of the public calls: that each meets its contract, which stands with its code and has no `requires`; and demand 3 of them. Each is proved
 -- elsewhere, under the name that is cited.
-use Rattle.sifc_lex.proofs.tokens.Statement as tokens-contract
-use Rattle.sifc_lex.proofs.tokens.Met as tokens-proof
+use Rattle.sifc_tokens.proofs.tokens.Statement as tokens-contract
+use Rattle.sifc_tokens.proofs.tokens.Met as tokens-proof
 use Rattle.sifc_read.proofs.reading.Statement as reading-contract
 use Rattle.sifc_read.proofs.reading.Met as reading-proof
 use Rattle.sifc_text.proofs.call.text.Statement as text-contract

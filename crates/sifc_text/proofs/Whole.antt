@@ -7,8 +7,8 @@ use mathlib.Core.List.{List, _++_, append-nil}
 use lib.ListN.{length, take, drop, replicate}
 use lib.Seq.{drop-length, drop-at, length-take-le}
 use Rattle.sifc_err.specs.declared.Refusal.the-variants.{TextFull}
-use Rattle.sifc_lex.specs.Base.{if_then_else_}
-use Rattle.sifc_lex.specs.Tokens.{padded, zeroed}
+use Rattle.sifc_word.specs.Base.{if_then_else_}
+use Rattle.sifc_tokens.specs.Tokens.{padded, zeroed}
 use Rattle.sifc_def.specs.declared.Texting.the-variants.{Wrote, Refused}
 use Rattle.sifc_put.specs.declared.write.Put.{Put}
 use Rattle.sifc_put.specs.declared.write.Put.the-variants.{Done, Full}

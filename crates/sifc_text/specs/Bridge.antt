@@ -5,9 +5,9 @@ use mathlib.Core.List.{List, [], _∷_, _++_, reverse, append-nil}
 use mathlib.Core.Bool.{false}
 use lib.Dec.{T, ltb}
 use lib.ListN.{length, length-map, length-reverse}
-use Rattle.sifc_lex.specs.Base.{member}
+use Rattle.sifc_word.specs.Base.{member}
 use Rattle.sifc_lex.specs.Lex.{lex}
-use Rattle.sifc_lex.specs.Reserved.{isStdLibFn}
+use Rattle.sifc_word.specs.Reserved.{isStdLibFn}
 use Rattle.sifc_def.specs.State.{Node, W, nameOf}
 use Rattle.sifc_def.specs.Ast.{Program, IfStmt, ElifStmt, ForStmt, ReturnStmt, ExprStmt, VarDecl, FnDecl, FnParams, IdentPair, ItemList, TableItem, Table, TableAccess, Array, ArrayItems, ArrayAccess, ArrayMutExpr, FnCallExpr, VarAssignExpr, BinaryExpr, UnaryExpr}
 use Rattle.sifc_def.specs.Label.{Lab, hasToken, label, labels}

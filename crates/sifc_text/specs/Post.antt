@@ -5,8 +5,8 @@ use mathlib.Core.List.{List}
 use lib.Dec.{ltb}
 use lib.ListN.{length}
 use Rattle.sifc_err.specs.declared.Refusal.the-variants.{TextFull}
-use Rattle.sifc_lex.specs.Base.{if_then_else_}
-use Rattle.sifc_lex.specs.Tokens.{padded, zeroed}
+use Rattle.sifc_word.specs.Base.{if_then_else_}
+use Rattle.sifc_tokens.specs.Tokens.{padded, zeroed}
 use Rattle.sifc_def.specs.declared.Summary.{Summary}
 use Rattle.sifc_def.specs.declared.Texting.{Texting}
 use Rattle.sifc_def.specs.declared.Texting.the-variants.{Wrote, Refused}

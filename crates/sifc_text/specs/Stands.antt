@@ -9,11 +9,11 @@ use lib.ListN.{length, getD, take, drop, length-map, length-append, length-rever
 use lib.Seq.{getD-at, append-snoc}
 use Rattle.sifc_err.specs.declared.Token.{Token}
 use Rattle.sifc_lex.specs.declared.lex.Step.the-variants.{Word}
-use Rattle.sifc_lex.specs.Base.{if_then_else_, member, part}
+use Rattle.sifc_word.specs.Base.{if_then_else_, member, part}
 use Rattle.sifc_lex.specs.Lex.{token, lex, step}
 use Rattle.sifc_lex.specs.LexLaws.{Run, last, more, lex-runs}
 use Rattle.sifc_lex.specs.LexTrip.{sep, Good, spell, lex-all-words}
-use Rattle.sifc_lex.specs.Tokens.{tokenWord, offsOf, wordsOf}
+use Rattle.sifc_tokens.specs.Tokens.{tokenWord, offsOf, wordsOf}
 use Rattle.sifc_def.specs.State.{Node, node, W, tokenAt, wordIn}
 use Rattle.sifc_def.specs.Label.{Lab, lab, hasToken, scopeOf, textOf, label, labels}
 use Rattle.sifc_def.specs.Read.{bit, headWord}

@@ -5,14 +5,14 @@ use sifc_def::Reading;
 use sifc_def::Summary;
 use sifc_def::Texting;
 use sifc_err::Refusal;
-use sifc_lex::Checked;
+use sifc_lent::clear_all;
+use sifc_lent::entry_tests;
 use sifc_read::after_entry;
-use sifc_read::clear_all;
-use sifc_read::entry_tests;
+use sifc_tokens::Checked;
 ghost use mathlib.Core.Path.{_≡_};
-ghost use Rattle.sifc_lex.specs.declared.call.Checked.the-variants.{Fine};
+ghost use Rattle.sifc_tokens.specs.declared.call.Checked.the-variants.{Fine};
 ghost use Rattle.sifc_def.specs.Read.{roomsOf, entry as entryOf, read, written, texted, textCall};
-ghost use Rattle.sifc_read.specs.Parts.{arrays};
+ghost use Rattle.sifc_lent.specs.Parts.{arrays};
 ghost use Rattle.sifc_text.specs.Post.{Left, Texts};
 
 // The text of what a reading left, which answered this. A flag that is up is refused, and so is a

@@ -6,7 +6,7 @@ use mathlib.Core.List.{List, [], _∷_, _++_, append-assoc, append-nil}
 use mathlib.Core.Bool.{Bool}
 use lib.Dec.{leb, ltb, leb·suc-suc}
 use lib.ListN.{length, getD}
-use Rattle.sifc_lex.specs.Base.{if_then_else_, member}
+use Rattle.sifc_word.specs.Base.{if_then_else_, member}
 use Rattle.sifc_def.specs.State.{W}
 use Rattle.sifc_def.specs.Expr.{looseness}
 use Rattle.sifc_def.specs.Typed.{Expr, prim, un, bin, call, dot, idx, set, mut, Exprs, nil, more, many, rp, rb, eq, comma, height, wrap, between, pr, prs}

@@ -2,7 +2,7 @@
 use Prim.Native.Nat.{ℕ}
 use mathlib.Core.List.{[], _∷_, _++_}
 use lib.Dec.{eqb, ltb}
-use Rattle.sifc_lex.specs.Base.{if_then_else_}
+use Rattle.sifc_word.specs.Base.{if_then_else_}
 use Rattle.sifc_def.specs.Ast.{TableAccess}
 use Rattle.sifc_def.specs.State.{W}
 use Rattle.sifc_def.specs.Typed.{Expr, height, wrap, pr}

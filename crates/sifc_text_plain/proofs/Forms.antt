@@ -6,7 +6,7 @@ use mathlib.Core.List.{List, [], _∷_, _++_, append-assoc, append-nil}
 use lib.ListN.{length, getD}
 use lib.Dec.{eqb}
 use borrow.Author.Tests.{ne-eqb}
-use Rattle.sifc_lex.specs.Base.{if_then_else_}
+use Rattle.sifc_word.specs.Base.{if_then_else_}
 use Rattle.sifc_def.specs.State.{W}
 use Rattle.sifc_def.specs.Ast.{ReturnStmt, ExprStmt, VarDecl}
 use Rattle.sifc_def.specs.Typed.{Expr, prim, un, bin, call, dot, idx, set, mut, Exprs, nil, more, many, Items, noItem, item, manyItems, lb, rb, eq, semi, arrow, dlb, drb, varWord, returnWord, pr, prs, prItems, prNames, betweenItems, betweenNames, comma}

@@ -6,7 +6,7 @@ use Rattle.sifc_err.specs.declared.Token.{Token}
 use Rattle.sifc_err.specs.declared.parse_err.ParseErr.{ParseErr}
 use Rattle.sifc_err.specs.declared.parse_err.ParseErrTy.{ParseErrTy}
 use Rattle.sifc_err.specs.ParseErr.{Values, valuesOf}
-use Rattle.sifc_lex.specs.Tokens.{Answer}
+use Rattle.sifc_tokens.specs.Tokens.{Answer}
 use Rattle.sifc_def.specs.declared.Early.{Early}
 use Rattle.sifc_def.specs.declared.Early.the-variants.{Never, By}
 use Rattle.sifc_def.specs.declared.Reading.{Reading}

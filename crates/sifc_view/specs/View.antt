@@ -6,8 +6,8 @@ use lib.ListN.{length, drop}
 use Rattle.sifc_err.specs.declared.Token.{Token}
 use Rattle.sifc_lex.specs.declared.lex.Step.{Step}
 use Rattle.sifc_lex.specs.declared.lex.Step.the-variants.{Skip, Word, Stop}
-use Rattle.sifc_lex.specs.Base.{if_then_else_}
-use Rattle.sifc_lex.specs.Kind.{Eof}
+use Rattle.sifc_word.specs.Base.{if_then_else_}
+use Rattle.sifc_word.specs.Kind.{Eof}
 use Rattle.sifc_lex.specs.Lex.{token, step, endKind}
 use denote.Ref.{now}
 use Rattle.sifc_view.specs.declared.next.Lexed.{Lexed}

@@ -15,8 +15,8 @@ use Rattle.sifc_err.specs.declared.Ending.{Ending}
 use Rattle.sifc_err.specs.declared.Ending.the-variants.{TrueEnd, UnknownChar, UnterminatedString, Panic}
 use Rattle.sifc_lex.specs.declared.lex.Step.{Step}
 use Rattle.sifc_lex.specs.declared.lex.Step.the-variants.{Skip, Word, Stop}
-use Rattle.sifc_lex.specs.Base.{if_then_else_}
-use Rattle.sifc_lex.specs.Kind.{Eof}
+use Rattle.sifc_word.specs.Base.{if_then_else_}
+use Rattle.sifc_word.specs.Kind.{Eof}
 use Rattle.sifc_lex.specs.Lex.{token, step, endKind, endLen, ended, onStep, before, lexed as lexedAll, lex}
 use Rattle.sifc_lex.specs.LexLaws.{Fair, fair-step, lexAt, lexAt-turn}
 use Rattle.sifc_view.specs.declared.next.Lexed.{Lexed}

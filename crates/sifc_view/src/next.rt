@@ -1,29 +1,16 @@
 // The next token at an offset of a script, by turns of lexing: `lex` of lex.rs over a plain slice.
-use sifc_err::Ending;
 use sifc_err::Token;
 use sifc_lex::Step;
+use sifc_lex::end_kind;
 use sifc_lex::step_at;
 ghost use mathlib.Core.Path.{_≡_};
 ghost use lib.ListN.{length};
-ghost use Rattle.sifc_lex.specs.Lex.{endKind};
 ghost use Rattle.sifc_view.specs.View.{clipped, nextAt};
 
 // A token, and the offset at which lexing goes on. The last token, of kind 47 or 48, is found again there.
 pub struct Lexed {
     pub token: Token,
     pub next: usize,
-}
-
-// The kind of the token that ends a list.
-fn end_kind(e: Ending) -> u32
-    ensures { λ r. ⌜ r ≡ endKind e ⌝ }
-{
-    match e {
-        Ending::TrueEnd => 47,
-        Ending::UnknownChar => 47,
-        Ending::UnterminatedString => 47,
-        Ending::Panic(_) => 48,
-    }
 }
 
 // An offset past the script's end stands for the end.

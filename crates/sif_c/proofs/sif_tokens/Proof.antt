@@ -3,10 +3,10 @@ use Prim.Native.Nat.{ℕ, _≤_}
 use native.Mathlib.Omega.{arith}
 use mathlib.Core.Path.{_≡_, ap, _∙_, sym, subst}
 use Rattle.sifc_err.specs.declared.Refusal.{Refusal}
-use Rattle.sifc_lex.specs.declared.call.TokensAnswer.{TokensAnswer}
-use Rattle.sifc_lex.specs.declared.call.TokensAnswer.the-variants.{Count, Refused}
-use Rattle.sifc_lex.specs.Tokens.{Answer, answerOf, TokensCall, tokensCalled, tokensCall}
-use Rattle.sifc_lex.specs.TokensLaws.{tokens-small}
+use Rattle.sifc_tokens.specs.declared.call.TokensAnswer.{TokensAnswer}
+use Rattle.sifc_tokens.specs.declared.call.TokensAnswer.the-variants.{Count, Refused}
+use Rattle.sifc_tokens.specs.Tokens.{Answer, answerOf, TokensCall, tokensCalled, tokensCall}
+use Rattle.sifc_tokens.specs.TokensLaws.{tokens-small}
 use Rattle.sif_c.proofs.Said.{said-count, said-refused}
 use Rattle.sif_c.proofs.sif_tokens.Statement.{statement}
 use Rattle.sif_c.proofs.sif_tokens.Tie as tie
@@ -15,7 +15,7 @@ use Rattle.sif_c.proofs.sif_tokens.Lts as lts
 use Rattle.sifc_err.proofs.Refusal.kind.Reads as kind-reads
 use Rattle.sifc_err.proofs.Refusal.number.Reads as number-reads
 use Rattle.sifc_err.proofs.Refusal.offset.Reads as offset-reads
-use Rattle.sifc_lex.proofs.tokens.Reads as tokens-reads
+use Rattle.sifc_tokens.proofs.tokens.Reads as tokens-reads
 
 -- src/lib.rt:20:9
 tokens-requires : tie.Need-tokens-requires

@@ -8,7 +8,7 @@ use Rattle.sif_show.proofs.print_tokens.Reads as reads
 use Rattle.sif_show.proofs.print_tokens.Lts as lts
 use Rattle.sif_show.proofs.print_gap.Reads as print-gap-reads
 use Rattle.sif_show.proofs.print_token.Reads as print-token-reads
-use Rattle.sifc_lex.proofs.spellings.Reads as spellings-reads
+use Rattle.sifc_word.proofs.spellings.Reads as spellings-reads
 
 abbrev Inv-loop : tie.InvT-loop
 Inv-loop script offs words n layout fixed i₀ i = i ≤ n

@@ -10,8 +10,8 @@ use lib.Seq.{drop-append-seam}
 use Rattle.sifc_err.specs.declared.Token.{Token}
 use Rattle.sifc_err.specs.declared.Ending.the-variants.{TrueEnd}
 use Rattle.sifc_lex.specs.declared.lex.Step.the-variants.{Skip}
-use Rattle.sifc_lex.specs.Base.{if_then_else_, span}
-use Rattle.sifc_lex.specs.BaseLaws.{span-yes, true-of}
+use Rattle.sifc_word.specs.Base.{if_then_else_, span}
+use Rattle.sifc_word.specs.BaseLaws.{span-yes, true-of}
 use Rattle.sifc_lex.specs.Lex.{step, onStep, ended, lexed, lex, ending}
 use Rattle.sifc_lex.specs.LexLaws.{lexAt, lexAt-turn}
 use Rattle.sifc_lex.specs.LexTrip.{Spelt, sep, Good, Item, bytes, Goods, spell, spelt, lex-words}

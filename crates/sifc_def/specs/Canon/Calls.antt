@@ -12,7 +12,7 @@ use lib.Seq.{take-append-seam}
 use Rattle.sifc_err.specs.declared.Token.{Token}
 use Rattle.sifc_err.specs.declared.Refusal.{Refusal}
 use Rattle.sifc_err.specs.declared.Refusal.the-variants.{LongScript, NotAscii, Uneven, TokensFull, SourceFault, TooDeep, NodesFull, SymbolsFull, ErrorsFull, Flagged, TextFull}
-use Rattle.sifc_lex.specs.Base.{if_then_else_, member, span}
+use Rattle.sifc_word.specs.Base.{if_then_else_, member, span}
 use Rattle.sifc_lex.specs.Lex.{ascii as isAscii, lex, ending}
 use Rattle.sifc_def.specs.declared.Reading.{Reading}
 use Rattle.sifc_def.specs.declared.Reading.the-variants.{Read, Refused}
@@ -20,10 +20,10 @@ use Rattle.sifc_def.specs.declared.Texting.{Texting}
 use Rattle.sifc_def.specs.declared.Texting.the-variants.{Wrote, Refused as NoText}
 use Rattle.sifc_def.specs.State.{St, Out, done, fail, refuse}
 use Rattle.sifc_def.specs.Walk.{End, walk}
-use Rattle.sifc_lex.specs.declared.call.Checked.{Checked}
-use Rattle.sifc_lex.specs.declared.call.Checked.the-variants.{Fine}
-use Rattle.sifc_lex.specs.declared.call.Checked.the-variants as check
-use Rattle.sifc_lex.specs.Tokens.{padded, zeroed, checkOf}
+use Rattle.sifc_tokens.specs.declared.call.Checked.{Checked}
+use Rattle.sifc_tokens.specs.declared.call.Checked.the-variants.{Fine}
+use Rattle.sifc_tokens.specs.declared.call.Checked.the-variants as check
+use Rattle.sifc_tokens.specs.Tokens.{padded, zeroed, checkOf}
 use Rattle.sifc_def.specs.Read.{depthLimit, Arrays, Rooms, roomsOf, clearedArrays, even, entry, Found, Outcome, found, refused, faultOf, ctxOf, ended, read, Called, called, summary, filled, answered, reading, Written, written, textFound, texted, textCall}
 use Rattle.sifc_def.specs.Canon.Bytes.{Plain}
 use Rattle.sifc_def.specs.Canon.Demand.{sizeOrDepth, Fits, FitsText, FlagDown, Writes, answeredBytes, bytesOf}

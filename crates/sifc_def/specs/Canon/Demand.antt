@@ -13,7 +13,7 @@ use lib.Dec.{T}
 use lib.ListN.{take, length, getD}
 use Rattle.sifc_err.specs.declared.Refusal.{Refusal}
 use Rattle.sifc_err.specs.Refusal.{numberOf}
-use Rattle.sifc_lex.specs.Base.{member, part}
+use Rattle.sifc_word.specs.Base.{member, part}
 use Rattle.sifc_def.specs.declared.Reading.{Reading}
 use Rattle.sifc_def.specs.declared.Reading.the-variants.{Read, Refused}
 use Rattle.sifc_def.specs.declared.Texting.{Texting}

@@ -9,7 +9,7 @@ use native.Mathlib.Omega.{arith}
 use lib.Dec.{T}
 use Rattle.sifc_err.specs.declared.Refusal.{Refusal}
 use Rattle.sifc_err.specs.declared.Refusal.the-variants.{LongScript, NotAscii, Uneven, TokensFull, SourceFault, TooDeep, NodesFull, SymbolsFull, ErrorsFull, Flagged, TextFull}
-use Rattle.sifc_lex.specs.Base.{member}
+use Rattle.sifc_word.specs.Base.{member}
 use Rattle.sifc_lex.specs.Lex.{lex}
 use Rattle.sifc_def.specs.State.{Node, St, Out, done, fail, refuse}
 use Rattle.sifc_def.specs.Label.{Lab, label, labels}

@@ -6,9 +6,9 @@ use mathlib.Core.Option.{Option}
 use mathlib.Core.Bool.{Bool, true, false, _&&_, _||_}
 use native.Mathlib.Omega.{arith}
 use lib.Dec.{T, eqb, leb, eqb→eq, leb→le}
-use Rattle.sifc_lex.specs.Base.{member}
-use Rattle.sifc_lex.specs.BaseLaws.{and-left, and-right, if-either}
-use Rattle.sifc_lex.specs.Kind.{Lt, Gt, Bang, Plus, Minus, Star, Slash, Percent, EqEq, LtEq, GtEq, BangEq, AmpAmp, PipePipe, Ident}
+use Rattle.sifc_word.specs.Base.{member}
+use Rattle.sifc_word.specs.BaseLaws.{and-left, and-right, if-either}
+use Rattle.sifc_word.specs.Kind.{Lt, Gt, Bang, Plus, Minus, Star, Slash, Percent, EqEq, LtEq, GtEq, BangEq, AmpAmp, PipePipe, Ident}
 use Rattle.sifc_def.specs.declared.What.{What}
 use Rattle.sifc_def.specs.State.{W, Sym}
 use Rattle.sifc_def.specs.Expr.{looseness, isUnary, isLiteral}

@@ -7,9 +7,9 @@ use native.Mathlib.Omega.{arith}
 use lib.Dec.{eqb, ltb, ltb→lt, eqb→eq}
 use lib.ListN.{length, getD, List·getD-map}
 use Rattle.sifc_err.specs.declared.Ending.the-variants.{TrueEnd}
-use Rattle.sifc_lex.specs.Base.{span}
+use Rattle.sifc_word.specs.Base.{span}
 use Rattle.sifc_err.specs.declared.Token.{Token}
-use Rattle.sifc_lex.specs.Kind.{LexPanic}
+use Rattle.sifc_word.specs.Kind.{LexPanic}
 use Rattle.sifc_lex.specs.Lex.{token, lex, ending}
 use Rattle.sifc_def.specs.Ast.{Program}
 use Rattle.sifc_def.specs.State.{W, tokenAt, wordIn}

@@ -7,7 +7,7 @@ use native.Mathlib.Omega.{arith}
 use lib.ListN.{take, drop, length, getD, length-drop}
 use lib.Seq.{length-take-le}
 use Rattle.sifc_err.specs.declared.Token.{Token}
-use Rattle.sifc_lex.specs.Base.{part}
+use Rattle.sifc_word.specs.Base.{part}
 use Rattle.sifc_lex.specs.Lex.{token, lex}
 use Rattle.sifc_lex.specs.LexLaws.{Run, last, more, lex-runs}
 use Rattle.sifc_lex.specs.LexTrip.{Good, spell, AllWords, lex-all-words}

@@ -10,10 +10,10 @@ use lib.Seq.{take-append-seam}
 use Rattle.sifc_err.specs.declared.Ending.the-variants.{UnknownChar}
 use Rattle.sifc_lex.specs.declared.lex.Step.{Step}
 use Rattle.sifc_lex.specs.declared.lex.Step.the-variants.{Skip, Word, Stop}
-use Rattle.sifc_lex.specs.Base.{if_then_else_, same, span, member}
-use Rattle.sifc_lex.specs.BaseLaws.{and-left, and-right}
-use Rattle.sifc_lex.specs.Reserved as Reserved
-use Rattle.sifc_lex.specs.Reserved.{reservedWords, kindAmong, nameKind}
+use Rattle.sifc_word.specs.Base.{if_then_else_, same, span, member}
+use Rattle.sifc_word.specs.BaseLaws.{and-left, and-right}
+use Rattle.sifc_word.specs.Reserved as Reserved
+use Rattle.sifc_word.specs.Reserved.{reservedWords, kindAmong, nameKind}
 use Rattle.sifc_lex.specs.Lex.{white, digit, letter, alnum, inLine, inStr, Sign, doubles, singles, singleKind, doubleKind, oneSign, lexSign, nextIs, lexSlash, lineEnd, hashComment, slashComment, closed, lexStr, pointed, fraction, lexNum, lexIdent, step}
 use Rattle.sifc_lex.specs.LexTrip.{Good, sep}
 use Rattle.sifc_def.specs.State.{W}

@@ -7,8 +7,8 @@ use mathlib.Core.Bool.{Bool, true, false, _&&_}
 use lib.Dec.{T, leb, leb→le}
 use lib.ListN.{length}
 use Rattle.sifc_lex.specs.declared.lex.Step.the-variants.{Word}
-use Rattle.sifc_lex.specs.Base.{if_then_else_}
-use Rattle.sifc_lex.specs.BaseLaws.{and-left, and-right}
+use Rattle.sifc_word.specs.Base.{if_then_else_}
+use Rattle.sifc_word.specs.BaseLaws.{and-left, and-right}
 use Rattle.sifc_lex.specs.Lex.{step}
 use Rattle.sifc_lex.specs.LexTrip.{Good, sep}
 use Rattle.sifc_def.specs.State.{W}

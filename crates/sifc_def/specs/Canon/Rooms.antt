@@ -11,7 +11,7 @@ use Rattle.sifc_err.specs.declared.Token.{Token}
 use Rattle.sifc_err.specs.declared.Refusal.{Refusal}
 use Rattle.sifc_err.specs.declared.Refusal.the-variants.{NodesFull, SymbolsFull, ErrorsFull}
 use Rattle.sifc_err.specs.Refusal.{numberOf}
-use Rattle.sifc_lex.specs.Base.{if_then_else_, member}
+use Rattle.sifc_word.specs.Base.{if_then_else_, member}
 use Rattle.sifc_def.specs.declared.Err.{Err}
 use Rattle.sifc_def.specs.declared.Why.{Why}
 use Rattle.sifc_def.specs.declared.What.{What}

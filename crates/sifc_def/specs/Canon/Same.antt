@@ -10,14 +10,14 @@ use lib.Dec.{T, eqb, eqb→eq, ltb→lt, lit<}
 use lib.ListN.{length, getD, replicate, length-map, List·getD-map}
 use lib.Seq.{ext-getD}
 use Rattle.sifc_err.specs.declared.Token.{Token}
-use Rattle.sifc_lex.specs.Base.{if_then_else_, member, part}
+use Rattle.sifc_word.specs.Base.{if_then_else_, member, part}
 use Rattle.sifc_lex.specs.Lex.{token, lex}
 use Rattle.sifc_lex.specs.LexLaws.{Run, last, more, lex-runs}
 use Rattle.sifc_def.specs.declared.Reading.{Reading}
 use Rattle.sifc_def.specs.declared.Reading.the-variants.{Read}
 use Rattle.sifc_def.specs.Ast.{Block}
 use Rattle.sifc_def.specs.Label.{Lab, lab, hasToken, scopeOf, textOf, label, labels}
-use Rattle.sifc_lex.specs.Tokens.{tokenWord, offsOf, wordsOf, padded}
+use Rattle.sifc_tokens.specs.Tokens.{tokenWord, offsOf, wordsOf, padded}
 use Rattle.sifc_def.specs.Read.{Arrays, Called, called, Found, bit, headWord, summary, filled}
 use Rattle.sifc_def.specs.State.{Node, node, Ctx, tokenAt, wordIn}
 use Rattle.sifc_def.specs.Canon.Demand.{nodeCount, headAt, loadAt, kindIn, tokenText, SameTree}

@@ -5,7 +5,7 @@ use mathlib.Core.List.{List, [], _∷_, _++_, reverse, reverseAux, reverseAux-ap
 use mathlib.Core.Bool.{Bool, false}
 use native.Mathlib.Nat.{zero-add, suc-add, add-suc, add-zero}
 use lib.ListN.{drop, length}
-use Rattle.sifc_lex.specs.Reserved.{isStdLibFn}
+use Rattle.sifc_word.specs.Reserved.{isStdLibFn}
 use Rattle.sifc_def.specs.Ast.{Program, Block, IfStmt, ElifStmt, ForStmt, ReturnStmt, ExprStmt, VarDecl, FnDecl, FnParams, IdentPair, ItemList, TableItem, Table, TableAccess, Array, ArrayItems, ArrayAccess, ArrayMutExpr, FnCallExpr, VarAssignExpr, BinaryExpr, UnaryExpr, PrimaryExpr}
 use Rattle.sifc_def.specs.State.{W, nameOf}
 use Rattle.sifc_def.specs.Label.{Lab, lab}

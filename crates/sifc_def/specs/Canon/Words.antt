@@ -7,8 +7,8 @@ use mathlib.Core.Bool.{Bool, true, false, not}
 use mathlib.Core.Logic.{_⊎_, inl, inr}
 use native.Mathlib.Omega.{arith}
 use lib.Dec.{T, leb, ltb, leb→le, le→leb, nleb→lt, ltb→lt, lt→ltb, nltb→le, not-T}
-use Rattle.sifc_lex.specs.Base.{if_then_else_, member}
-use Rattle.sifc_lex.specs.BaseLaws.{if-either}
+use Rattle.sifc_word.specs.Base.{if_then_else_, member}
+use Rattle.sifc_word.specs.BaseLaws.{if-either}
 use Rattle.sifc_def.specs.declared.What.{What}
 use Rattle.sifc_def.specs.State.{W, Sym}
 use Rattle.sifc_def.specs.Expr.{looseness}

@@ -4,7 +4,7 @@ use mathlib.Core.Path.{_≡_, refl, sym, _∙_, subst}
 use mathlib.Core.List.{List, map}
 use mathlib.Core.Bool.{false, not}
 use lib.Dec.{T, eqb}
-use Rattle.sifc_lex.specs.Kind.{LexPanic}
+use Rattle.sifc_word.specs.Kind.{LexPanic}
 use Rattle.sifc_def.specs.State.{Ctx, St, Out, done, W, wordIn, tokAt, wordAt}
 use Rattle.sifc_def.specs.Label.{Lab}
 use Rattle.sifc_def.specs.Walk.{End, walk}

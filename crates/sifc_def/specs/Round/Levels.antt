@@ -9,9 +9,9 @@ use native.Mathlib.Omega.{arith}
 use native.Mathlib.Nat.{le-trans, not-suc-le-zero}
 use lib.Dec.{T, eqb, leb, ltb, leb→le, nleb→lt, eqb-refl}
 use lib.ListN.{length}
-use Rattle.sifc_lex.specs.Base.{if_then_else_, member}
-use Rattle.sifc_lex.specs.Kind.{LeftParen, RightParen, LeftBracket, Eq, Period, Bang, Minus, Ident, Str, Val, True, False, Eof}
-use Rattle.sifc_lex.specs.Reserved.{isStdLibFn}
+use Rattle.sifc_word.specs.Base.{if_then_else_, member}
+use Rattle.sifc_word.specs.Kind.{LeftParen, RightParen, LeftBracket, Eq, Period, Bang, Minus, Ident, Str, Val, True, False, Eof}
+use Rattle.sifc_word.specs.Reserved.{isStdLibFn}
 use Rattle.sifc_def.specs.declared.What.{What}
 use Rattle.sifc_def.specs.Ast.{BinaryExpr, UnaryExpr, PrimaryExpr}
 use Rattle.sifc_def.specs.State.{Node, node, Sym, Ctx, St, done, Void, go-on, _>>=_, ok, W, nameOf, nameAt, push}

@@ -8,8 +8,8 @@ use native.Mathlib.Omega.{arith}
 use native.Mathlib.Nat.{zero-add, add-zero, not-suc-le-zero}
 use lib.Dec.{eqb}
 use lib.ListN.{length}
-use Rattle.sifc_lex.specs.Base.{if_then_else_, member}
-use Rattle.sifc_lex.specs.Kind.{Eof, LexPanic}
+use Rattle.sifc_word.specs.Base.{if_then_else_, member}
+use Rattle.sifc_word.specs.Kind.{Eof, LexPanic}
 use Rattle.sifc_def.specs.Ast.{Program}
 use Rattle.sifc_def.specs.State.{Node, Sym, Ctx, St, Out, done, fail, refuse, Void, go-on, W, wordIn, tokAt, arrive, push}
 use Rattle.sifc_def.specs.Label.{Lab, hasToken, scopeOf, textOf}

@@ -7,8 +7,8 @@ use native.Mathlib.Omega.{arith}
 use native.Mathlib.Nat.{zero-add, not-suc-le-zero}
 use lib.Dec.{T, eqb, eqb-refl}
 use lib.ListN.{length}
-use Rattle.sifc_lex.specs.Base.{if_then_else_, member}
-use Rattle.sifc_lex.specs.Kind.{LeftParen, LeftBracket, RightBracket, Semicolon, Eq, Comma, EqArrow, DoubleLeftBracket, DoubleRightBracket, Ident, Eof}
+use Rattle.sifc_word.specs.Base.{if_then_else_, member}
+use Rattle.sifc_word.specs.Kind.{LeftParen, LeftBracket, RightBracket, Semicolon, Eq, Comma, EqArrow, DoubleLeftBracket, DoubleRightBracket, Ident, Eof}
 use Rattle.sifc_def.specs.declared.Why.the-variants.{InvalidTknMsg, ExpectedIdent}
 use Rattle.sifc_def.specs.declared.What.{What}
 use Rattle.sifc_def.specs.declared.What.the-variants.{Variable, Other}

@@ -10,8 +10,8 @@ use lib.Dec.{T, eqb, leb, ltb, eqb→eq}
 use lib.ListN.{drop, length, getD, length-drop, length-map}
 use Rattle.sifc_err.specs.declared.Token.{Token}
 use Rattle.sifc_err.specs.declared.Refusal.the-variants.{NodesFull, SymbolsFull, ErrorsFull}
-use Rattle.sifc_lex.specs.Base.{if_then_else_, member}
-use Rattle.sifc_lex.specs.Kind.{Percent, Star, Slash, Plus, Minus, Lt, LtEq, Gt, GtEq, BangEq, EqEq, AmpAmp, PipePipe, Ident, Eof, LexPanic}
+use Rattle.sifc_word.specs.Base.{if_then_else_, member}
+use Rattle.sifc_word.specs.Kind.{Percent, Star, Slash, Plus, Minus, Lt, LtEq, Gt, GtEq, BangEq, EqEq, AmpAmp, PipePipe, Ident, Eof, LexPanic}
 use Rattle.sifc_lex.specs.Lex.{token}
 use Rattle.sifc_def.specs.declared.Err.{Err}
 use Rattle.sifc_def.specs.declared.Why.{Why}

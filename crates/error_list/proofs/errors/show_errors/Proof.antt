@@ -54,16 +54,17 @@ use Rattle.sifc_def.specs.declared.Reading.{Reading}
 use Rattle.sifc_def.specs.Read.{called}
 use Rattle.sifc_def.proofs.Reading as Rd
 use Rattle.sifc_def.proofs.Reading.Laws as Rd′
-use Rattle.sifc_read.specs.Parts.{arrays}
-use Rattle.sifc_records.specs.Records.{blankErr, blankRecords, Recorded, recorded, readingRecords}
+use Rattle.sifc_lent.specs.Parts.{arrays}
+use Rattle.sifc_record.specs.Record.{blankErr}
+use Rattle.sifc_records.specs.Records.{blankRecords, Recorded, recorded, readingRecords}
 use Rattle.sifc_records.specs.RecordLaws.{callOf, errorsOf, errors-fit}
-use Rattle.sifc_records.proofs.While.{whiles}
+use Rattle.sifc_record.proofs.While.{whiles}
 use Rattle.error_list.proofs.Count.{Count, next, first, Less, less-wf, nearer}
 use Rattle.error_list.proofs.Local.{big-lit, array-typed, opens-array, lends-array, array-back, closes-array}
-use Rattle.sifc_records.proofs.blank as blank
-use Rattle.sifc_records.proofs.blank.Symbol as blank-def
-use Rattle.sifc_records.proofs.blank.Symbol.{name as #blank}
-use Rattle.sifc_records.proofs.blank.Met as blank-thm
+use Rattle.sifc_record.proofs.blank as blank
+use Rattle.sifc_record.proofs.blank.Symbol as blank-def
+use Rattle.sifc_record.proofs.blank.Symbol.{name as #blank}
+use Rattle.sifc_record.proofs.blank.Met as blank-thm
 use Rattle.sifc_records.proofs.reading_records as reading-records
 use Rattle.sifc_records.proofs.reading_records.Symbol as reading-records-def
 use Rattle.sifc_records.proofs.reading_records.Symbol.{name as #reading-records}
@@ -656,7 +657,7 @@ show-errors-spec 𝓤 H 𝓜 𝓖 𝓡 =
     entered 𝓤 H (tripleOf 𝓤 H (𝓖 .A) show-errors.signature (show-errors.spec 𝓤 H (𝓖 .A) (𝓜 .mem) (𝓡 .run)))
     (tables 𝓤 H 𝓜 𝓡 code.env .C) (tables 𝓤 H 𝓜 𝓡 code.env .Λ) #show-errors code.function (code.unfolded 𝓤 H 𝓜 𝓡)
     (show-errors-meets 𝓤 H (𝓖 .A) (givenOf 𝓤 H 𝓜 𝓖) (𝓜 .mem) (𝓡 .run) (tablesOf 𝓤 H 𝓜 (tables 𝓤 H 𝓜 𝓡 code.env))
-    (cited 𝓤 H (Blank 𝓤 H (𝓖 .A) (𝓜 .mem) (𝓡 .run)) 𝓜 𝓡 code.env #blank blank-def.routine code.calls-sifc-records·blank (blank-thm.met 𝓤 H 𝓜 𝓖 𝓡))
+    (cited 𝓤 H (Blank 𝓤 H (𝓖 .A) (𝓜 .mem) (𝓡 .run)) 𝓜 𝓡 code.env #blank blank-def.routine code.calls-sifc-record·blank (blank-thm.met 𝓤 H 𝓜 𝓖 𝓡))
     (cited 𝓤 H (Records 𝓤 H (𝓖 .A) (𝓜 .mem) (𝓡 .run)) 𝓜 𝓡 code.env #reading-records reading-records-def.routine code.calls-sifc-records·reading-records (reading-records-thm.met 𝓤 H 𝓜 𝓖 𝓡))
     (cited 𝓤 H (Counted 𝓤 H (𝓖 .A) (𝓜 .mem) (𝓡 .run)) 𝓜 𝓡 code.env #listed listed-def.routine code.calls-error-list·errors·listed (listed-thm.met 𝓤 H 𝓜 𝓖 𝓡))
     (cited 𝓤 H (Prints 𝓤 H (𝓖 .A) (𝓜 .mem) (𝓡 .run)) 𝓜 𝓡 code.env #print-error print-error-def.routine code.calls-error-list·errors·print-error (print-error-thm.met 𝓤 H 𝓜 𝓖 𝓡)))

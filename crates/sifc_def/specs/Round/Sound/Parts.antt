@@ -8,8 +8,8 @@ use native.Mathlib.Omega.{arith}
 use native.Mathlib.Nat.{zero-add}
 use lib.Dec.{T, eqb, leb, eqb→eq, nleb→lt}
 use lib.ListN.{length}
-use Rattle.sifc_lex.specs.Base.{if_then_else_, member}
-use Rattle.sifc_lex.specs.Kind.{RightParen, LeftBracket, RightBracket, Semicolon, Comma, EqArrow, DoubleLeftBracket, DoubleRightBracket, Ident, Eof}
+use Rattle.sifc_word.specs.Base.{if_then_else_, member}
+use Rattle.sifc_word.specs.Kind.{RightParen, LeftBracket, RightBracket, Semicolon, Comma, EqArrow, DoubleLeftBracket, DoubleRightBracket, Ident, Eof}
 use Rattle.sifc_def.specs.declared.Why.{Why}
 use Rattle.sifc_def.specs.declared.Why.the-variants.{ExpectedIdent}
 use Rattle.sifc_def.specs.declared.What.{What}

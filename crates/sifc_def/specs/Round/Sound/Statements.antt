@@ -7,8 +7,8 @@ use native.Mathlib.Omega.{arith}
 use native.Mathlib.Nat.{zero-add, add-zero}
 use lib.Dec.{T, eqb, ltb}
 use lib.ListN.{take, length, length-map}
-use Rattle.sifc_lex.specs.Base.{if_then_else_, member}
-use Rattle.sifc_lex.specs.Kind.{LeftParen, RightParen, LeftBrace, RightBrace, Semicolon, Eq, Comma, Ident, Var, Fn, Return, If, Elif, Else, For, In as InKind, Eof}
+use Rattle.sifc_word.specs.Base.{if_then_else_, member}
+use Rattle.sifc_word.specs.Kind.{LeftParen, RightParen, LeftBrace, RightBrace, Semicolon, Eq, Comma, Ident, Var, Fn, Return, If, Elif, Else, For, In as InKind, Eof}
 use Rattle.sifc_def.specs.declared.Why.{Why}
 use Rattle.sifc_def.specs.declared.Why.the-variants.{InvalidIfStmt, ExpectedIdent}
 use Rattle.sifc_def.specs.declared.What.the-variants.{Placeholder, Function}

@@ -8,8 +8,8 @@ use native.Mathlib.Nat.{zero-add, not-suc-le-zero}
 use lib.Dec.{T, eqb, ltb, eqb→eq, le→leb}
 use lib.ListN.{take, length, length-reverse, length-map}
 use lib.Seq.{take-append-seam}
-use Rattle.sifc_lex.specs.Base.{if_then_else_, member}
-use Rattle.sifc_lex.specs.Kind.{LeftBrace, RightBrace, Semicolon, Var, Fn, Return, If, Elif, Else, For, Eof}
+use Rattle.sifc_word.specs.Base.{if_then_else_, member}
+use Rattle.sifc_word.specs.Kind.{LeftBrace, RightBrace, Semicolon, Var, Fn, Return, If, Elif, Else, For, Eof}
 use Rattle.sifc_def.specs.Ast.{Block, ReturnStmt, ExprStmt, PrimaryExpr}
 use Rattle.sifc_def.specs.State.{Node, node, Sym, Ctx, St, done, go-on, W, tokAt, wordAt}
 use Rattle.sifc_def.specs.Symbols.{setLevel, initScope, closeScope}

@@ -2,7 +2,7 @@ use borrow.Author.Needs.{needs}
 use mathlib.Core.Path.{sym}
 use native.Mathlib.Omega.{arith}
 use Rattle.sifc_lex.proofs.Runs.{hash-run}
-use Rattle.sifc_lex.specs.BaseLaws.{span-at-le}
+use Rattle.sifc_word.specs.BaseLaws.{span-at-le}
 use Rattle.sifc_lex.specs.Lex.{inLine}
 use Rattle.sifc_lex.proofs.lex.hash_comment.Statement.{statement}
 use Rattle.sifc_lex.proofs.lex.hash_comment.Tie as tie

@@ -1,5 +1,5 @@
 use borrow.Author.Tests.{lt-leb, le-leb}
-use Rattle.sifc_lex.specs.Base.{within}
+use Rattle.sifc_word.specs.Base.{within}
 use Rattle.sifc_lex.specs.Lex.{digit}
 use Rattle.sifc_lex.proofs.lex.is_digit.Statement.{statement}
 use Rattle.sifc_lex.proofs.lex.is_digit.Tie as tie

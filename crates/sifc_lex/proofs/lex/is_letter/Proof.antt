@@ -1,6 +1,6 @@
 use native.Mathlib.Omega.{arith}
 use borrow.Author.Tests.{lt-leb, le-leb}
-use Rattle.sifc_lex.specs.Base.{within}
+use Rattle.sifc_word.specs.Base.{within}
 use Rattle.sifc_lex.specs.Lex.{letter}
 use Rattle.sifc_lex.proofs.lex.is_letter.Statement.{statement}
 use Rattle.sifc_lex.proofs.lex.is_letter.Tie as tie

@@ -2,9 +2,9 @@ use native.Mathlib.Omega.{arith}
 use mathlib.Core.Bool.{Bool, true, false, _||_}
 use mathlib.Core.Path.{_≡_, refl, sym}
 use lib.Dec.{leb}
-use Rattle.sifc_lex.specs.BaseLaws.{or-false}
+use Rattle.sifc_word.specs.BaseLaws.{or-false}
 use borrow.Author.Tests.{lt-leb, le-leb, eq-eqb, ne-eqb}
-use Rattle.sifc_lex.specs.Base.{within}
+use Rattle.sifc_word.specs.Base.{within}
 use Rattle.sifc_lex.specs.Lex.{white}
 use Rattle.sifc_lex.proofs.lex.is_white.Statement.{statement}
 use Rattle.sifc_lex.proofs.lex.is_white.Tie as tie

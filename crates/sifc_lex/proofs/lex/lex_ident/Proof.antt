@@ -4,14 +4,14 @@ use native.Mathlib.Omega.{arith}
 use native.Mathlib.Numerals.{add-one}
 use Prim.Native.Nat.{_+_}
 use Rattle.sifc_lex.proofs.Runs.{ident-run}
-use Rattle.sifc_lex.specs.BaseLaws.{span-at-le}
+use Rattle.sifc_word.specs.BaseLaws.{span-at-le}
 use Rattle.sifc_lex.specs.Lex.{alnum}
 use Rattle.sifc_lex.proofs.lex.lex_ident.Statement.{statement}
 use Rattle.sifc_lex.proofs.lex.lex_ident.Tie as tie
 use Rattle.sifc_lex.proofs.lex.lex_ident.Reads as reads
 use Rattle.sifc_lex.proofs.lex.lex_ident.Lts as lts
 use Rattle.sifc_lex.proofs.lex.run_end.Reads as run-end-reads
-use Rattle.sifc_lex.proofs.reserved.name_kind.Reads as name-kind-reads
+use Rattle.sifc_word.proofs.name_kind.Reads as name-kind-reads
 
 -- src/lex.rt:421:26
 add-run-end : tie.Need-add-run-end

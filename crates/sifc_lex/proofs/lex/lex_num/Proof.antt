@@ -3,7 +3,7 @@ use mathlib.Core.Path.{sym}
 use native.Mathlib.Omega.{arith}
 use native.Mathlib.Numerals.{add-one}
 use Rattle.sifc_lex.proofs.Runs.{num-none, num-whole, num-more, num-fault}
-use Rattle.sifc_lex.specs.BaseLaws.{span-at-le}
+use Rattle.sifc_word.specs.BaseLaws.{span-at-le}
 use Rattle.sifc_lex.specs.Lex.{digit}
 use Rattle.sifc_lex.proofs.lex.lex_num.Statement.{statement}
 use Rattle.sifc_lex.proofs.lex.lex_num.Tie as tie

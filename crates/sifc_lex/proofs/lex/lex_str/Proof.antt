@@ -2,7 +2,7 @@ use borrow.Author.Needs.{needs}
 use mathlib.Core.Path.{sym}
 use native.Mathlib.Omega.{arith}
 use Rattle.sifc_lex.proofs.Runs.{str-more, str-none}
-use Rattle.sifc_lex.specs.BaseLaws.{span-at-le}
+use Rattle.sifc_word.specs.BaseLaws.{span-at-le}
 use Rattle.sifc_lex.specs.Lex.{inStr}
 use Rattle.sifc_lex.proofs.lex.lex_str.Statement.{statement}
 use Rattle.sifc_lex.proofs.lex.lex_str.Tie as tie

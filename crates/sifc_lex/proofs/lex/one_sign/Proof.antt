@@ -1,7 +1,7 @@
 use borrow.Author.Needs.{needs}
 use mathlib.Core.Path.{sym, _∙_, refl}
 use borrow.Author.Tests.{eq-eqb, ne-eqb}
-use Rattle.sifc_lex.specs.Base.{if_then_else_}
+use Rattle.sifc_word.specs.Base.{if_then_else_}
 use Rattle.sifc_lex.specs.Lex.{oneSign}
 use Rattle.sifc_lex.proofs.lex.one_sign.Statement.{statement}
 use Rattle.sifc_lex.proofs.lex.one_sign.Tie as tie

@@ -5,8 +5,8 @@ use borrow.Author.Needs.{needs}
 use borrow.Author.Tests.{not-true, not-false}
 use native.Mathlib.Numerals.{add-one}
 use lib.ListN.{length, drop}
-use Rattle.sifc_lex.specs.Base.{span}
-use Rattle.sifc_lex.specs.BaseLaws.{span-at-yes, span-at-no, span-at-end}
+use Rattle.sifc_word.specs.Base.{span}
+use Rattle.sifc_word.specs.BaseLaws.{span-at-yes, span-at-no, span-at-end}
 use Rattle.sifc_lex.specs.Class.{testOf}
 use Rattle.sifc_lex.proofs.lex.run_end.Statement.{statement}
 use Rattle.sifc_lex.proofs.lex.run_end.Tie as tie

@@ -1,6 +1,6 @@
 use mathlib.Core.Path.{refl}
 use borrow.Author.Tests.{ne-eqb}
-use Rattle.sifc_lex.specs.Base.{if_then_else_}
+use Rattle.sifc_word.specs.Base.{if_then_else_}
 use Rattle.sifc_lex.specs.Lex.{singles, singleKind}
 use Rattle.sifc_lex.proofs.lex.single_kind.Statement.{statement}
 use Rattle.sifc_lex.proofs.lex.single_kind.Tie as tie

@@ -6,9 +6,9 @@ use Rattle.sifc_read.proofs.call.after_entry.Statement.{statement}
 use Rattle.sifc_read.proofs.call.after_entry.Tie as tie
 use Rattle.sifc_read.proofs.call.after_entry.Reads as reads
 use Rattle.sifc_read.proofs.call.after_entry.Lts as lts
-use Rattle.sifc_lex.proofs.lex_tokens.Reads as lex-tokens-reads
+use Rattle.sifc_tokens.proofs.lex_tokens.Reads as lex-tokens-reads
 use Rattle.sifc_read.proofs.call.fault_of.Reads as fault-of-reads
-use Rattle.sifc_read.proofs.clear.clear_all.Reads as clear-all-reads
+use Rattle.sifc_lent.proofs.clear_all.Reads as clear-all-reads
 use Rattle.sifc_read.proofs.finish.finish.Reads as finish-reads
 use Rattle.sifc_program.proofs.parse.Reads as parse-reads
 

@@ -1,12 +1,12 @@
 use borrow.Author.Needs.{needs}
-use Rattle.sifc_read.specs.EntryLaws.{entered}
+use Rattle.sifc_lent.specs.EntryLaws.{entered}
 use Rattle.sifc_read.proofs.Calls.{read-on, read-not}
 use Rattle.sifc_read.proofs.call.reading.Statement.{statement}
 use Rattle.sifc_read.proofs.call.reading.Tie as tie
 use Rattle.sifc_read.proofs.call.reading.Reads as reads
 use Rattle.sifc_read.proofs.call.reading.Lts as lts
 use Rattle.sifc_read.proofs.call.after_entry.Reads as after-entry-reads
-use Rattle.sifc_read.proofs.entry.entry.Reads as entry-reads
+use Rattle.sifc_lent.proofs.entry_tests.Reads as entry-reads
 
 -- src/call.rt:76:9
 entry-requires : tie.Need-entry-requires

@@ -1,13 +1,13 @@
 use borrow.Author.Needs.{needs}
 use mathlib.Core.Path.{sym}
 use lib.Seq.{length-take-le}
-use Rattle.sifc_read.specs.Parts.{arrays}
+use Rattle.sifc_lent.specs.Parts.{arrays}
 use Rattle.sifc_read.proofs.Ends.{finished, refused, within-found}
 use Rattle.sifc_read.proofs.finish.finish.Statement.{statement}
 use Rattle.sifc_read.proofs.finish.finish.Tie as tie
 use Rattle.sifc_read.proofs.finish.finish.Reads as reads
 use Rattle.sifc_read.proofs.finish.finish.Lts as lts
-use Rattle.sifc_read.proofs.clear.clear_all.Reads as clear-all-reads
+use Rattle.sifc_lent.proofs.clear_all.Reads as clear-all-reads
 use Rattle.sifc_read.proofs.finish.settle.Reads as settle-reads
 use Rattle.sifc_read.proofs.finish.summary_of.Reads as summary-of-reads
 

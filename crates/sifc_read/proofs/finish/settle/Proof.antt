@@ -1,15 +1,15 @@
 use borrow.Author.Needs.{needs}
 use mathlib.Core.Path.{refl}
-use Rattle.sifc_read.specs.Parts.{settledOf}
-use Rattle.sifc_read.specs.PartLaws.{same-arrays}
-use Rattle.sifc_read.proofs.Fronts.{front-mapped}
+use Rattle.sifc_lent.specs.Parts.{settledOf}
+use Rattle.sifc_lent.specs.PartLaws.{same-arrays}
+use Rattle.sifc_lent.proofs.Fronts.{front-mapped}
 use Rattle.sifc_read.proofs.finish.settle.Statement.{statement}
 use Rattle.sifc_read.proofs.finish.settle.Tie as tie
 use Rattle.sifc_read.proofs.finish.settle.Reads as reads
 use Rattle.sifc_read.proofs.finish.settle.Lts as lts
-use Rattle.sifc_read.proofs.clear.clear.Reads as clear-reads
-use Rattle.sifc_read.proofs.clear.keep.Reads as keep-reads
-use Rattle.sifc_read.proofs.place.set_places.Reads as set-places-reads
+use Rattle.sifc_lent.proofs.clear_array.Reads as clear-reads
+use Rattle.sifc_lent.proofs.keep.Reads as keep-reads
+use Rattle.sifc_lent.proofs.set_places.Reads as set-places-reads
 
 -- src/finish.rt:55:5
 set-places-requires : tie.Need-set-places-requires

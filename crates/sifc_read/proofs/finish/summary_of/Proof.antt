@@ -1,11 +1,11 @@
 use borrow.Author.Needs.{needs}
-use Rattle.sifc_read.specs.Parts.{summaryOf}
+use Rattle.sifc_lent.specs.Parts.{summaryOf}
 use Rattle.sifc_read.proofs.Ends.{told}
 use Rattle.sifc_read.proofs.finish.summary_of.Statement.{statement}
 use Rattle.sifc_read.proofs.finish.summary_of.Tie as tie
 use Rattle.sifc_read.proofs.finish.summary_of.Reads as reads
 use Rattle.sifc_read.proofs.finish.summary_of.Lts as lts
-use Rattle.sifc_read.proofs.error.early_of.Reads as early-of-reads
+use Rattle.sifc_lent.proofs.early_of.Reads as early-of-reads
 
 -- src/finish.rt:30:9
 early-of-requires : tie.Need-early-of-requires

@@ -4,7 +4,7 @@ use Rattle.sifc_records.proofs.call.entry_records.Statement.{statement}
 use Rattle.sifc_records.proofs.call.entry_records.Tie as tie
 use Rattle.sifc_records.proofs.call.entry_records.Reads as reads
 use Rattle.sifc_records.proofs.call.entry_records.Lts as lts
-use Rattle.sifc_read.proofs.entry_tests.Reads as entry-reads
+use Rattle.sifc_lent.proofs.entry_tests.Reads as entry-reads
 
 -- src/call.rt:57:9
 entry-requires : tie.Need-entry-requires

@@ -46,23 +46,24 @@ use Rattle.sifc_def.specs.declared.Reading.{Reading}
 use Rattle.sifc_def.proofs.Reading as Rd
 use Rattle.sifc_def.proofs.Reading.Laws as Rd′
 use Rattle.sifc_symtab.specs.Toks.{toksOf}
-use Rattle.sifc_read.specs.Parts.{arrays}
+use Rattle.sifc_lent.specs.Parts.{arrays}
 use Rattle.sifc_records.specs.declared.call.Told.{Told}
-use Rattle.sifc_records.specs.Records.{recorded, readingRecords, filledOf, Fillable}
+use Rattle.sifc_record.specs.Record.{filledOf, Fillable}
+use Rattle.sifc_record.proofs.Again.{LentAgain, lends-again, comes-back}
+use Rattle.sifc_records.specs.Records.{recorded, readingRecords}
 use Rattle.sifc_records.specs.Words.{kept, readWords}
 use Rattle.sifc_records.proofs.call.Told as To
 use Rattle.sifc_records.proofs.call.Told.Laws as To′
 use Rattle.sifc_records.proofs.Whole.{can-fill, whole as whole-is}
-use Rattle.sifc_records.proofs.Again.{LentAgain, lends-again, comes-back}
 use Rattle.sifc_records.proofs.Shared.{LentShared, lends-shared, comes-home}
 use Rattle.sifc_records.proofs.call.read_words as read-words
 use Rattle.sifc_records.proofs.call.read_words.Symbol as read-words-def
 use Rattle.sifc_records.proofs.call.read_words.Symbol.{name as #read-words}
 use Rattle.sifc_records.proofs.call.read_words.Met as read-words-thm
-use Rattle.sifc_records.proofs.slice.fill as fill
-use Rattle.sifc_records.proofs.slice.fill.Symbol as fill-def
-use Rattle.sifc_records.proofs.slice.fill.Symbol.{name as #fill}
-use Rattle.sifc_records.proofs.slice.fill.Met as fill-thm
+use Rattle.sifc_record.proofs.fill as fill
+use Rattle.sifc_record.proofs.fill.Symbol as fill-def
+use Rattle.sifc_record.proofs.fill.Symbol.{name as #fill}
+use Rattle.sifc_record.proofs.fill.Met as fill-thm
 use Rattle.sifc_records.proofs.call.reading_records.Key.{name as #reading-records}
 use Rattle.sifc_records.proofs.call.reading_records as reading-records
 use Rattle.sifc_records.proofs.call.reading_records.Statement as stated
@@ -689,4 +690,4 @@ reading-records-spec 𝓤 H 𝓜 𝓖 𝓡 =
     (tables 𝓤 H 𝓜 𝓡 code.env .C) (tables 𝓤 H 𝓜 𝓡 code.env .Λ) #reading-records code.function (code.unfolded 𝓤 H 𝓜 𝓡)
     (reading-records-meets 𝓤 H (𝓖 .A) (givenOf 𝓤 H 𝓜 𝓖) (𝓜 .mem) (𝓡 .run) (tablesOf 𝓤 H 𝓜 (tables 𝓤 H 𝓜 𝓡 code.env))
     (cited 𝓤 H (Words 𝓤 H (𝓖 .A) (𝓜 .mem) (𝓡 .run)) 𝓜 𝓡 code.env #read-words read-words-def.routine code.calls-sifc-records·call·read-words (read-words-thm.met 𝓤 H 𝓜 𝓖 𝓡))
-    (cited 𝓤 H (Fill 𝓤 H (𝓖 .A) (𝓜 .mem) (𝓡 .run)) 𝓜 𝓡 code.env #fill fill-def.routine code.calls-sifc-records·slice·fill (fill-thm.met 𝓤 H 𝓜 𝓖 𝓡)))
+    (cited 𝓤 H (Fill 𝓤 H (𝓖 .A) (𝓜 .mem) (𝓡 .run)) 𝓜 𝓡 code.env #fill fill-def.routine code.calls-sifc-record·fill (fill-thm.met 𝓤 H 𝓜 𝓖 𝓡)))

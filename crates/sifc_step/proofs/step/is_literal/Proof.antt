@@ -1,6 +1,6 @@
 use Rattle.sifc_step.specs.SmallLaws.{last-literal}
 use borrow.Author.Tests.{eq-eqb, ne-eqb}
-use Rattle.sifc_lex.specs.Base.{member}
+use Rattle.sifc_word.specs.Base.{member}
 use Rattle.sifc_def.specs.Expr.{isLiteral}
 use Rattle.sifc_step.proofs.step.is_literal.Statement.{statement}
 use Rattle.sifc_step.proofs.step.is_literal.Tie as tie

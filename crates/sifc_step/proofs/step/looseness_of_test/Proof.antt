@@ -1,6 +1,6 @@
 use borrow.Author.Needs.{needs}
 use borrow.Author.Tests.{eq-eqb, ne-eqb}
-use Rattle.sifc_lex.specs.Base.{if_then_else_, member}
+use Rattle.sifc_word.specs.Base.{if_then_else_, member}
 use Rattle.sifc_def.specs.Expr.{looseness}
 use Rattle.sifc_step.proofs.step.looseness_of_test.Statement.{statement}
 use Rattle.sifc_step.proofs.step.looseness_of_test.Tie as tie

@@ -7,16 +7,16 @@ use Rattle.sifc_def.specs.Stmt.{commaList, arrayDecl}
 use Rattle.sifc_def.specs.Walk.{walkers}
 use Rattle.sifc_step.specs.Steps.{kept, same, begin, blank, blanks, gives, go, stop, last, count-at}
 use Rattle.sifc_step.specs.SmallLaws.{expected}
-use Rattle.sifc_stmt.specs.Promise.{arrayAndName}
+use Rattle.sifc_declare.specs.Promise.{arrayAndName}
 use Rattle.sifc_stmt.proofs.Tags.{not-done}
-use Rattle.sifc_stmt.proofs.Ends.{free}
+use Rattle.sifc_declare.proofs.Ends.{free}
 use Rattle.sifc_stmt.proofs.decl.array_decl.Statement.{statement}
 use Rattle.sifc_stmt.proofs.decl.array_decl.Tie as tie
 use Rattle.sifc_stmt.proofs.decl.array_decl.Reads as reads
 use Rattle.sifc_stmt.proofs.decl.array_decl.Lts as lts
 use Rattle.sifc_step.proofs.expect.Reads as expect-reads
 use Rattle.sifc_stmt.proofs.decl.array_items.Reads as array-items-reads
-use Rattle.sifc_stmt.proofs.decl.declare_array.Reads as declare-array-reads
+use Rattle.sifc_declare.proofs.declare_array.Reads as declare-array-reads
 
 -- src/decl.rt:233:9
 expect-requires : tie.Need-expect-requires

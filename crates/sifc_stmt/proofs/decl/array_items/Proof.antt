@@ -16,7 +16,7 @@ use Rattle.sifc_step.specs.Steps.{kept, same, begin, blank, blanks, gives, go, 
 use Rattle.sifc_step.specs.SmallLaws.{pass, thrown-counting}
 use Rattle.sifc_step.specs.Loops.{Looping, looping, turn, turn-own, onward}
 use Rattle.sifc_stmt.proofs.Tags.{not-done}
-use Rattle.sifc_stmt.proofs.Ends.{optional-no, optional-yes, counted-next, recount-commas, none-within}
+use Rattle.sifc_declare.proofs.Ends.{optional-no, optional-yes, counted-next, recount-commas, none-within}
 use Rattle.sifc_stmt.proofs.decl.array_items.Statement.{statement}
 use Rattle.sifc_stmt.proofs.decl.array_items.Tie as tie
 use Rattle.sifc_stmt.proofs.decl.array_items.Reads as reads

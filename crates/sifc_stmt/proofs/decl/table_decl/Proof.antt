@@ -6,15 +6,15 @@ use Rattle.sifc_def.specs.Stmt.{itemList, tableDecl}
 use Rattle.sifc_def.specs.Walk.{walkers}
 use Rattle.sifc_step.specs.Steps.{kept, same, begin, blank, blanks, gives, go, stop, last, by}
 use Rattle.sifc_step.specs.SmallLaws.{expected}
-use Rattle.sifc_stmt.specs.Promise.{nodeAndName}
+use Rattle.sifc_declare.specs.Promise.{nodeAndName}
 use Rattle.sifc_stmt.proofs.Tags.{not-done}
-use Rattle.sifc_stmt.proofs.Ends.{free, table-step}
+use Rattle.sifc_declare.proofs.Ends.{free, table-step}
 use Rattle.sifc_stmt.proofs.decl.table_decl.Statement.{statement}
 use Rattle.sifc_stmt.proofs.decl.table_decl.Tie as tie
 use Rattle.sifc_stmt.proofs.decl.table_decl.Reads as reads
 use Rattle.sifc_stmt.proofs.decl.table_decl.Lts as lts
 use Rattle.sifc_step.proofs.expect.Reads as expect-reads
-use Rattle.sifc_stmt.proofs.decl.declare_other.Reads as declare-other-reads
+use Rattle.sifc_declare.proofs.declare_other.Reads as declare-other-reads
 use Rattle.sifc_stmt.proofs.decl.item_list.Reads as item-list-reads
 
 -- src/decl.rt:335:9

@@ -9,7 +9,7 @@ use Rattle.sifc_def.specs.Walk.{walkers}
 use Rattle.sifc_step.specs.Steps.{kept, same, begin, blank, blanks, gives, go, stop, last, ahead-of}
 use Rattle.sifc_step.specs.SmallLaws.{named, expected, pushed}
 use Rattle.sifc_stmt.proofs.Tags.{not-done}
-use Rattle.sifc_stmt.proofs.Ends.{ahead-by, ahead-none, name-ahead}
+use Rattle.sifc_declare.proofs.Ends.{ahead-by, ahead-none, name-ahead}
 use Rattle.sifc_stmt.proofs.decl.table_item.Statement.{statement}
 use Rattle.sifc_stmt.proofs.decl.table_item.Tie as tie
 use Rattle.sifc_stmt.proofs.decl.table_item.Reads as reads

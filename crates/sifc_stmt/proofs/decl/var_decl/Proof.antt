@@ -9,9 +9,9 @@ use Rattle.sifc_def.specs.Stmt.{declareVar, varDecl}
 use Rattle.sifc_def.specs.Walk.{walkers}
 use Rattle.sifc_step.specs.Steps.{same, begin, blank, blanks, gives, go, stop, last, read, yes, no, test}
 use Rattle.sifc_step.specs.SmallLaws.{pass-any, taken, thrown, named}
-use Rattle.sifc_stmt.specs.Promise.{varValue}
+use Rattle.sifc_declare.specs.Promise.{varValue}
 use Rattle.sifc_stmt.proofs.Tags.{not-done}
-use Rattle.sifc_stmt.proofs.Ends.{free}
+use Rattle.sifc_declare.proofs.Ends.{free}
 use Rattle.sifc_stmt.proofs.decl.var_decl.Statement.{statement}
 use Rattle.sifc_stmt.proofs.decl.var_decl.Tie as tie
 use Rattle.sifc_stmt.proofs.decl.var_decl.Reads as reads
@@ -21,7 +21,7 @@ use Rattle.sifc_step.proofs.consume.Reads as consume-reads
 use Rattle.sifc_step.proofs.expect.Reads as expect-reads
 use Rattle.sifc_step.proofs.kind_at.Reads as kind-at-reads
 use Rattle.sifc_step.proofs.match_ident.Reads as match-ident-reads
-use Rattle.sifc_stmt.proofs.decl.declare_var.Reads as declare-var-reads
+use Rattle.sifc_declare.proofs.declare_var.Reads as declare-var-reads
 use Rattle.sifc_stmt.proofs.decl.var_value.Reads as var-value-reads
 
 -- src/decl.rt:83:9

@@ -6,15 +6,15 @@ use Rattle.sifc_def.specs.Stmt.{declareVar, initial as initialOf}
 use Rattle.sifc_def.specs.Walk.{walkers}
 use Rattle.sifc_step.specs.Steps.{kept, same, begin, blank, blanks, gives, go, stop, last}
 use Rattle.sifc_step.specs.SmallLaws.{pass-any}
-use Rattle.sifc_stmt.specs.Promise.{varValue}
+use Rattle.sifc_declare.specs.Promise.{varValue}
 use Rattle.sifc_stmt.proofs.Tags.{not-done}
-use Rattle.sifc_stmt.proofs.Ends.{free}
+use Rattle.sifc_declare.proofs.Ends.{free}
 use Rattle.sifc_stmt.proofs.decl.var_value.Statement.{statement}
 use Rattle.sifc_stmt.proofs.decl.var_value.Tie as tie
 use Rattle.sifc_stmt.proofs.decl.var_value.Reads as reads
 use Rattle.sifc_stmt.proofs.decl.var_value.Lts as lts
 use Rattle.sifc_step.proofs.consume.Reads as consume-reads
-use Rattle.sifc_stmt.proofs.decl.declare_var.Reads as declare-var-reads
+use Rattle.sifc_declare.proofs.declare_var.Reads as declare-var-reads
 use Rattle.sifc_stmt.proofs.decl.initial.Reads as initial-reads
 
 -- src/decl.rt:122:9

@@ -1,6 +1,6 @@
 use mathlib.Core.Path.{refl}
 use borrow.Author.Tests.{eq-eqb, ne-eqb}
-use Rattle.sifc_lex.specs.Base.{if_then_else_}
+use Rattle.sifc_word.specs.Base.{if_then_else_}
 use Rattle.sifc_symtab.specs.Table.{whatOf}
 use Rattle.sifc_symtab.proofs.entry.what_of.Statement.{statement}
 use Rattle.sifc_symtab.proofs.entry.what_of.Tie as tie

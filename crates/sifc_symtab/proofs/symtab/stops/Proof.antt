@@ -3,14 +3,14 @@ use Prim.Native.Nat.{ℕ}
 use mathlib.Core.Path.{_∙_, ap}
 use mathlib.Core.List.{List}
 use native.Mathlib.Omega.{arith}
-use Rattle.sifc_lex.specs.Base.{same}
+use Rattle.sifc_word.specs.Base.{same}
 use Rattle.sifc_symtab.specs.Table.{nameIn, symAt}
 use Rattle.sifc_symtab.proofs.Seek.{stops-low, stops-high, stops-miss, stops-name, other-name}
 use Rattle.sifc_symtab.proofs.symtab.stops.Statement.{statement}
 use Rattle.sifc_symtab.proofs.symtab.stops.Tie as tie
 use Rattle.sifc_symtab.proofs.symtab.stops.Reads as reads
 use Rattle.sifc_symtab.proofs.symtab.stops.Lts as lts
-use Rattle.sifc_lex.proofs.same.Reads as same-reads
+use Rattle.sifc_word.proofs.same.Reads as same-reads
 use Rattle.sifc_symtab.proofs.entry.hash_at.Reads as hash-at-reads
 use Rattle.sifc_symtab.proofs.entry.level_at.Reads as level-at-reads
 use Rattle.sifc_symtab.proofs.entry.token_at.Reads as token-at-reads

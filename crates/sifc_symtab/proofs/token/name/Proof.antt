@@ -10,7 +10,7 @@ use Rattle.sifc_symtab.proofs.token.name.Statement.{statement}
 use Rattle.sifc_symtab.proofs.token.name.Tie as tie
 use Rattle.sifc_symtab.proofs.token.name.Reads as reads
 use Rattle.sifc_symtab.proofs.token.name.Lts as lts
-use Rattle.sifc_lex.proofs.part.Reads as part-reads
+use Rattle.sifc_word.proofs.part.Reads as part-reads
 use Rattle.sifc_symtab.proofs.token.unquoted.Reads as unquoted-reads
 
 -- src/token.rt:14:9

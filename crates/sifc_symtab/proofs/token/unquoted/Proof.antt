@@ -7,7 +7,7 @@ use Rattle.sifc_symtab.proofs.token.unquoted.Statement.{statement}
 use Rattle.sifc_symtab.proofs.token.unquoted.Tie as tie
 use Rattle.sifc_symtab.proofs.token.unquoted.Reads as reads
 use Rattle.sifc_symtab.proofs.token.unquoted.Lts as lts
-use Rattle.sifc_lex.proofs.part.Reads as part-reads
+use Rattle.sifc_word.proofs.part.Reads as part-reads
 
 -- src/token.rt:35:9
 part-requires : tie.Need-part-requires

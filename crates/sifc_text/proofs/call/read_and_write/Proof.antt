@@ -1,7 +1,7 @@
 use borrow.Author.Needs.{needs}
 use mathlib.Core.Path.{_∙_}
-use Rattle.sifc_read.specs.Parts.{arrays}
-use Rattle.sifc_read.specs.EntryLaws.{entered-is}
+use Rattle.sifc_lent.specs.Parts.{arrays}
+use Rattle.sifc_lent.specs.EntryLaws.{entered-is}
 use Rattle.sifc_text.proofs.Calls.{left-is, texts-is, refused-is}
 use Rattle.sifc_text.proofs.call.read_and_write.Statement.{statement}
 use Rattle.sifc_text.proofs.call.read_and_write.Tie as tie

@@ -4,7 +4,7 @@ use Rattle.sifc_text.proofs.call.text.Statement.{statement}
 use Rattle.sifc_text.proofs.call.text.Tie as tie
 use Rattle.sifc_text.proofs.call.text.Reads as reads
 use Rattle.sifc_text.proofs.call.text.Lts as lts
-use Rattle.sifc_read.proofs.entry_tests.Reads as entry-reads
+use Rattle.sifc_lent.proofs.entry_tests.Reads as entry-reads
 use Rattle.sifc_text.proofs.call.read_and_write.Reads as read-and-write-reads
 
 -- src/call.rt:102:9

@@ -6,7 +6,7 @@ use Rattle.sifc_text.proofs.call.write_found.Statement.{statement}
 use Rattle.sifc_text.proofs.call.write_found.Tie as tie
 use Rattle.sifc_text.proofs.call.write_found.Reads as reads
 use Rattle.sifc_text.proofs.call.write_found.Lts as lts
-use Rattle.sifc_read.proofs.clear_all.Reads as clear-all-reads
+use Rattle.sifc_lent.proofs.clear_all.Reads as clear-all-reads
 use Rattle.sifc_text.proofs.write.clear_from.Reads as clear-from-reads
 use Rattle.sifc_text.proofs.write.write_tree.Reads as write-tree-reads
 

@@ -4,7 +4,7 @@ use native.Mathlib.Omega.{arith}
 use mathlib.Core.Path.{_≡_, ap, _∙_}
 use mathlib.Core.List.{List}
 use lib.ListN.{length, set}
-use Rattle.sifc_lex.proofs.Clear.{cleared, length-cleared, cleared-none, cleared-more, cleared-all}
+use Rattle.sifc_tokens.proofs.Clear.{cleared, length-cleared, cleared-none, cleared-more, cleared-all}
 use Rattle.sifc_text.proofs.write.clear_from.Statement.{statement}
 use Rattle.sifc_text.proofs.write.clear_from.Tie as tie
 use Rattle.sifc_text.proofs.write.clear_from.Reads as reads

@@ -1,5 +1,5 @@
 use borrow.Author.Tests.{lt-ltb, le-ltb}
-use Rattle.sifc_lex.specs.Base.{if_then_else_}
+use Rattle.sifc_word.specs.Base.{if_then_else_}
 use Rattle.sifc_view.specs.View.{clipped}
 use Rattle.sifc_view.proofs.next.clip.Statement.{statement}
 use Rattle.sifc_view.proofs.next.clip.Tie as tie

@@ -11,7 +11,7 @@ use Rattle.sifc_view.proofs.next.next_at.Reads as reads
 use Rattle.sifc_view.proofs.next.next_at.Lts as lts
 use Rattle.sifc_lex.proofs.step_at.Reads as step-at-reads
 use Rattle.sifc_view.proofs.next.clip.Reads as clip-reads
-use Rattle.sifc_view.proofs.next.end_kind.Reads as end-kind-reads
+use Rattle.sifc_lex.proofs.end_kind.Reads as end-kind-reads
 
 abbrev Inv-loop : tie.InvT-loop
 Inv-loop script off at₀ at = (at ≤ length script) × (nextOf at (drop at script) ≡ nextAt script off)

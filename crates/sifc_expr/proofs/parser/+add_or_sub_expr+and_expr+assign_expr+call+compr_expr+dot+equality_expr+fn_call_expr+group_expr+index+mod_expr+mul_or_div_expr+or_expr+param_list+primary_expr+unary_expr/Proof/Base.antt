@@ -50,9 +50,9 @@ use Rattle.sifc_expr.proofs.parser.unary_expr.Reads as unary-expr
 use Rattle.sifc_expr.proofs.parser.unary_expr.Kinds as unary-expr-kinds
 use Rattle.sifc_expr.proofs.parser.+add_or_sub_expr+and_expr+assign_expr+call+compr_expr+dot+equality_expr+fn_call_expr+group_expr+index+mod_expr+mul_or_div_expr+or_expr+param_list+primary_expr+unary_expr.Lts-unary_expr as unary-expr-lts
 use Rattle.sifc_expr.proofs.parser.binds.Reads as binds-reads
-use Rattle.sifc_step.proofs.assign_to.Reads as assign-to-reads
-use Rattle.sifc_step.proofs.call_named.Reads as call-named-reads
-use Rattle.sifc_step.proofs.ident_expr.Reads as ident-expr-reads
+use Rattle.sifc_name.proofs.assign_to.Reads as assign-to-reads
+use Rattle.sifc_name.proofs.call_named.Reads as call-named-reads
+use Rattle.sifc_name.proofs.ident_expr.Reads as ident-expr-reads
 use Rattle.sifc_step.proofs.add_error.Reads as add-error-reads
 use Rattle.sifc_step.proofs.consume.Reads as consume-reads
 use Rattle.sifc_step.proofs.end_dot.Reads as end-dot-reads

@@ -53,8 +53,8 @@ use Rattle.sifc_step.proofs.store_name.Reads as store-name-reads
 use Rattle.sifc_step.proofs.with_count.Reads as with-count-reads
 use Rattle.sifc_stmt.proofs.var_decl.Reads as var-decl-reads
 use Rattle.sifc_stmt.proofs.expr_stmt.Reads as expr-stmt-reads
-use Rattle.sifc_stmt.proofs.ident_pair.Reads as ident-pair-reads
-use Rattle.sifc_stmt.proofs.param_list.Reads as param-list-reads
+use Rattle.sifc_declare.proofs.ident_pair.Reads as ident-pair-reads
+use Rattle.sifc_declare.proofs.param_list.Reads as param-list-reads
 use Rattle.sifc_stmt.proofs.ret_stmt.Reads as ret-stmt-reads
 use Prim.Native.Nat.{_*_, _+_}
 

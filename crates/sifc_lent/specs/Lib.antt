@@ -1,0 +1,4 @@
+pub mod EntryLaws
+pub mod LexedLaws
+pub mod PartLaws
+pub mod Parts

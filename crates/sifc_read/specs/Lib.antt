@@ -1,4 +1,0 @@
-pub mod Parts
-pub mod EntryLaws
-pub mod LexedLaws
-pub mod PartLaws

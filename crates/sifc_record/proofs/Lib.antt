@@ -1,0 +1,4 @@
+pub mod Made
+pub mod Again
+pub mod Turn
+pub mod While

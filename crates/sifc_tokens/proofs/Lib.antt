@@ -1,0 +1,4 @@
+pub mod Calls
+pub mod Clear
+pub mod Loading
+pub mod Greatest

@@ -1,0 +1,5 @@
+pub mod Base
+pub mod BaseLaws
+pub mod Kind
+pub mod Reserved
+pub mod Spelling
