@@ -1,7 +1,7 @@
 -- What clearing leaves of an array, and the tests of entry.
 use Prim.Native.Nat.{ℕ, _+_, _-_, _/_, _%_, _≤_, _<_}
 use mathlib.Core.Path.{_≡_, refl, sym, ap, ap₂, _∙_}
-use mathlib.Core.List.{List, _++_, map}
+use mathlib.Core.List.{List, [], _++_, map}
 use mathlib.Core.Bool.{Bool, true, false}
 use native.Mathlib.Omega.{arith}
 use lib.ListN.{length, take, drop, getD, replicate, length-append, length-drop, length-map}
@@ -15,8 +15,10 @@ use Rattle.sifc_word.specs.Base.{if_then_else_}
 use Rattle.sifc_lex.specs.Lex.{token}
 use Rattle.sifc_tokens.specs.Tokens.{padded, zeroed, checkOf}
 use Rattle.sifc_def.specs.State.{tokenAt}
-use Rattle.sifc_def.specs.Read.{Arrays, even, entry}
+use Rattle.sifc_def.specs.Read.{Arrays, clearedArrays, even, entry}
 use Rattle.sifc_symtab.specs.Toks.{toksOf, toks-at}
+use Rattle.sifc_lent.specs.Parts.{arrays}
+use Rattle.sifc_lent.specs.PartLaws.{same-arrays}
 
 pub front-kept : (a a′ : List ℕ) (n : ℕ) → n ≤ length a → a′ ≡ take n a ++ replicate (length a - n) 0 → a′ ≡ padded (take n a) (length a)
 unfolding padded
@@ -32,6 +34,12 @@ front-mapped f a a′ a″ n h e g =
     let l : length (map f (take n a)) ≡ n = length-map (take n a) f ∙ length-take-le n a h in
     let m : length a′ ≡ length a = ap length e ∙ length-append (map f (take n a)) (drop n a) ∙ (let z : length (map f (take n a)) + length (drop n a) ≡ length a = omega (arith, length-drop n a) in z) in
     g ∙ ap₂ padded (ap (take n) e ∙ take-at (map f (take n a)) (drop n a) n l) m
+
+-- what is left of the six arrays besides the symbol words, of which there are none
+pub six-cleared : (o w h l p r : List ℕ) {o′ w′ h′ l′ p′ r′ : List ℕ} → o′ ≡ zeroed o → w′ ≡ zeroed w → h′ ≡ zeroed h → l′ ≡ zeroed l → p′ ≡ zeroed p → r′ ≡ zeroed r
+    → arrays o′ w′ h′ l′ [] p′ r′ ≡ clearedArrays (arrays o w h l [] p r)
+unfolding zeroed
+six-cleared o w h l p r eo ew eh el ep er = same-arrays eo ew eh el refl ep er
 
 -- what the tests of entry come to, by that of the script and that of the lengths
 abbrev byTests : Checked → Bool → Checked

@@ -1,6 +1,6 @@
 -- The parts of the reading call together leave what the definition says.
 use Prim.Native.Nat.{ℕ, zero, suc, _+_, _-_, _/_, _%_, _≤_, _<_}
-use mathlib.Core.Path.{_≡_, refl, sym, ap, ap₂, _∙_}
+use mathlib.Core.Path.{_≡_, refl, sym, ap, ap₂, _∙_, subst}
 use mathlib.Core.List.{List, [], _∷_, _++_, map, reverse, reverse-cons, map-append}
 use mathlib.Core.Option.{Option, none, some}
 use mathlib.Core.Bool.{Bool, true, false}
@@ -16,6 +16,8 @@ use Rattle.sifc_tokens.specs.declared.place.Place.{Place}
 use Rattle.sifc_lex.specs.Lex.{lex, ending}
 use Rattle.sifc_tokens.specs.Place.{placeOf}
 use Rattle.sifc_tokens.specs.Tokens.{offsOf, wordsOf, padded, zeroed}
+use Rattle.sifc_tokens.specs.Loaded.{Used}
+use Rattle.sifc_tokens.specs.TokensLaws.{padded-used}
 use Rattle.sifc_def.specs.declared.Early.the-variants.{By}
 use Rattle.sifc_def.specs.declared.Err.{Err}
 use Rattle.sifc_def.specs.declared.Reading.the-variants as reading
@@ -256,7 +258,13 @@ module _ (s : List ℕ) (a b : Arrays) (d : Held s a b) where
 
       -- what the walk gave lies in the arrays
       pub fits-is : (r : Walked) → length s < 65536 → length (a .places) ≡ length (a .reasons) → Walks I (mem (a .symbols) (a .heads) (a .loads)) r (mem (b .symbols) (b .heads) (b .loads)) (b .places) (b .reasons) → Fits s b n r
-      fits-is r h e w = record { short = h; offs = omega (arith, is, long-offs, d .fits); words = omega (arith, is, long-words, d .fits, d .even); within = go r w }
+      fits-is r h e w =
+          record {
+            short = h;
+            offs = subst (Used n) (sym (d .offs)) (padded-used (offsOf (lex s)) n (length (a .offs)) (length-offs (lex s) ∙ sym is));
+            words = subst (Used n) (sym (d .words)) (padded-used (wordsOf (lex s)) n (length (a .words)) (length-words (lex s) ∙ sym is));
+            within = go r w;
+          }
         where
           go : (z : Walked) → Walks I (mem (a .symbols) (a .heads) (a .loads)) z (mem (b .symbols) (b .heads) (b .loads)) (b .places) (b .reasons) → WithinOf b z
           go (Refused f) v = tt

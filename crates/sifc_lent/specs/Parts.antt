@@ -8,6 +8,7 @@ use Rattle.sifc_err.specs.declared.Token.{Token}
 use Rattle.sifc_tokens.specs.declared.place.Place.{Place}
 use Rattle.sifc_tokens.specs.Place.{placeOf, walkedTo}
 use Rattle.sifc_tokens.specs.Tokens.{padded, zeroed}
+use Rattle.sifc_tokens.specs.Loaded.{Used}
 use Rattle.sifc_def.specs.declared.Reading.{Reading}
 use Rattle.sifc_def.specs.declared.Reading.the-variants as reading
 use Rattle.sifc_def.specs.declared.Summary.{Summary}
@@ -35,6 +36,15 @@ pub record Entered (s : List ℕ) (a : Arrays) : Type 0 where
   pub tokens : length (a .offs) ≡ length (a .words)
   pub nodes : length (a .heads) ≡ length (a .loads)
   pub errors : length (a .places) ≡ length (a .reasons)
+
+-- so many tokens, nodes and errors stand in the arrays, and all past them is 0
+pub record UsedBy (tokens nodes errors : ℕ) (a : Arrays) : Type 0 where
+  pub offs : Used tokens (a .offs)
+  pub words : Used tokens (a .words)
+  pub heads : Used nodes (a .heads)
+  pub loads : Used nodes (a .loads)
+  pub places : Used errors (a .places)
+  pub reasons : Used errors (a .reasons)
 
 -- ── places ──
 
@@ -71,11 +81,11 @@ abbrev pub WithinOf : Arrays → Walked → Type 0
 WithinOf a (Finished x flag last) = Within (x .nodes) (x .errors) (a .heads) (a .loads) (a .places) (a .reasons)
 WithinOf a (Refused f) = Unit {0}
 
--- the first n elements of the token arrays are the tokens, and the walk over them came to this
+-- the first n elements of the token arrays are the tokens, all past them is 0, and the walk over them came to this
 pub record Fits (s : List ℕ) (a : Arrays) (n : ℕ) (r : Walked) : Type 0 where
   pub short : length s < 65536
-  pub offs : n ≤ length (a .offs)
-  pub words : n ≤ length (a .words)
+  pub offs : Used n (a .offs)
+  pub words : Used n (a .words)
   pub within : WithinOf a r
 
 -- the answer of a walk over all of these tokens

@@ -7,6 +7,7 @@ mod place;
 
 pub use clear::clear as clear_array;
 pub use clear::clear_all;
+pub use clear::clear_used;
 pub use clear::keep;
 pub use entry::entry as entry_tests;
 pub use error::early_of;

@@ -18,6 +18,8 @@ use Rattle.sifc_lex.specs.declared.lex.LexAnswer.the-variants.{Ended, Full}
 use Rattle.sifc_word.specs.Base.{if_then_else_}
 use Rattle.sifc_lex.specs.Lex.{lex, ending, endAt}
 use Rattle.sifc_tokens.specs.Tokens.{offsOf, wordsOf, padded, zeroed, LexCall, lexCalled, lexCall}
+use Rattle.sifc_tokens.specs.Loaded.{Used}
+use Rattle.sifc_tokens.specs.TokensLaws.{zeroed-used}
 use Rattle.sifc_def.specs.declared.Reading.{Reading}
 use Rattle.sifc_def.specs.declared.Reading.the-variants as reading
 use Rattle.sifc_def.specs.Read.{Arrays, roomsOf, clearedArrays, even, entry, refused, faultOf, read, Called, called, answered, reading as readingOf}
@@ -116,6 +118,10 @@ module _ (s : List ℕ) (o w h l y p r : List ℕ) (a : Entered s (arrays o w h 
     walked e = e ∙ finish-is s (arrays o w h l y p r) (arrays o′ w′ h′ l′ y′ p′ r′) (held eh el ey ep er) n (d .count) (record { errors = length p; fault = k }) refl (fault-is k f) z (a .errors) v
 
 -- ── too many tokens ──
+
+-- no element of the token arrays is used
+pub none-used : {s o w o′ w′ : List ℕ} → Over s o w o′ w′ → Used 0 o′ × Used 0 w′
+none-used {s} {o} {w} d = (subst (Used 0) (sym (d .offs)) (zeroed-used o), subst (Used 0) (sym (d .words)) (zeroed-used w))
 
 zeroed-again : (x x′ : List ℕ) → x′ ≡ zeroed x → zeroed x′ ≡ zeroed x
 unfolding zeroed

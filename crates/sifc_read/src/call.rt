@@ -42,7 +42,7 @@ pub fn after_entry(
 {
     let lexed = lex_tokens(script, offs, words);
     let LexAnswer::Ended(n, ending, _) = lexed else {
-        clear_all(offs, words, heads, loads, symbols, places, reasons);
+        clear_all(offs, words, heads, loads, symbols, places, reasons, 0);
         return Reading::Refused(Refusal::TokensFull);
     };
     let lim = Limits {

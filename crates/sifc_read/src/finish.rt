@@ -84,7 +84,7 @@ pub fn finish(
             Reading::Read(summary_of(script, os, ws, w, flag, last))
         }
         Walked::Refused(refusal) => {
-            clear_all(offs, words, heads, loads, symbols, places, reasons);
+            clear_all(offs, words, heads, loads, symbols, places, reasons, n);
             Reading::Refused(refusal)
         }
     }

@@ -15,12 +15,15 @@ use Rattle.sifc_tokens.specs.declared.call.Checked.the-variants as check
 use Rattle.sifc_word.specs.Base.{if_then_else_}
 use Rattle.sifc_lex.specs.Lex.{lex}
 use Rattle.sifc_tokens.specs.Tokens.{offsOf, wordsOf, padded, zeroed}
+use Rattle.sifc_tokens.specs.Loaded.{Used}
+use Rattle.sifc_tokens.specs.TokensLaws.{padded-used}
 use Rattle.sifc_def.specs.declared.Reading.{Reading}
 use Rattle.sifc_def.specs.declared.Reading.the-variants as reading
 use Rattle.sifc_def.specs.declared.Summary.{Summary}
 use Rattle.sifc_def.specs.declared.Texting.{Texting}
 use Rattle.sifc_def.specs.declared.Texting.the-variants.{Wrote, Refused}
 use Rattle.sifc_def.specs.State.{Node}
+use Rattle.sifc_def.specs.Error.{errPlace, errReason}
 use Rattle.sifc_def.specs.Read.{Arrays, roomsOf, clearedArrays, entry, Found, Outcome, found, refused, ctxOf, read, headWord, Called, called, summary, filled, answered, Written, written, textFound, texted, textCall}
 use Rattle.sifc_def.specs.Typed.{Stmts, OkProgram, SaidSs}
 use Rattle.sifc_def.specs.Canon.Bytes as canon
@@ -29,14 +32,15 @@ use Rattle.sifc_def.specs.Canon.Demand3.{Shows, shows-text, found-same, Typed, 
 use Rattle.sifc_put.specs.Place.{Inp, inp}
 use Rattle.sifc_put.specs.Post.{SpotOf}
 use Rattle.sifc_put.specs.Spans.{SpansProgram}
-use Rattle.sifc_lent.specs.Parts.{arrays}
+use Rattle.sifc_lent.specs.Parts.{arrays, UsedBy}
 use Rattle.sifc_lent.specs.EntryLaws.{entry-same}
 use Rattle.sifc_lent.specs.LexedLaws.{length-offs, length-words, used-part}
 use Rattle.sifc_lent.specs.PartLaws.{zeroed-long, same-arrays}
 use Rattle.sifc_text.specs.Stands.{left}
 use Rattle.sifc_text.specs.Bridge.{bridge}
 use Rattle.sifc_text_stmt.specs.Kinds.{programL}
-use Rattle.sifc_text.specs.Post.{Buffered, buffered, fitted, Fronts, LeftBy, Left, Texts}
+use Rattle.sifc_write.specs.Front.{Buffered, buffered, fitted, Fronts}
+use Rattle.sifc_text.specs.Post.{LeftBy, Left, Texts}
 
 -- ── a program that is found ──
 
@@ -116,6 +120,28 @@ module _ (s o w h l y p r : List ℕ) (m : Summary) where
 
     pub in-loads : m .nodes ≤ length l
     in-loads = let a = z .lent in let f = z .what in omega (arith, nodes-is a f (z .by), length-map (f .nodes) (λ (n : Node). n .pay), padded-long (map (λ (n : Node). n .pay) (f .nodes)) (length (a .loads)), ap length (loads-is a f (z .by)))
+
+    -- What lies past them is 0.
+    pub used : UsedBy (m .tokens) (m .nodes) (m .errors) (arrays o w h l [] p r)
+    used =
+        let a = z .lent in
+        let f = z .what in
+        let c = ctxOf (roomsOf a) s in
+        let errs : length (f .errs) ≡ m .errors = sym (ap (λ (x : Summary). x .errors) (z .by .answer)) in
+        record {
+          offs = subst (Used (m .tokens)) (sym (offs-is a f (z .by))) (padded-used _ (m .tokens) (length (a .offs)) (length-offs (f .toks) ∙ sym (tokens-is a f (z .by))));
+          words = subst (Used (m .tokens)) (sym (words-is a f (z .by))) (padded-used _ (m .tokens) (length (a .words)) (length-words (f .toks) ∙ sym (tokens-is a f (z .by))));
+          heads = subst (Used (m .nodes)) (sym (heads-is a f (z .by))) (padded-used _ (m .nodes) (length (a .heads)) (length-map (f .nodes) headWord ∙ sym (nodes-is a f (z .by))));
+          loads = subst (Used (m .nodes)) (sym (loads-is a f (z .by))) (padded-used _ (m .nodes) (length (a .loads)) (length-map (f .nodes) (λ (n : Node). n .pay) ∙ sym (nodes-is a f (z .by))));
+          places = subst (Used (m .errors)) (sym (ap (λ (x : Arrays). x .places) (z .by .arrays))) (padded-used _ (m .errors) (length (a .places)) (length-map (f .errs) (errPlace c) ∙ errs));
+          reasons = subst (Used (m .errors)) (sym (ap (λ (x : Arrays). x .reasons) (z .by .arrays))) (padded-used _ (m .errors) (length (a .reasons)) (length-map (f .errs) (errReason c) ∙ errs));
+        }
+
+    -- The symbol words are 0 already, so all is where the other arrays are set to 0.
+    pub emptied : {o′ w′ h′ l′ p′ r′ : List ℕ} → arrays o′ w′ h′ l′ [] p′ r′ ≡ clearedArrays (arrays o w h l [] p r) → arrays o′ w′ h′ l′ y p′ r′ ≡ clearedArrays (arrays o w h l y p r)
+    emptied e =
+        let still : y ≡ zeroed y = ap (λ (x : Arrays). x .symbols) (z .by .arrays) ∙ sym (ap (λ (x : Arrays). x .symbols) (z .by .cleared)) in
+        same-arrays (ap (λ (x : Arrays). x .offs) e) (ap (λ (x : Arrays). x .words) e) (ap (λ (x : Arrays). x .heads) e) (ap (λ (x : Arrays). x .loads) e) still (ap (λ (x : Arrays). x .places) e) (ap (λ (x : Arrays). x .reasons) e)
 
     -- There is a program to write, where the flag is down.
     pub spot : {t : List ℕ} → m .flag ≡ false → SpotOf (programL (inp s (take (m .tokens) o) (take (m .tokens) w) (take (m .nodes) h) (take (m .nodes) l))) t (length (take (m .nodes) h)) (length t)

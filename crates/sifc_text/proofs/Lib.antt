@@ -1,4 +1,2 @@
-pub mod Moved
-pub mod Whole
 pub mod Calls
 pub mod Promises

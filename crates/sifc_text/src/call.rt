@@ -1,14 +1,14 @@
 // The text call.
-use crate::write::clear_from;
-use crate::write::write_tree;
 use sifc_def::Reading;
 use sifc_def::Summary;
 use sifc_def::Texting;
 use sifc_err::Refusal;
-use sifc_lent::clear_all;
+use sifc_lent::clear_used;
 use sifc_lent::entry_tests;
 use sifc_read::after_entry;
 use sifc_tokens::Checked;
+use sifc_write::clear_from;
+use sifc_write::write_tree;
 ghost use mathlib.Core.Path.{_≡_};
 ghost use Rattle.sifc_tokens.specs.declared.call.Checked.the-variants.{Fine};
 ghost use Rattle.sifc_def.specs.Read.{roomsOf, entry as entryOf, read, written, texted, textCall};
@@ -32,13 +32,24 @@ fn write_found(
     requires { ⌜ Left (now script) (arrays (now offs) (now words) (now heads) (now loads) (now symbols) (now places) (now reasons)) m ⌝ }
     ensures { λ r. ⌜ Texts (now (script .entry)) (arrays (now (offs .entry)) (now (words .entry)) (now (heads .entry)) (now (loads .entry)) (now (symbols .entry)) (now (places .entry)) (now (reasons .entry))) m (now (text .entry)) (written r (arrays (now (offs .exit)) (now (words .exit)) (now (heads .exit)) (now (loads .exit)) (now (symbols .exit)) (now (places .exit)) (now (reasons .exit))) (now (text .exit))) ⌝ }
 {
+    let tokens = m.tokens;
+    let nodes = m.nodes;
+    let errors = m.errors;
     if m.flag {
-        clear_all(offs, words, heads, loads, symbols, places, reasons);
+        clear_used(
+            offs,
+            words,
+            heads,
+            loads,
+            places,
+            reasons,
+            tokens,
+            nodes,
+            errors,
+        );
         clear_from(text, 0);
         return Texting::Refused(Refusal::Flagged);
     }
-    let tokens = m.tokens;
-    let nodes = m.nodes;
     let os = &offs[..tokens];
     let ws = &words[..tokens];
     let hs = &heads[..nodes];
@@ -47,7 +58,17 @@ fn write_found(
     match put {
         Texting::Wrote(n) => Texting::Wrote(n),
         Texting::Refused(refusal) => {
-            clear_all(offs, words, heads, loads, symbols, places, reasons);
+            clear_used(
+                offs,
+                words,
+                heads,
+                loads,
+                places,
+                reasons,
+                tokens,
+                nodes,
+                errors,
+            );
             Texting::Refused(refusal)
         }
     }

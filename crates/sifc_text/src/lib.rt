@@ -1,5 +1,4 @@
 // The text call: a reading, and the canonical text of the tree that it leaves.
 mod call;
-mod write;
 
 pub use call::text;

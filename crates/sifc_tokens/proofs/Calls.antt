@@ -20,8 +20,9 @@ use Rattle.sifc_tokens.specs.declared.call.Checked.the-variants as check
 use Rattle.sifc_tokens.specs.declared.call.TokensAnswer.the-variants.{Refused}
 use Rattle.sifc_word.specs.Base.{if_then_else_, span}
 use Rattle.sifc_lex.specs.Lex.{ascii, lex, ending, endAt}
-use Rattle.sifc_tokens.specs.Loaded.{Loaded, usedBy}
+use Rattle.sifc_tokens.specs.Loaded.{Loaded, usedBy, Used}
 use Rattle.sifc_tokens.specs.Tokens.{offsOf, wordsOf, tokenWord, padded, zeroed, LexCall, lexCalled, lexCall, checkOf, Answer, answerOf, TokensCall, tokensCalled, refusal, counted, byEnding, afterEntry, tokensCall}
+use Rattle.sifc_tokens.specs.TokensLaws.{padded-used}
 
 length-offs : (ts : List Token) → length (offsOf ts) ≡ length ts
 unfolding offsOf
@@ -41,7 +42,7 @@ unfolding padded
 front-padded a a′ used n m e k l c = c ∙ ap₂ (λ (x : List ℕ) (i : ℕ). x ++ replicate i 0) e (ap₂ (λ (x : ℕ) (y : ℕ). x - y) l k)
 
 -- a front of none is an array set to 0
-pub front-none : (a a′ b : List ℕ) → length a ≡ length b → a′ ≡ take 0 a ++ replicate (length a - 0) 0 → a′ ≡ zeroed b
+front-none : (a a′ b : List ℕ) → length a ≡ length b → a′ ≡ take 0 a ++ replicate (length a - 0) 0 → a′ ≡ zeroed b
 unfolding zeroed
 front-none a a′ b l c = c ∙ ap (λ (i : ℕ). replicate i 0) (let z : length a - 0 ≡ length b = omega arith in z)
 
@@ -123,6 +124,20 @@ module _ (s offs words offs′ words′ : List ℕ) (r : LexAnswer) (even : leng
           let po : offs′ ≡ padded (offsOf (lex s)) (length offs) = ap (λ (x : LexCall). x .offs) d in
           let pw : words′ ≡ padded (wordsOf (lex s)) (length words) = ap (λ (x : LexCall). x .words) d in
           cc
+
+  -- and so many elements of the arrays are used
+  pub entry-used : (n at : ℕ) (e : Ending) → r ≡ Ended n e at → Used n offs′ × Used n words′
+  unfolding lexCall if_then_else_
+  entry-used n at e is = go (ltb (length offs) (length (lex s))) c
+    where
+      go : (q : Bool) → lexCalled r offs′ words′ ≡ (if q then full s offs words else some s offs words) → Used n offs′ × Used n words′
+      go true d = absurd-answer n at e (sym (ap (λ (x : LexCall). x .answer) d) ∙ is)
+      go false d =
+          let a : Ended n e at ≡ Ended (length (lex s)) (ending s) (endAt s) = sym is ∙ ap (λ (x : LexCall). x .answer) d in
+          let k : length (lex s) ≡ n = cc in (
+            subst (Used n) (sym (ap (λ (x : LexCall). x .offs) d)) (padded-used (offsOf (lex s)) n (length offs) (length-offs (lex s) ∙ k)),
+            subst (Used n) (sym (ap (λ (x : LexCall). x .words) d)) (padded-used (wordsOf (lex s)) n (length words) (length-words (lex s) ∙ k)),
+          )
 
   pub entry-full : r ≡ Full → tokensCalled (refusal 4 0 0) offs′ words′ ≡ afterEntry s offs words
   unfolding afterEntry lexCall if_then_else_

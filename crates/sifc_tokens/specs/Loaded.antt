@@ -1,8 +1,8 @@
 -- What the loop over the turns leaves: the tokens in the front of the two arrays, or that they are too short.
-use Prim.Native.Nat.{ℕ, _≤_, _<_}
+use Prim.Native.Nat.{ℕ, _-_, _≤_, _<_}
 use mathlib.Core.Path.{_≡_}
-use mathlib.Core.List.{List}
-use lib.ListN.{length, take}
+use mathlib.Core.List.{List, _++_}
+use lib.ListN.{length, take, drop, replicate}
 use Rattle.sifc_err.specs.declared.Ending.{Ending}
 use Rattle.sifc_lex.specs.declared.lex.LexAnswer.{LexAnswer}
 use Rattle.sifc_lex.specs.declared.lex.LexAnswer.the-variants.{Ended, Full}
@@ -29,3 +29,12 @@ pub record Loaded (s offs words : List ℕ) (r : LexAnswer) (offs′ words′ : 
 abbrev pub usedBy : LexAnswer → ℕ
 usedBy (Ended n e at) = n
 usedBy Full = 0
+
+-- an array of which n elements are used: those past them are 0
+pub record Used (n : ℕ) (a : List ℕ) : Type 0 where
+  pub fits : n ≤ length a
+  pub past : drop n a ≡ replicate (length a - n) 0
+
+-- an array whose elements from n on are set to 0, as far as i
+abbrev pub cleared : List ℕ → ℕ → ℕ → List ℕ
+cleared a n i = (take n a ++ replicate (i - n) 0) ++ drop i a

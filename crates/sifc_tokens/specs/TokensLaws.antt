@@ -1,13 +1,14 @@
--- Laws of the tokens call's answer: its count and its offset are small, so that 32 bits hold them.
-use Prim.Native.Nat.{ℕ, zero, suc, _+_, _≤_, _<_}
-use mathlib.Core.Path.{_≡_, refl}
-use mathlib.Core.List.{List}
+-- Laws of the tokens call's answer: its count and its offset are small, so that 32 bits hold them. And of the arrays: what is padded is 0 past its elements.
+use Prim.Native.Nat.{ℕ, zero, suc, _+_, _-_, _≤_, _<_}
+use mathlib.Core.Path.{_≡_, refl, ap, _∙_}
+use mathlib.Core.List.{List, _++_}
 use mathlib.Core.Bool.{Bool, true, false, not}
 use native.Mathlib.Omega.{arith}
 use native.Mathlib.Nat.{not-suc-le-zero, zero-add}
 use borrow.Author.Tests.{ltb-false}
 use lib.Dec.{eqb, ltb}
-use lib.ListN.{length, drop, length-drop}
+use lib.ListN.{length, drop, replicate, length-drop, length-append, length-replicate}
+use lib.Seq.{drop-at}
 use Rattle.sifc_err.specs.declared.Ending.{Ending}
 use Rattle.sifc_err.specs.declared.Ending.the-variants.{TrueEnd, UnknownChar, UnterminatedString, Panic}
 use Rattle.sifc_lex.specs.declared.lex.Step.{Step}
@@ -16,7 +17,8 @@ use Rattle.sifc_word.specs.Base.{if_then_else_, span}
 use Rattle.sifc_word.specs.BaseLaws.{span-le, if-either}
 use Rattle.sifc_lex.specs.Lex.{ascii, Lexed, ended, onStep, step, lexFrom, lexed, lex, ending, endAt}
 use Rattle.sifc_lex.specs.LexLaws.{Fair, fair-step, lex-count}
-use Rattle.sifc_tokens.specs.Tokens.{Answer, TokensCall, tokensCalled, byEnding, afterEntry, tokensCall}
+use Rattle.sifc_tokens.specs.Tokens.{padded, zeroed, Answer, TokensCall, tokensCalled, byEnding, afterEntry, tokensCall}
+use Rattle.sifc_tokens.specs.Loaded.{Used}
 
 turn-ends : (next : ℕ → List ℕ → Lexed) (off n : ℕ) (s : List ℕ) → off + length s ≡ n → ((o : ℕ) (r : List ℕ) → length r < length s → o + length r ≡ n → next o r .at ≤ n)
     → (t : Step) → Fair (length s) t → onStep next off s t .at ≤ n
@@ -60,3 +62,20 @@ tokens-small s offs words =
     (λ q.
     let l = ltb-false 65535 (length s) q in
     if-either Small (ltb (span ascii s) (length s)) _ _ (λ p. let a = span-le ascii s in (omega arith, omega arith)) (λ p. small-entry s offs words l))
+
+-- Of what is padded, as many elements are used as there were.
+pub padded-used : (xs : List ℕ) (n m : ℕ) → length xs ≡ n → Used n (padded xs m)
+unfolding padded
+padded-used xs n m e =
+    let l = length-append xs (replicate (m - length xs) 0) in
+    let k = length-replicate {A = ℕ} (m - length xs) 0 in
+    let rest : m - length xs ≡ length (xs ++ replicate (m - length xs) 0) - n = omega arith in
+    record { fits = omega arith; past = drop-at xs (replicate (m - length xs) 0) n e ∙ ap (λ (i : ℕ). replicate i 0) rest }
+
+-- Of an array that is set to 0, none is.
+pub zeroed-used : (a : List ℕ) → Used 0 (zeroed a)
+unfolding zeroed
+zeroed-used a =
+    let k = length-replicate {A = ℕ} (length a) 0 in
+    let rest : length a ≡ length (replicate {A = ℕ} (length a) 0) - 0 = omega arith in
+    record { fits = omega arith; past = ap (λ (i : ℕ). replicate i 0) rest }

@@ -11,8 +11,8 @@ ghost use mathlib.Core.Path.{_≡_};
 ghost use mathlib.Core.List.{_++_};
 ghost use Prim.Native.Nat.{_+_, _*_, _-_, _≤_, _<_};
 ghost use lib.ListN.{length, take, set, replicate};
-ghost use Rattle.sifc_tokens.specs.Tokens.{lexCalled, lexCall, checkOf, tokensCalled, answerOf, afterEntry, byEnding, tokensCall};
-ghost use Rattle.sifc_tokens.specs.Loaded.{Loaded, usedBy};
+ghost use Rattle.sifc_tokens.specs.Tokens.{zeroed, lexCalled, lexCall, checkOf, tokensCalled, answerOf, afterEntry, byEnding, tokensCall};
+ghost use Rattle.sifc_tokens.specs.Loaded.{Loaded, usedBy, Used, cleared};
 ghost use Rattle.sifc_lex.specs.Class.{greatestFrom};
 
 // What the tokens call answers.
@@ -27,16 +27,32 @@ pub enum Checked {
     Refused(Refusal),
 }
 
+// Sets the elements from one on to 0, as far as another.
+fn clear_part(a: &mut [u32], from: usize, to: usize)
+    requires { ⌜ (from ≤ to) × (to ≤ length (now a)) ⌝ }
+    ensures { λ _. ⌜ now (a .exit) ≡ cleared (now (a .entry)) from to ⌝ }
+{
+    let mut i = from;
+    while i < to {
+        a[i] = 0;
+        i += 1;
+    }
+}
+
 // Sets the elements from n on to 0.
 pub fn clear_from(a: &mut [u32], n: usize)
     requires { ⌜ n ≤ length (now a) ⌝ }
     ensures { λ _. ⌜ now (a .exit) ≡ take n (now (a .entry)) ++ replicate (length (now (a .entry)) - n) 0 ⌝ }
 {
-    let mut i = n;
-    while i < a.len() {
-        a[i] = 0;
-        i += 1;
-    }
+    clear_part(a, n, a.len());
+}
+
+// Sets every element to 0, where those from n on are 0 already: so none is written twice.
+pub fn clear_front(a: &mut [u32], n: usize)
+    requires { ⌜ Used n (now a) ⌝ }
+    ensures { λ _. ⌜ now (a .exit) ≡ zeroed (now (a .entry)) ⌝ }
+{
+    clear_part(a, 0, n);
 }
 
 // Stores the two words of a token.
@@ -139,7 +155,8 @@ pub fn check_script(script: &[u8]) -> Checked
     Checked::Fine
 }
 
-// What the ending of the tokens makes of the call: a lexing panic is refusal 5.
+// What the ending of the tokens makes of the call, where n elements of the arrays are used: a lexing
+// panic is refusal 5.
 fn by_ending(
     offs: &mut [u32],
     words: &mut [u32],
@@ -147,6 +164,7 @@ fn by_ending(
     ending: Ending,
     at: usize,
 ) -> TokensAnswer
+    requires { ⌜ Used n (now offs) × Used n (now words) ⌝ }
     ensures { λ r. ⌜ tokensCalled (answerOf r) (now (offs .exit)) (now (words .exit)) ≡ byEnding ending n at (now (offs .entry)) (now (words .entry)) ⌝ }
 {
     match ending {
@@ -154,8 +172,8 @@ fn by_ending(
         Ending::UnknownChar => TokensAnswer::Count(n),
         Ending::UnterminatedString => TokensAnswer::Count(n),
         Ending::Panic(kind) => {
-            clear_from(offs, 0);
-            clear_from(words, 0);
+            clear_front(offs, n);
+            clear_front(words, n);
             TokensAnswer::Refused(Refusal::SourceFault(kind, at))
         }
     }

@@ -6,6 +6,7 @@ pub use call::Checked;
 pub use call::TokensAnswer;
 pub use call::check_script;
 pub use call::clear_from;
+pub use call::clear_front;
 pub use call::lex_tokens;
 pub use call::tokens;
 pub use place::Place;

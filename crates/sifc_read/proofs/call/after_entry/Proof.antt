@@ -1,7 +1,7 @@
 use borrow.Author.Needs.{needs}
 use mathlib.Core.Path.{sym, _∙_}
 use lib.Seq.{length-take-le}
-use Rattle.sifc_read.proofs.Calls.{loaded, over, in-offs, in-words, starts, fits, walked, full}
+use Rattle.sifc_read.proofs.Calls.{loaded, over, in-offs, in-words, starts, fits, walked, none-used, full}
 use Rattle.sifc_read.proofs.call.after_entry.Statement.{statement}
 use Rattle.sifc_read.proofs.call.after_entry.Tie as tie
 use Rattle.sifc_read.proofs.call.after_entry.Reads as reads
@@ -26,7 +26,11 @@ enum-told c = search needs
 
 -- src/call.rt:45:9
 clear-all-requires : tie.Need-clear-all-requires
-clear-all-requires c κs = search needs
+clear-all-requires c κs =
+    let c-enum-told = c .before .before .before .before .before .before .before in
+    let c-lex-tokens = c-enum-told .before .before .before .before .before .before in
+    let start = c-lex-tokens .before .before .before .before .before .before .before .before .before .before .before in
+    none-used (over (start .args .script .now) (start .args .offs .now) (start .args .words .now) (c-lex-tokens .lex-tokens .ensures) (c-enum-told .enum-told .given .1))
 
 -- src/call.rt:46:9
 same-length : tie.Need-same-length

@@ -17,23 +17,27 @@ enum-known-walked c = search needs
 
 -- src/finish.rt:81:22
 slice-reshare-prefix-os : tie.Need-slice-reshare-prefix-os
-slice-reshare-prefix-os c = search needs
+slice-reshare-prefix-os c =
+    let start = c .before .before .before .before .before .before .before .before .before .before .before in
+    start .pre .offs .fits
 
 -- src/finish.rt:81:17
 slice-aggregate-os : tie.Need-slice-aggregate-os
 slice-aggregate-os c =
     let start = c .before .before .before .before .before .before .before .before .before .before .before .before in
-    sym (length-take-le (start .args .n) (start .args .offs .now) (start .pre .offs))
+    sym (length-take-le (start .args .n) (start .args .offs .now) (start .pre .offs .fits))
 
 -- src/finish.rt:82:22
 slice-reshare-prefix-ws : tie.Need-slice-reshare-prefix-ws
-slice-reshare-prefix-ws c = search needs
+slice-reshare-prefix-ws c =
+    let start = c .before .before .before .before .before .before .before .before .before .before .before .before in
+    start .pre .words .fits
 
 -- src/finish.rt:82:17
 slice-aggregate-ws : tie.Need-slice-aggregate-ws
 slice-aggregate-ws c =
     let start = c .before .before .before .before .before .before .before .before .before .before .before .before .before in
-    sym (length-take-le (start .args .n) (start .args .words .now) (start .pre .words))
+    sym (length-take-le (start .args .n) (start .args .words .now) (start .pre .words .fits))
 
 -- src/finish.rt:83:13
 settle-requires : tie.Need-settle-requires
@@ -52,7 +56,9 @@ enum-known-walked-2 c = search needs
 
 -- src/finish.rt:87:13
 clear-all-requires : tie.Need-clear-all-requires
-clear-all-requires c κs = search needs
+clear-all-requires c κs =
+    let start = c .before .before .before .before .before .before .before .before .before .before .before .before .before .before .before .before .before .before in
+    (start .pre .offs, start .pre .words)
 
 -- src/finish.rt:64:1
 same-length : tie.Need-same-length

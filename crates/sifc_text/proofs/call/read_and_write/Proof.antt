@@ -9,7 +9,7 @@ use Rattle.sifc_text.proofs.call.read_and_write.Reads as reads
 use Rattle.sifc_text.proofs.call.read_and_write.Lts as lts
 use Rattle.sifc_read.proofs.after_entry.Reads as after-entry-reads
 use Rattle.sifc_text.proofs.call.write_found.Reads as write-found-reads
-use Rattle.sifc_text.proofs.write.clear_from.Reads as clear-from-reads
+use Rattle.sifc_write.proofs.clear_from.Reads as clear-from-reads
 
 -- src/call.rt:71:9
 after-entry-requires : tie.Need-after-entry-requires

@@ -1,130 +1,134 @@
 use borrow.Author.Needs.{needs}
 use mathlib.Core.Path.{sym}
 use lib.Seq.{length-take-le}
-use Rattle.sifc_text.proofs.Calls.{in-offs, in-words, in-nodes, in-loads, spot, flagged, wrote, full}
+use Rattle.sifc_text.proofs.Calls.{in-offs, in-words, in-nodes, in-loads, used, emptied, spot, flagged, wrote, full}
 use Rattle.sifc_text.proofs.call.write_found.Statement.{statement}
 use Rattle.sifc_text.proofs.call.write_found.Tie as tie
 use Rattle.sifc_text.proofs.call.write_found.Reads as reads
 use Rattle.sifc_text.proofs.call.write_found.Lts as lts
-use Rattle.sifc_lent.proofs.clear_all.Reads as clear-all-reads
-use Rattle.sifc_text.proofs.write.clear_from.Reads as clear-from-reads
-use Rattle.sifc_text.proofs.write.write_tree.Reads as write-tree-reads
+use Rattle.sifc_lent.proofs.clear_used.Reads as clear-used-reads
+use Rattle.sifc_write.proofs.clear_from.Reads as clear-from-reads
+use Rattle.sifc_write.proofs.write_tree.Reads as write-tree-reads
 
--- src/call.rt:36:9
-clear-all-requires : tie.Need-clear-all-requires
-clear-all-requires c κs = search needs
+-- src/call.rt:39:9
+clear-used-requires : tie.Need-clear-used-requires
+clear-used-requires c κs =
+    let start = c .before .before .before .before .before .before .before .before .before .before .before .before .before .before .before .before in
+    used (start .args .script .now) (start .args .offs .now) (start .args .words .now) (start .args .heads .now) (start .args .loads .now) (start .args .symbols .now) (start .args .places .now) (start .args .reasons .now) (start .args .m) (start .pre)
 
--- src/call.rt:37:9
+-- src/call.rt:50:9
 clear-from-requires : tie.Need-clear-from-requires
 clear-from-requires c κs = search needs
 
--- src/call.rt:38:9
+-- src/call.rt:51:9
 same-length : tie.Need-same-length
 same-length c = search needs
 
--- src/call.rt:38:9
+-- src/call.rt:51:9
 same-length-2 : tie.Need-same-length-2
 same-length-2 c = search needs
 
--- src/call.rt:38:9
+-- src/call.rt:51:9
 same-length-3 : tie.Need-same-length-3
 same-length-3 c = search needs
 
--- src/call.rt:38:9
+-- src/call.rt:51:9
 same-length-4 : tie.Need-same-length-4
 same-length-4 c = search needs
 
--- src/call.rt:38:9
+-- src/call.rt:51:9
 same-length-5 : tie.Need-same-length-5
 same-length-5 c = search needs
 
--- src/call.rt:38:9
+-- src/call.rt:51:9
 same-length-6 : tie.Need-same-length-6
 same-length-6 c = search needs
 
--- src/call.rt:38:9
+-- src/call.rt:51:9
 same-length-7 : tie.Need-same-length-7
 same-length-7 c = search needs
 
--- src/call.rt:38:9
-same-length-8 : tie.Need-same-length-8
-same-length-8 c = search needs
-
--- src/call.rt:38:9
+-- src/call.rt:51:9
 returns : tie.Need-returns
 returns c =
     let c-clear-from = c .before .before in
-    let c-clear-all = c-clear-from .before .before .before .before .before .before .before .before .before .before .before .before .before .before .before .before in
-    let c-if1 = c-clear-all .before .before .before .before .before .before .before .before in
+    let c-clear-used = c-clear-from .before .before .before .before .before .before .before .before .before .before .before .before .before .before in
+    let c-if1 = c-clear-used .before .before .before .before .before .before .before in
     let start = c-if1 .before .before .before .before .before .before .before .before .before .before in
-    flagged (start .args .script .now) (start .args .offs .now) (start .args .words .now) (start .args .heads .now) (start .args .loads .now) (start .args .symbols .now) (start .args .places .now) (start .args .reasons .now) (start .args .m) (c-if1 .if1 .taken) (c-clear-all .clear-all .ensures) (c-clear-from .clear-from .ensures)
+    flagged (start .args .script .now) (start .args .offs .now) (start .args .words .now) (start .args .heads .now) (start .args .loads .now) (start .args .symbols .now) (start .args .places .now) (start .args .reasons .now) (start .args .m) (c-if1 .if1 .taken) (emptied (start .args .script .now) (start .args .offs .now) (start .args .words .now) (start .args .heads .now) (start .args .loads .now) (start .args .symbols .now) (start .args .places .now) (start .args .reasons .now) (start .args .m) (start .pre) (c-clear-used .clear-used .ensures)) (c-clear-from .clear-from .ensures)
 
--- src/call.rt:42:14
+-- src/call.rt:53:14
 slice-reshare-prefix-os : tie.Need-slice-reshare-prefix-os
 slice-reshare-prefix-os c =
     let start = c .before .before .before .before .before .before .before .before .before .before in
     in-offs (start .args .script .now) (start .args .offs .now) (start .args .words .now) (start .args .heads .now) (start .args .loads .now) (start .args .symbols .now) (start .args .places .now) (start .args .reasons .now) (start .args .m) (start .pre)
 
--- src/call.rt:42:9
+-- src/call.rt:53:9
 slice-aggregate-os : tie.Need-slice-aggregate-os
 slice-aggregate-os c =
     let start = c .before .before .before .before .before .before .before .before .before .before .before in
     sym (length-take-le _ _ (in-offs (start .args .script .now) (start .args .offs .now) (start .args .words .now) (start .args .heads .now) (start .args .loads .now) (start .args .symbols .now) (start .args .places .now) (start .args .reasons .now) (start .args .m) (start .pre)))
 
--- src/call.rt:43:14
+-- src/call.rt:54:14
 slice-reshare-prefix-ws : tie.Need-slice-reshare-prefix-ws
 slice-reshare-prefix-ws c =
     let start = c .before .before .before .before .before .before .before .before .before .before .before in
     in-words (start .args .script .now) (start .args .offs .now) (start .args .words .now) (start .args .heads .now) (start .args .loads .now) (start .args .symbols .now) (start .args .places .now) (start .args .reasons .now) (start .args .m) (start .pre)
 
--- src/call.rt:43:9
+-- src/call.rt:54:9
 slice-aggregate-ws : tie.Need-slice-aggregate-ws
 slice-aggregate-ws c =
     let start = c .before .before .before .before .before .before .before .before .before .before .before .before in
     sym (length-take-le _ _ (in-words (start .args .script .now) (start .args .offs .now) (start .args .words .now) (start .args .heads .now) (start .args .loads .now) (start .args .symbols .now) (start .args .places .now) (start .args .reasons .now) (start .args .m) (start .pre)))
 
--- src/call.rt:44:14
+-- src/call.rt:55:14
 slice-reshare-prefix-hs : tie.Need-slice-reshare-prefix-hs
 slice-reshare-prefix-hs c =
     let start = c .before .before .before .before .before .before .before .before .before .before .before .before in
     in-nodes (start .args .script .now) (start .args .offs .now) (start .args .words .now) (start .args .heads .now) (start .args .loads .now) (start .args .symbols .now) (start .args .places .now) (start .args .reasons .now) (start .args .m) (start .pre)
 
--- src/call.rt:44:9
+-- src/call.rt:55:9
 slice-aggregate-hs : tie.Need-slice-aggregate-hs
 slice-aggregate-hs c =
     let start = c .before .before .before .before .before .before .before .before .before .before .before .before .before in
     sym (length-take-le _ _ (in-nodes (start .args .script .now) (start .args .offs .now) (start .args .words .now) (start .args .heads .now) (start .args .loads .now) (start .args .symbols .now) (start .args .places .now) (start .args .reasons .now) (start .args .m) (start .pre)))
 
--- src/call.rt:45:14
+-- src/call.rt:56:14
 slice-reshare-prefix-ls : tie.Need-slice-reshare-prefix-ls
 slice-reshare-prefix-ls c =
     let start = c .before .before .before .before .before .before .before .before .before .before .before .before .before in
     in-loads (start .args .script .now) (start .args .offs .now) (start .args .words .now) (start .args .heads .now) (start .args .loads .now) (start .args .symbols .now) (start .args .places .now) (start .args .reasons .now) (start .args .m) (start .pre)
 
--- src/call.rt:45:9
+-- src/call.rt:56:9
 slice-aggregate-ls : tie.Need-slice-aggregate-ls
 slice-aggregate-ls c =
     let start = c .before .before .before .before .before .before .before .before .before .before .before .before .before .before in
     sym (length-take-le _ _ (in-loads (start .args .script .now) (start .args .offs .now) (start .args .words .now) (start .args .heads .now) (start .args .loads .now) (start .args .symbols .now) (start .args .places .now) (start .args .reasons .now) (start .args .m) (start .pre)))
 
--- src/call.rt:46:9
+-- src/call.rt:57:9
 write-tree-requires : tie.Need-write-tree-requires
 write-tree-requires c κs =
     let c-if1 = c .before .before .before .before .before in
     let start = c-if1 .before .before .before .before .before .before .before .before .before .before in
     spot (start .args .script .now) (start .args .offs .now) (start .args .words .now) (start .args .heads .now) (start .args .loads .now) (start .args .symbols .now) (start .args .places .now) (start .args .reasons .now) (start .args .m) (start .pre) (c-if1 .if1 .left)
 
--- src/call.rt:48:24
+-- src/call.rt:59:24
 enum-known-put : tie.Need-enum-known-put
 enum-known-put c = search needs
 
--- src/call.rt:49:26
+-- src/call.rt:60:26
 enum-known-put-2 : tie.Need-enum-known-put-2
 enum-known-put-2 c = search needs
 
--- src/call.rt:50:13
-clear-all-requires-2 : tie.Need-clear-all-requires-2
-clear-all-requires-2 c κs = search needs
+-- src/call.rt:61:13
+clear-used-requires-2 : tie.Need-clear-used-requires-2
+clear-used-requires-2 c κs =
+    let start = c .before .before .before .before .before .before .before .before .before .before .before .before .before .before .before .before .before .before .before .before .before .before .before .before .before .before .before in
+    used (start .args .script .now) (start .args .offs .now) (start .args .words .now) (start .args .heads .now) (start .args .loads .now) (start .args .symbols .now) (start .args .places .now) (start .args .reasons .now) (start .args .m) (start .pre)
+
+-- src/call.rt:20:1
+same-length-8 : tie.Need-same-length-8
+same-length-8 c = search needs
 
 -- src/call.rt:20:1
 same-length-9 : tie.Need-same-length-9
@@ -143,10 +147,6 @@ same-length-12 : tie.Need-same-length-12
 same-length-12 c = search needs
 
 -- src/call.rt:20:1
-same-length-13 : tie.Need-same-length-13
-same-length-13 c = search needs
-
--- src/call.rt:20:1
 returns-2 : tie.Need-returns-2
 returns-2 c =
     let c-put = c .before in
@@ -154,6 +154,10 @@ returns-2 c =
     let c-if1 = c-write-tree .before .before .before .before .before .before in
     let start = c-if1 .before .before .before .before .before .before .before .before .before .before in
     wrote (start .args .script .now) (start .args .offs .now) (start .args .words .now) (start .args .heads .now) (start .args .loads .now) (start .args .symbols .now) (start .args .places .now) (start .args .reasons .now) (start .args .m) (c-if1 .if1 .left) (c-write-tree .write-tree .ensures) (c-put .put .given .1)
+
+-- src/call.rt:20:1
+same-length-13 : tie.Need-same-length-13
+same-length-13 c = search needs
 
 -- src/call.rt:20:1
 same-length-14 : tie.Need-same-length-14
@@ -180,28 +184,20 @@ same-length-19 : tie.Need-same-length-19
 same-length-19 c = search needs
 
 -- src/call.rt:20:1
-same-length-20 : tie.Need-same-length-20
-same-length-20 c = search needs
-
--- src/call.rt:20:1
-same-length-21 : tie.Need-same-length-21
-same-length-21 c = search needs
-
--- src/call.rt:20:1
 returns-3 : tie.Need-returns-3
 returns-3 c =
-    let c-clear-all2 = c .before .before .before .before .before .before .before .before .before .before .before .before .before .before in
-    let c-put2 = c-clear-all2 .before .before .before .before .before .before .before .before .before in
+    let c-clear-used2 = c .before .before .before .before .before .before .before .before .before .before .before .before in
+    let c-put2 = c-clear-used2 .before .before .before .before .before .before .before .before in
     let c-write-tree = c-put2 .before .before .before .before in
     let c-if1 = c-write-tree .before .before .before .before .before .before in
     let start = c-if1 .before .before .before .before .before .before .before .before .before .before in
-    full (start .args .script .now) (start .args .offs .now) (start .args .words .now) (start .args .heads .now) (start .args .loads .now) (start .args .symbols .now) (start .args .places .now) (start .args .reasons .now) (start .args .m) (c-if1 .if1 .left) (c-write-tree .write-tree .ensures) (c-put2 .put2 .given .1) (c-clear-all2 .clear-all2 .ensures)
+    full (start .args .script .now) (start .args .offs .now) (start .args .words .now) (start .args .heads .now) (start .args .loads .now) (start .args .symbols .now) (start .args .places .now) (start .args .reasons .now) (start .args .m) (c-if1 .if1 .left) (c-write-tree .write-tree .ensures) (c-put2 .put2 .given .1) (emptied (start .args .script .now) (start .args .offs .now) (start .args .words .now) (start .args .heads .now) (start .args .loads .now) (start .args .symbols .now) (start .args .places .now) (start .args .reasons .now) (start .args .m) (start .pre) (c-clear-used2 .clear-used2 .ensures))
 
 pub write-found-spec : {M : Type 1} → statement M
 write-found-spec =
     tie.close
     (tie.spec
-    clear-all-requires
+    clear-used-requires
     clear-from-requires
     same-length
     same-length-2
@@ -210,7 +206,6 @@ write-found-spec =
     same-length-5
     same-length-6
     same-length-7
-    same-length-8
     returns
     slice-reshare-prefix-os
     slice-aggregate-os
@@ -223,19 +218,18 @@ write-found-spec =
     write-tree-requires
     enum-known-put
     enum-known-put-2
-    clear-all-requires-2
+    clear-used-requires-2
+    same-length-8
     same-length-9
     same-length-10
     same-length-11
     same-length-12
-    same-length-13
     returns-2
+    same-length-13
     same-length-14
     same-length-15
     same-length-16
     same-length-17
     same-length-18
     same-length-19
-    same-length-20
-    same-length-21
     returns-3)

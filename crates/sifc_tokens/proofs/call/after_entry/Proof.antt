@@ -1,6 +1,6 @@
 use borrow.Author.Needs.{needs}
 use mathlib.Core.Path.{_≡_, _∙_}
-use Rattle.sifc_tokens.proofs.Calls.{entry-uneven, entry-ended, entry-full}
+use Rattle.sifc_tokens.proofs.Calls.{entry-uneven, entry-ended, entry-used, entry-full}
 use Rattle.sifc_tokens.proofs.call.after_entry.Statement.{statement}
 use Rattle.sifc_tokens.proofs.call.after_entry.Tie as tie
 use Rattle.sifc_tokens.proofs.call.after_entry.Reads as reads
@@ -24,7 +24,12 @@ enum-known-lexed c = search needs
 
 -- src/tokens.rt:151:44
 by-ending-requires : tie.Need-by-ending-requires
-by-ending-requires c κs = search needs
+by-ending-requires c κs =
+    let c-lexed = c .before .before .before in
+    let c-lex-tokens = c-lexed .before .before .before .before .before .before in
+    let c-if1 = c-lex-tokens .before .before .before in
+    let start = c-if1 .before .before .before .before in
+    entry-used (start .args .script .now) (start .args .offs .now) (start .args .words .now) _ _ _ (c-if1 .if1 .left) (c-lex-tokens .lex-tokens .ensures) _ _ _ (c-lexed .lexed .given .1)
 
 -- src/tokens.rt:152:50
 enum-told : tie.Need-enum-told

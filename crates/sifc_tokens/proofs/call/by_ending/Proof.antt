@@ -3,12 +3,11 @@ use Prim.Native.Nat.{ℕ}
 use mathlib.Core.Path.{_≡_, refl, ap₂}
 use mathlib.Core.List.{List}
 use Rattle.sifc_tokens.specs.Tokens.{byEnding, tokensCalled, refusal}
-use Rattle.sifc_tokens.proofs.Calls.{front-none}
 use Rattle.sifc_tokens.proofs.call.by_ending.Statement.{statement}
 use Rattle.sifc_tokens.proofs.call.by_ending.Tie as tie
 use Rattle.sifc_tokens.proofs.call.by_ending.Reads as reads
 use Rattle.sifc_tokens.proofs.call.by_ending.Lts as lts
-use Rattle.sifc_tokens.proofs.call.clear_from.Reads as clear-from-reads
+use Rattle.sifc_tokens.proofs.call.clear_front.Reads as clear-front-reads
 
 -- src/tokens.rt:130:28
 enum-told : tie.Need-enum-told
@@ -27,12 +26,12 @@ enum-known-ending : tie.Need-enum-known-ending
 enum-known-ending c = search needs
 
 -- src/tokens.rt:134:13
-clear-from-requires : tie.Need-clear-from-requires
-clear-from-requires c κs = search needs
+clear-front-requires : tie.Need-clear-front-requires
+clear-front-requires c κs = search needs
 
 -- src/tokens.rt:135:13
-clear-from-requires-2 : tie.Need-clear-from-requires-2
-clear-from-requires-2 c κs = search needs
+clear-front-requires-2 : tie.Need-clear-front-requires-2
+clear-front-requires-2 c κs = search needs
 
 -- src/tokens.rt:120:1
 returns : tie.Need-returns
@@ -61,11 +60,11 @@ same-length-2 c = search needs
 returns-4 : tie.Need-returns-4
 unfolding byEnding
 returns-4 c =
-    let c-clear-from2 = c .before .before in
-    let c-clear-from = c-clear-from2 .before .before .before .before in
-    let c-ending = c-clear-from .before .before .before in
+    let c-clear-front2 = c .before .before in
+    let c-clear-front = c-clear-front2 .before .before .before .before in
+    let c-ending = c-clear-front .before .before .before in
     let start = c-ending .before .before .before .before in
-    rw (c-ending .ending .given .1) (ap₂ (λ (o : List ℕ) (w : List ℕ). tokensCalled (refusal 5 (c-ending .ending .given .0 .0) (start .args .at)) o w) (front-none (start .args .offs .now) _ (start .args .offs .now) refl (c-clear-from .clear-from .ensures)) (front-none (start .args .words .now) _ (start .args .words .now) refl (c-clear-from2 .clear-from2 .ensures)))
+    rw (c-ending .ending .given .1) (ap₂ (λ (o : List ℕ) (w : List ℕ). tokensCalled (refusal 5 (c-ending .ending .given .0 .0) (start .args .at)) o w) (c-clear-front .clear-front .ensures) (c-clear-front2 .clear-front2 .ensures))
 
 pub by-ending-spec : {M : Type 1} → statement M
 by-ending-spec =
@@ -75,8 +74,8 @@ by-ending-spec =
     enum-told-2
     enum-told-3
     enum-known-ending
-    clear-from-requires
-    clear-from-requires-2
+    clear-front-requires
+    clear-front-requires-2
     returns
     returns-2
     returns-3

@@ -4,11 +4,12 @@ use native.Mathlib.Omega.{arith}
 use mathlib.Core.Path.{_≡_, ap, _∙_}
 use mathlib.Core.List.{List}
 use lib.ListN.{length, set}
-use Rattle.sifc_tokens.proofs.Clear.{cleared, length-cleared, cleared-none, cleared-more, cleared-all}
-use Rattle.sifc_text.proofs.write.clear_from.Statement.{statement}
-use Rattle.sifc_text.proofs.write.clear_from.Tie as tie
-use Rattle.sifc_text.proofs.write.clear_from.Reads as reads
-use Rattle.sifc_text.proofs.write.clear_from.Lts as lts
+use Rattle.sifc_tokens.specs.Loaded.{cleared}
+use Rattle.sifc_tokens.proofs.Clear.{length-cleared, cleared-none, cleared-more, cleared-all}
+use Rattle.sifc_write.proofs.write.clear_from.Statement.{statement}
+use Rattle.sifc_write.proofs.write.clear_from.Tie as tie
+use Rattle.sifc_write.proofs.write.clear_from.Reads as reads
+use Rattle.sifc_write.proofs.write.clear_from.Lts as lts
 
 abbrev Inv-loop : tie.InvT-loop
 Inv-loop text₀ n i₀ text i = (n ≤ i) × (i ≤ length text₀) × (text ≡ cleared text₀ n i)

@@ -5,12 +5,12 @@ use mathlib.Core.Path.{_≡_, ap, _∙_}
 use mathlib.Core.List.{List, _++_}
 use lib.ListN.{length, getD, set, take, replicate}
 use Prim.Native.Nat.{ℕ}
-use Rattle.sifc_text.proofs.Moved.{moved, moved-none, length-moved, moved-more, moved-all}
-use Rattle.sifc_text.proofs.write.shift.Statement.{statement}
-use Rattle.sifc_text.proofs.write.shift.Tie as tie
-use Rattle.sifc_text.proofs.write.shift.Reads as reads
-use Rattle.sifc_text.proofs.write.shift.Lts as lts
-use Rattle.sifc_text.proofs.write.clear_from.Reads as clear-from-reads
+use Rattle.sifc_write.proofs.Moved.{moved, moved-none, length-moved, moved-more, moved-all}
+use Rattle.sifc_write.proofs.write.shift.Statement.{statement}
+use Rattle.sifc_write.proofs.write.shift.Tie as tie
+use Rattle.sifc_write.proofs.write.shift.Reads as reads
+use Rattle.sifc_write.proofs.write.shift.Lts as lts
+use Rattle.sifc_write.proofs.write.clear_from.Reads as clear-from-reads
 
 abbrev Inv-loop : tie.InvT-loop
 Inv-loop text₀ a n i₀ text i = (i ≤ n) × (text ≡ moved text₀ a i)

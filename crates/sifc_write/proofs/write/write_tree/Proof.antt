@@ -2,14 +2,14 @@ use borrow.Author.Needs.{needs}
 use native.Mathlib.Omega.{arith}
 use Rattle.sifc_put.specs.Place.{inp}
 use Rattle.sifc_text_stmt.specs.Kinds.{programL}
-use Rattle.sifc_text.proofs.Whole.{no-room, fits-in, fronts}
-use Rattle.sifc_text.proofs.write.write_tree.Statement.{statement}
-use Rattle.sifc_text.proofs.write.write_tree.Tie as tie
-use Rattle.sifc_text.proofs.write.write_tree.Reads as reads
-use Rattle.sifc_text.proofs.write.write_tree.Lts as lts
+use Rattle.sifc_write.proofs.Whole.{no-room, fits-in, fronts}
+use Rattle.sifc_write.proofs.write.write_tree.Statement.{statement}
+use Rattle.sifc_write.proofs.write.write_tree.Tie as tie
+use Rattle.sifc_write.proofs.write.write_tree.Reads as reads
+use Rattle.sifc_write.proofs.write.write_tree.Lts as lts
 use Rattle.sifc_text_stmt.proofs.program.Reads as program-reads
-use Rattle.sifc_text.proofs.write.clear_from.Reads as clear-from-reads
-use Rattle.sifc_text.proofs.write.shift.Reads as shift-reads
+use Rattle.sifc_write.proofs.write.clear_from.Reads as clear-from-reads
+use Rattle.sifc_write.proofs.write.shift.Reads as shift-reads
 
 -- src/write.rt:55:9
 program-requires : tie.Need-program-requires

@@ -10,7 +10,7 @@ ghost use lib.ListN.{length, take, drop, replicate};
 ghost use Rattle.sifc_put.specs.Place.{inp};
 ghost use Rattle.sifc_put.specs.Post.{SpotOf};
 ghost use Rattle.sifc_text_stmt.specs.Kinds.{programL};
-ghost use Rattle.sifc_text.specs.Post.{Fronts};
+ghost use Rattle.sifc_write.specs.Front.{Fronts};
 
 // Sets the bytes from n on to 0.
 pub fn clear_from(text: &mut [u8], n: usize)

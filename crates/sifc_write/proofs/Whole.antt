@@ -14,7 +14,7 @@ use Rattle.sifc_put.specs.declared.write.Put.{Put}
 use Rattle.sifc_put.specs.declared.write.Put.the-variants.{Done, Full}
 use Rattle.sifc_put.specs.Post.{Lang, SpotOf, WritesOf}
 use Rattle.sifc_put.specs.Steps.{gone, full}
-use Rattle.sifc_text.specs.Post.{buffered, fitted, Fronts}
+use Rattle.sifc_write.specs.Front.{buffered, fitted, Fronts}
 
 -- A text that is longer than the buffer is refused.
 fitted-full : (w t : List ℕ) → length t < length w → fitted w t ≡ buffered (Refused TextFull) (zeroed t)
