@@ -1,6 +1,7 @@
 // Lists of scripts, as the programs that replay stored answers read them: a script's length in
 // decimal, a newline, the script, a newline, and so on.
-ghost use Prim.Native.Nat.{_≤_, _<_};
+ghost use mathlib.Core.Path.{_≡_};
+ghost use Prim.Native.Nat.{_+_, _≤_, _<_};
 ghost use lib.ListN.{length};
 
 // A number that was read, and the index after its digits.
@@ -70,7 +71,12 @@ pub fn entry_at(list: &[u8], at: usize) -> Entry
     }
 }
 
-// The index of the entry after the one that ends at an index.
-pub fn after_newline(list: &[u8], at: usize) -> usize {
-    if at < list.len() { at + 1 } else { list.len() }
+// The index of the entry after the one that ends at an index; the list's end where there is none.
+pub fn after_newline(list: &[u8], at: usize) -> usize
+    ensures { λ r. ⌜ (at < length (now (list .entry)) → r ≡ at + 1) × (length (now (list .entry)) ≤ at → r ≡ length (now (list .entry))) ⌝ }
+{
+    if at < list.len() {
+        return at + 1;
+    }
+    list.len()
 }

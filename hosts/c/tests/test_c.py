@@ -1,4 +1,4 @@
-"""Tests of the C interface: the header's numbers, what the libraries export, the example, the fixed lists."""
+"""Tests of the C interface: the header's numbers, what the libraries export, the example, the fixed lists, clearing."""
 
 from __future__ import annotations
 
@@ -84,6 +84,16 @@ class Programs(unittest.TestCase):
         ran = run(CC, *STRICT, source, *words, "-o", program)
         self.assertEqual((ran.returncode, ran.stderr), (0, b""))
         return program
+
+    def test_no_byte_is_cleared_twice(self) -> None:
+        library = "target/staticlib/libsif_c.a"
+        program = self.built("hosts/c/cleared.c", "-Iinclude", library, "-Wl,--wrap=memset")
+        lines = [line.split() for line in run(program).stdout.decode().splitlines()]
+        told = [(call, int(refusal)) for call, refusal, _, _ in lines]
+        wanted = {"tokens": [0, 4, 5], "reading": [0, 5, 5, 7], "text": [0, 10, 11]}
+        self.assertEqual(told, [(call, refusal) for call in wanted for refusal in wanted[call]])
+        for call, refusal, due, cleared in lines:
+            self.assertEqual(cleared, due, f"{call}, refusal {refusal}")
 
     def replayed(self, *words) -> None:
         program = self.built("hosts/c/replay.c", "-Iinclude", *words)
