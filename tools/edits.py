@@ -1,0 +1,225 @@
+#!/usr/bin/env python3
+"""Which edits that must fail there are for which public function, by counting.
+
+An edit that must fail is a file crates/CRATE/must-fail/LABEL.edit. Its first lines say of which functions it
+makes a wrong answer and which, one line each: `# FUNCTION: sentence`. An edit that changes a definition, and
+that a law or a worked case refuses, has `# definition: sentence`. An edit may change several functions that
+do not call one another; then each of them must be refused.
+
+An edit counts for a public function if it names it, or if it names a function of the same crate that it
+reaches through functions that no other crate calls: what these answer is a part of its answer.
+
+  tools/edits.py           prints the table (docs/EDITS.md has it)
+  tools/edits.py --check   fails where an edit names no function, where a public function that another crate or
+                           a host calls has fewer than two edits, or where docs/EDITS.md is another table
+  tools/edits.py --logs    fails where the prover's log of an edit (target/must-fail) does not say, of each
+                           function that the edit names, that it is not proved, and for a reason of its own
+"""
+
+import re
+import sys
+from pathlib import Path
+
+ROOT = Path(__file__).resolve().parent.parent
+CRATES = ROOT / "crates"
+PAGE = ROOT / "docs" / "EDITS.md"
+LEAST = 2
+HEADER = re.compile(r"^# (\w+): \S")
+FUNCTION = re.compile(r'^( *)(pub )?(extern "C" )?fn (\w+)', re.M)
+
+
+class Function:
+    """A function of a crate: its name (with its type, for a method), whether it is public, and its text."""
+
+    def __init__(self, crate, name, public, exported, text):
+        self.crate, self.name, self.public, self.exported, self.text = crate, name, public, exported, text
+        self.short = name.split("::")[-1]
+        head = text.split("\n{", 1)[0]
+        self.promises = "ensures" in head
+        self.answers = re.search(r"\)\s*->", head) is not None
+
+
+def without_comments(text):
+    """The source with its line comments taken out."""
+    return re.sub(r"//[^\n]*", "", text)
+
+
+def functions_of(crate):
+    """The functions of a crate, by name."""
+    found = {}
+    for path in sorted((CRATES / crate / "src").rglob("*.rt")):
+        text = without_comments(path.read_text())
+        starts = list(FUNCTION.finditer(text))
+        for start, after in zip(starts, starts[1:] + [None]):
+            body = text[start.start() : after.start() if after else len(text)]
+            owner = owner_at(text, start.start()) if start.group(1) else ""
+            name = owner + start.group(4)
+            found[name] = Function(crate, name, bool(start.group(2)), bool(start.group(3)), body)
+    return found
+
+
+def owner_at(text, place):
+    """The type whose `impl` holds the method at a place, as a path."""
+    owners = re.findall(r"^impl (\w+)", text[:place], re.M)
+    return owners[-1] + "::" if owners else ""
+
+
+def called_elsewhere(crates):
+    """The public functions that another crate calls, and those that hosts link: crate and name, with the callers."""
+    sources = {c: "".join(without_comments(p.read_text()) for p in (CRATES / c / "src").rglob("*.rt")) for c in crates}
+    callers = {}
+    for crate, functions in crates.items():
+        for function in functions.values():
+            if not function.public:
+                continue
+            if "::" in function.name:
+                used = re.compile(r"\.%s\(" % function.short)
+            else:
+                used = re.compile(r"\b%s::%s\b" % (crate, function.short))
+            names = [c for c, source in sources.items() if c != crate and used.search(source)]
+            if function.exported:
+                names.append("hosts")
+            if names:
+                callers[crate, function.name] = names
+    return callers
+
+
+class Edit:
+    """An edit that must fail: its label, and the functions that it names."""
+
+    def __init__(self, path):
+        self.label = path.stem
+        self.crate = path.parent.parent.name
+        lines = path.read_text().split("\n")
+        header = [line for line in lines[: lines.index(next(l for l in lines if l.startswith("file: ")))]]
+        self.names = [HEADER.match(line).group(1) for line in header if HEADER.match(line)]
+        self.bad = [line for line in header if line.strip() and not HEADER.match(line)]
+
+
+def edits_of(crate):
+    """The edits of a crate, in the order of their labels."""
+    return [Edit(path) for path in sorted((CRATES / crate / "must-fail").glob("*.edit"))]
+
+
+def called_by(function, functions):
+    """The functions of its crate that a function calls."""
+    text = function.text.split("\n{", 1)[-1]
+    return [other for other in functions.values() if other is not function and re.search(r"\b%s\(" % other.short, text)]
+
+
+def reach(function, functions, callers):
+    """A function, and what it reaches through functions that no other crate calls."""
+    seen, waiting = {function.name}, [function]
+    while waiting:
+        for other in called_by(waiting.pop(), functions):
+            if other.name not in seen and (other.crate, other.name) not in callers:
+                seen.add(other.name)
+                waiting.append(other)
+    return seen
+
+
+def all_reached(name, functions):
+    """The names of all functions of a crate that one of them reaches."""
+    seen, waiting = set(), [f for f in functions.values() if f.short == name]
+    while waiting:
+        for other in called_by(waiting.pop(), functions):
+            if other.name not in seen:
+                seen.add(other.name)
+                waiting.append(other)
+    return {other.split("::")[-1] for other in seen}
+
+
+def faults_of(edit, functions):
+    """What is wrong with an edit's header."""
+    where = f"{edit.crate}/{edit.label}"
+    shorts = {function.short for function in functions.values()}
+    faults = [f"{where}: a header line without a function: {line}" for line in edit.bad]
+    if not edit.names:
+        faults.append(f"{where}: it names no function")
+    for name in edit.names:
+        if name != "definition" and name not in shorts:
+            faults.append(f"{where}: {name} is no function of {edit.crate}")
+    for name in edit.names:
+        below = all_reached(name, functions) & (set(edit.names) - {name})
+        if below:
+            faults.append(f"{where}: {name} calls {', '.join(sorted(below))}, which it changes too")
+    return faults
+
+
+def table():
+    """The table as Markdown, and all faults."""
+    crates = {path.name: functions_of(path.name) for path in sorted(CRATES.iterdir()) if (path / "src").is_dir()}
+    callers = called_elsewhere(crates)
+    rows, faults = [], []
+    for crate, functions in crates.items():
+        edits = edits_of(crate)
+        for edit in edits:
+            faults += faults_of(edit, functions)
+        for function in functions.values():
+            if (crate, function.name) not in callers:
+                continue
+            shorts = {name.split("::")[-1] for name in reach(function, functions, callers)}
+            labels = [edit.label for edit in edits if shorts & set(edit.names)]
+            if function.answers and not function.promises:
+                faults.append(f"{crate}::{function.name} answers and promises nothing")
+            if function.promises and len(labels) < LEAST:
+                faults.append(f"{crate}::{function.name} has {len(labels)} edits")
+            shown = ", ".join(labels) if function.promises or labels else "answers nothing, promises nothing"
+            rows.append(f"| {crate} | `{function.name}` | {len(labels)} | {shown} |")
+    return rows, faults
+
+
+def page(rows):
+    """docs/EDITS.md."""
+    head = (
+        "# Edits that must fail\n\n"
+        "Written by `tools/edits.py`, which says how it counts; the gate holds this page to it. Each public function that\n"
+        "another crate or a host calls, with the edits that make a wrong answer of it and that the prover must refuse.\n\n"
+        "| crate | function | edits | labels (crates/CRATE/must-fail) |\n|---|---|---|---|\n"
+    )
+    return head + "\n".join(rows) + "\n"
+
+
+def log_faults():
+    """Where a log does not say that each named function is refused for a reason of its own."""
+    faults, count = [], 0
+    for crate in sorted(path.name for path in CRATES.iterdir()):
+        for edit in edits_of(crate):
+            path = ROOT / "target" / "must-fail" / crate / edit.label / ".log"
+            said = path.read_text() if path.exists() else ""
+            if "logic=not-proved" not in said:
+                faults.append(f"{crate}/{edit.label}: no log says that it is refused")
+            for name in edit.names:
+                count += 1
+                if name != "definition" and not refused(said, name):
+                    faults.append(f"{crate}/{edit.label}: {name} is not refused for a reason of its own")
+    return faults, count
+
+
+def refused(said, name):
+    """Whether a log has a function as not proved, and not because of one that it calls."""
+    lines = re.findall(r"^fn \S*\b%s: (.*)$" % name, said, re.M)
+    return any(line.startswith(("not proved", "no proof")) and "; it calls" not in line for line in lines)
+
+
+def main(words):
+    """Prints the table, or checks it, or the logs."""
+    rows, faults = table()
+    count = len(rows)
+    if words == ["--write"]:
+        PAGE.write_text(page(rows))
+    elif words == ["--logs"]:
+        faults, count = log_faults()
+    elif words == ["--check"]:
+        if not PAGE.exists() or PAGE.read_text() != page(rows):
+            faults.append("docs/EDITS.md is another table: tools/edits.py --write")
+    else:
+        print(page(rows), end="")
+    for fault in faults:
+        print(fault, file=sys.stderr)
+    print(f"edits: {count} passed, {len(faults)} failed", file=sys.stderr)
+    return 1 if faults else 0
+
+
+if __name__ == "__main__":
+    sys.exit(main(sys.argv[1:]))
