@@ -7,6 +7,10 @@ use sifc_def::Summary;
 use sifc_err::ParseErr;
 use sifc_err::ParseErrTy;
 use sifc_err::Refusal;
+ghost use mathlib.Core.Path.{_≡_};
+ghost use Rattle.sifc_def.specs.Read.{called};
+ghost use Rattle.sifc_lent.specs.Parts.{arrays};
+ghost use Rattle.read_show.specs.Listing.{listed};
 
 // The longest script that is listed.
 const MOST: usize = 4096;
@@ -98,7 +102,13 @@ fn read(
     symbols: &mut [u32],
     places: &mut [u32],
     reasons: &mut [u32],
-) -> Reading {
+) -> Reading
+    ensures { λ r. ⌜
+        called r (arrays (now (offs .exit)) (now (words .exit)) (now (heads .exit)) (now (loads .exit))
+        (now (symbols .exit)) (now (places .exit)) (now (reasons .exit)))
+        ≡ listed (now (script .entry)) (arrays (now (offs .entry)) (now (words .entry)) (now (heads .entry))
+        (now (loads .entry)) (now (symbols .entry)) (now (places .entry)) (now (reasons .entry))) ⌝ }
+{
     if MOST < script.len() {
         return Reading::Refused(Refusal::LongScript);
     }
@@ -117,7 +127,13 @@ pub fn list(
     symbols: &mut [u32],
     places: &mut [u32],
     reasons: &mut [u32],
-) -> Reading {
+) -> Reading
+    ensures { λ r. ⌜
+        called r (arrays (now (offs .exit)) (now (words .exit)) (now (heads .exit)) (now (loads .exit))
+        (now (symbols .exit)) (now (places .exit)) (now (reasons .exit)))
+        ≡ listed (now (script .entry)) (arrays (now (offs .entry)) (now (words .entry)) (now (heads .entry))
+        (now (loads .entry)) (now (symbols .entry)) (now (places .entry)) (now (reasons .entry))) ⌝ }
+{
     let said = read(script, offs, words, heads, loads, symbols, places, reasons);
     print_answer(said, heads, loads, places, reasons);
     said

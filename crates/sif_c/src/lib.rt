@@ -113,9 +113,9 @@ pub extern "C" fn sif_text(
         reasons,
         text,
     );
-    let numbers = told_text(said);
-    *count = numbers.count;
-    *kind = numbers.kind;
-    *offset = numbers.offset;
-    numbers.number
+    let written = told_text(said);
+    *count = written.count;
+    *kind = written.kind;
+    *offset = written.offset;
+    written.number
 }

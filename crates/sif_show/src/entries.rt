@@ -1,8 +1,9 @@
 // Lists of scripts, as the programs that replay stored answers read them: a script's length in
 // decimal, a newline, the script, a newline, and so on.
 ghost use mathlib.Core.Path.{_≡_};
-ghost use Prim.Native.Nat.{_+_, _≤_, _<_};
+ghost use Prim.Native.Nat.{_+_, _≤_, _<_, _%_};
 ghost use lib.ListN.{length};
+ghost use Rattle.sif_show.specs.Entries.{numberAt, entryAt};
 
 // A number that was read, and the index after its digits.
 pub struct Number {
@@ -18,7 +19,9 @@ pub struct Entry {
 
 // The decimal number at an index, up to the first byte that is no digit. It stops at 100,000, which no
 // script of a list reaches.
-fn number_at(list: &[u8], from: usize) -> Number {
+fn number_at(list: &[u8], from: usize) -> Number
+    ensures { λ r. ⌜ r ≡ numberAt (now (list .entry)) from ⌝ }
+{
     let mut value: usize = 0;
     let mut i = from;
     while i < list.len() {
@@ -42,14 +45,14 @@ fn number_at(list: &[u8], from: usize) -> Number {
 }
 
 fn digit(b: u8) -> usize
-    ensures { λ r. ⌜ r < 16 ⌝ }
+    ensures { λ r. ⌜ r ≡ b % 16 ⌝ }
 {
     (b % 16) as usize
 }
 
 // The script whose entry is at an index; one that is cut off is empty, at the list's end.
 pub fn entry_at(list: &[u8], at: usize) -> Entry
-    ensures { λ r. ⌜ (r .from ≤ r .end) × (r .end ≤ length (now (list .entry))) ⌝ }
+    ensures { λ r. ⌜ r ≡ entryAt (now (list .entry)) at ⌝ }
 {
     let header = number_at(list, at);
     let start = header.next;

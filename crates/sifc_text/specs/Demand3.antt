@@ -1,7 +1,7 @@
 -- Demand 3 over the calls' own answers and the memory that they leave.
 --
--- A call that ran is a record: what it was lent, what it answered, what it left, and its promise, which is the `ensures` of that call. Demand 3 speaks of eight
--- such records, whatever each of them was lent.
+-- A call that ran is a record: what it was lent, what it answered, what it left, and its promise, which is the `ensures` of that call (sifc_promises has the
+-- proof that it is). Demand 3 speaks of eight such records, whatever each of them was lent.
 use Prim.Native.Nat.{ℕ}
 use mathlib.Core.Path.{_≡_, sym, ap, _∙_, subst}
 use mathlib.Core.Logic.{_↔_}
@@ -15,12 +15,20 @@ use Rattle.sifc_def.specs.Canon.Demand3.{demand3-definition}
 
 -- ── calls that ran ──
 
+-- what a reading call promises of the script and the arrays that it was lent, its answer, and the arrays that it left
+abbrev pub ReadingPromise : List ℕ → Arrays → Reading → Arrays → Type 0
+ReadingPromise s lent answer left = called answer left ≡ reading s lent
+
+-- what a text call promises, with its buffer beside the arrays
+abbrev pub TextPromise : List ℕ → Arrays → List ℕ → Texting → Arrays → List ℕ → Type 0
+TextPromise s lent buffer answer left text = written answer left text ≡ textCall s lent buffer
+
 -- a reading of the script s
 pub record ReadingRan (s : List ℕ) : Type 0 where
   pub lent : Arrays
   pub answer : Reading
   pub left : Arrays
-  pub promise : called answer left ≡ reading s lent
+  pub promise : ReadingPromise s lent answer left
 
 -- a text call on the script s
 pub record TextRan (s : List ℕ) : Type 0 where
@@ -29,7 +37,7 @@ pub record TextRan (s : List ℕ) : Type 0 where
   pub answer : Texting
   pub left : Arrays
   pub text : List ℕ
-  pub promise : written answer left text ≡ textCall s lent buffer
+  pub promise : TextPromise s lent buffer answer left text
 
 -- what a reading answered and left
 abbrev pub readBy : {s : List ℕ} → ReadingRan s → Called Reading

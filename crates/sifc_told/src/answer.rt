@@ -151,11 +151,11 @@ pub fn told_text(said: Texting) -> TextNumbers
             kind: 0,
             offset: 0,
         },
-        Texting::Refused(refusal) => TextNumbers {
+        Texting::Refused(why) => TextNumbers {
             count: 0,
-            number: refusal.number(),
-            kind: refusal.kind(),
-            offset: refusal.offset(),
+            number: why.number(),
+            kind: why.kind(),
+            offset: why.offset(),
         },
     }
 }

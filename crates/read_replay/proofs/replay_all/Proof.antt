@@ -1,6 +1,8 @@
+use native.Mathlib.Omega.{arith}
 use Prim.Native.Nat.{_≤_, _-_}
 use borrow.Author.Needs.{needs}
 use lib.ListN.{length}
+use Rattle.sif_show.specs.EntryLaws.{entry-within}
 use Rattle.read_replay.proofs.replay_all.Statement.{statement}
 use Rattle.read_replay.proofs.replay_all.Tie as tie
 use Rattle.read_replay.proofs.replay_all.Reads as reads
@@ -29,15 +31,21 @@ entry-at-requires c κs = search needs
 
 -- src/main.rt:47:16
 sub-answer : tie.Need-sub-answer Inv-loop μ-loop
-sub-answer c = search needs
+sub-answer c =
+    let within = entry-within _ _ _ (c .entry-at .ensures) in
+    omega (arith, within .0, within .1)
 
 -- src/main.rt:47:16
 part-answer-start : tie.Need-part-answer-start Inv-loop μ-loop
-part-answer-start c = search needs
+part-answer-start c =
+    let within = entry-within _ _ _ (c .entry-at .ensures) in
+    omega (arith, within .0, within .1)
 
 -- src/main.rt:47:16
 part-answer-end : tie.Need-part-answer-end Inv-loop μ-loop
-part-answer-end c = search needs
+part-answer-end c =
+    let within = entry-within _ _ _ (c .entry-at .ensures) in
+    omega (arith, within .0, within .1)
 
 -- src/main.rt:47:9
 answer-requires : tie.Need-answer-requires Inv-loop μ-loop

@@ -1,6 +1,8 @@
+use native.Mathlib.Omega.{arith}
 use Prim.Native.Nat.{_≤_, _-_}
 use borrow.Author.Needs.{needs}
 use lib.ListN.{length}
+use Rattle.sif_show.specs.EntryLaws.{entry-within}
 use Rattle.token_replay.proofs.replay_all.Statement.{statement}
 use Rattle.token_replay.proofs.replay_all.Tie as tie
 use Rattle.token_replay.proofs.replay_all.Reads as reads
@@ -30,15 +32,21 @@ entry-at-requires c κs = search needs
 
 -- src/main.rt:27:24
 sub-show : tie.Need-sub-show Inv-loop μ-loop
-sub-show c = search needs
+sub-show c =
+    let within = entry-within _ _ _ (c .entry-at .ensures) in
+    omega (arith, within .0, within .1)
 
 -- src/main.rt:27:24
 part-show-start : tie.Need-part-show-start Inv-loop μ-loop
-part-show-start c = search needs
+part-show-start c =
+    let within = entry-within _ _ _ (c .entry-at .ensures) in
+    omega (arith, within .0, within .1)
 
 -- src/main.rt:27:24
 part-show-end : tie.Need-part-show-end Inv-loop μ-loop
-part-show-end c = search needs
+part-show-end c =
+    let within = entry-within _ _ _ (c .entry-at .ensures) in
+    omega (arith, within .0, within .1)
 
 -- src/main.rt:27:9
 show-requires : tie.Need-show-requires Inv-loop μ-loop
