@@ -11,6 +11,8 @@
 PREFIX ?= /usr/local
 DESTDIR ?=
 ARCHIVE = target/staticlib/libsif_c.a
+# What the archive is made from; a file of the code, of a definition or of a proof that is newer has it made again.
+CODE = crates.txt $(shell find crates -name '*.rt' -o -name '*.antt')
 SONAME = libsif_c.so.0
 SHARED = target/lib/$(SONAME)
 WHERE = $(if $(filter /%,$(PREFIX)),,$(CURDIR)/)$(PREFIX)
@@ -21,14 +23,14 @@ TO = $(DESTDIR)$(WHERE)
 test:
 	@bash .ci/run
 
-lib:
-	@rt staticlib sif_c
+lib: $(ARCHIVE)
 	@$(MAKE) -s shared
 
 shared: $(SHARED) target/lib/sif.pc
 
-$(ARCHIVE):
+$(ARCHIVE): $(CODE)
 	@rt staticlib sif_c
+	@touch $@
 
 # The archive's objects are position independent. Only the calls of include/sif.h are exported.
 $(SHARED): $(ARCHIVE) hosts/c/exports.map
@@ -62,7 +64,7 @@ install: install-lib sif
 hosts-test:
 	@bash hosts/test
 
-target/bin/%: crates.txt $(wildcard crates/*/src/*.rt crates/*/specs/*.antt)
+target/bin/%: $(CODE)
 	@rt check $* 1>&2
 
 run: target/bin/sif_list

@@ -1,7 +1,7 @@
 // Parse errors: parse_err.rs.
 use crate::Token;
 ghost use mathlib.Core.Path.{_≡_};
-ghost use Rattle.sifc_err.specs.ParseErr.{valuesOf, continuableOf};
+ghost use Rattle.sifc_err.specs.ParseErr.{valuesOf};
 
 // Why a declaration did not parse, or was listed all the same. Where the Rust carries a token's
 // spelling, the token stands here. TknMismatch holds the expected kind first, WrongFnParmCnt the
@@ -50,30 +50,6 @@ impl ParseErrTy {
             ParseErrTy::UndeclSym(_) => 9,
             ParseErrTy::UnassignedVar(_) => 10,
             ParseErrTy::ExpectedIdent(_) => 11,
-        }
-    }
-}
-
-impl ParseErr {
-    // Whether the reading goes on after it.
-    pub fn continuable(self) -> bool
-        ensures { λ r. ⌜ r ≡ continuableOf (self .ty) ⌝ }
-    {
-        let ty = self.ty;
-        match ty {
-            ParseErrTy::TknMismatch(_, _) => false,
-            ParseErrTy::FnParmCntExceeded(_) => false,
-            ParseErrTy::NoReason => true,
-            ParseErrTy::InvalidIdent(_) => true,
-            ParseErrTy::InvalidTkn(_) => true,
-            ParseErrTy::InvalidTknMsg(_) => true,
-            ParseErrTy::InvalidAssign(_) => true,
-            ParseErrTy::InvalidForStmt => true,
-            ParseErrTy::InvalidIfStmt => true,
-            ParseErrTy::WrongFnParmCnt(_, _) => true,
-            ParseErrTy::UndeclSym(_) => true,
-            ParseErrTy::UnassignedVar(_) => true,
-            ParseErrTy::ExpectedIdent(_) => true,
         }
     }
 }
