@@ -2,9 +2,9 @@
 """Which edits that must fail there are for which public function, by counting.
 
 An edit that must fail is a file crates/CRATE/must-fail/LABEL.edit. Its first lines say of which functions it
-makes a wrong answer and which, one line each: `# FUNCTION: sentence`. An edit that changes a definition, and
-that a law or a worked case refuses, has `# definition: sentence`. An edit may change several functions that
-do not call one another; then each of them must be refused.
+makes a wrong answer and which, one line each: `# FUNCTION: sentence`, or `# TYPE::METHOD: sentence`. An edit
+that changes a definition, and that a law or a worked case refuses, has `# definition: sentence`. An edit may
+change several functions that do not call one another; then each of them must be refused.
 
 An edit counts for a public function if it names it, or if it names a function of the same crate that it
 reaches through functions that no other crate calls: what these answer is a part of its answer.
@@ -24,17 +24,18 @@ ROOT = Path(__file__).resolve().parent.parent
 CRATES = ROOT / "crates"
 PAGE = ROOT / "docs" / "EDITS.md"
 LEAST = 2
-HEADER = re.compile(r"^# (\w+): \S")
+HEADER = re.compile(r"^# ([\w:]+): \S")
+ALIAS = re.compile(r"^pub use (?:\w+::)*(\w+) as (\w+);", re.M)
 FUNCTION = re.compile(r'^( *)(pub )?(extern "C" )?fn (\w+)', re.M)
 
 
 class Function:
-    """A function of a crate: its name (with its type, for a method), whether it is public, and its text."""
+    """A function of a crate: its name (with its type, for a method), whether it is public, and its body."""
 
     def __init__(self, crate, name, public, exported, text):
-        self.crate, self.name, self.public, self.exported, self.text = crate, name, public, exported, text
+        self.crate, self.name, self.public, self.exported = crate, name, public, exported
         self.short = name.split("::")[-1]
-        head = text.split("\n{", 1)[0]
+        head, self.body = re.split(r"\{$", text, maxsplit=1, flags=re.M)
         self.promises = "ensures" in head
         self.answers = re.search(r"\)\s*->", head) is not None
 
@@ -64,18 +65,24 @@ def owner_at(text, place):
     return owners[-1] + "::" if owners else ""
 
 
+def source_of(crate):
+    """The source of a crate, without comments."""
+    return "".join(without_comments(path.read_text()) for path in sorted((CRATES / crate / "src").rglob("*.rt")))
+
+
 def called_elsewhere(crates):
     """The public functions that another crate calls, and those that hosts link: crate and name, with the callers."""
-    sources = {c: "".join(without_comments(p.read_text()) for p in (CRATES / c / "src").rglob("*.rt")) for c in crates}
+    sources = {crate: source_of(crate) for crate in crates}
     callers = {}
     for crate, functions in crates.items():
+        aliases = dict(ALIAS.findall(sources[crate]))
         for function in functions.values():
             if not function.public:
                 continue
             if "::" in function.name:
                 used = re.compile(r"\.%s\(" % function.short)
             else:
-                used = re.compile(r"\b%s::%s\b" % (crate, function.short))
+                used = re.compile(r"\b%s::%s\b" % (crate, aliases.get(function.short, function.short)))
             names = [c for c, source in sources.items() if c != crate and used.search(source)]
             if function.exported:
                 names.append("hosts")
@@ -103,8 +110,8 @@ def edits_of(crate):
 
 def called_by(function, functions):
     """The functions of its crate that a function calls."""
-    text = function.text.split("\n{", 1)[-1]
-    return [other for other in functions.values() if other is not function and re.search(r"\b%s\(" % other.short, text)]
+    others = [other for other in functions.values() if other is not function]
+    return [other for other in others if re.search(r"\b%s\(" % other.short, function.body)]
 
 
 def reach(function, functions, callers):
@@ -120,24 +127,23 @@ def reach(function, functions, callers):
 
 def all_reached(name, functions):
     """The names of all functions of a crate that one of them reaches."""
-    seen, waiting = set(), [f for f in functions.values() if f.short == name]
+    seen, waiting = set(), [function for function in functions.values() if function.name == name]
     while waiting:
         for other in called_by(waiting.pop(), functions):
             if other.name not in seen:
                 seen.add(other.name)
                 waiting.append(other)
-    return {other.split("::")[-1] for other in seen}
+    return seen
 
 
 def faults_of(edit, functions):
     """What is wrong with an edit's header."""
     where = f"{edit.crate}/{edit.label}"
-    shorts = {function.short for function in functions.values()}
     faults = [f"{where}: a header line without a function: {line}" for line in edit.bad]
     if not edit.names:
         faults.append(f"{where}: it names no function")
     for name in edit.names:
-        if name != "definition" and name not in shorts:
+        if name != "definition" and name not in functions:
             faults.append(f"{where}: {name} is no function of {edit.crate}")
     for name in edit.names:
         below = all_reached(name, functions) & (set(edit.names) - {name})
@@ -158,8 +164,8 @@ def table():
         for function in functions.values():
             if (crate, function.name) not in callers:
                 continue
-            shorts = {name.split("::")[-1] for name in reach(function, functions, callers)}
-            labels = [edit.label for edit in edits if shorts & set(edit.names)]
+            reached = reach(function, functions, callers)
+            labels = [edit.label for edit in edits if reached & set(edit.names)]
             if function.answers and not function.promises:
                 faults.append(f"{crate}::{function.name} answers and promises nothing")
             if function.promises and len(labels) < LEAST:
@@ -198,7 +204,7 @@ def log_faults():
 
 def refused(said, name):
     """Whether a log has a function as not proved, and not because of one that it calls."""
-    lines = re.findall(r"^fn \S*\b%s: (.*)$" % name, said, re.M)
+    lines = re.findall(r"^fn (?:\S*::)?%s: (.*)$" % name, said, re.M)
     return any(line.startswith(("not proved", "no proof")) and "; it calls" not in line for line in lines)
 
 
