@@ -1,1 +1,5 @@
+pub mod Deepest
+pub mod DeepestLaws
 pub mod Shallow
+pub mod Reached
+pub mod Depth
