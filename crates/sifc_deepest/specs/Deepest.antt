@@ -48,11 +48,27 @@ deepestCall n b =
     else if ltb (length b) n then deepestCalled NoLength b
     else deepestCalled (Depth (depthOf n)) (padded (openings n) (length b))
 
--- The answer in numbers: the depth, and the number of the refusal; 0 for what is not said. Kind and offset of a refusal are 0.
+-- ── the answer in numbers, as a host sees it ──
+
+-- the depth, and the number of the refusal; what is not said is 0. Kind and offset of a refusal are 0
 pub record DeepestNumbers : Type 0 where
   pub depth : ℕ
   pub number : ℕ
 
+abbrev pub deepestAnswer : ℕ → ℕ → DeepestNumbers
+deepestAnswer d n = record { depth = d; number = n }
+
 abbrev pub deepestNumbers : DeepestAnswer → DeepestNumbers
-deepestNumbers (Depth d) = record { depth = d; number = 0 }
-deepestNumbers NoLength = record { depth = 0; number = 20 }
+deepestNumbers (Depth d) = deepestAnswer d 0
+deepestNumbers NoLength = deepestAnswer 0 20
+
+-- the numbers, and the buffer as it is
+pub record DeepestTold : Type 0 where
+  pub answer : DeepestNumbers
+  pub script : List ℕ
+
+abbrev pub deepestTold : DeepestNumbers → List ℕ → DeepestTold
+deepestTold n b = record { answer = n; script = b }
+
+unfoldable pub toldDeepest : DeepestCall → DeepestTold
+toldDeepest c = deepestTold (deepestNumbers (c .answer)) (c .script)

@@ -11,8 +11,9 @@ use borrow.Author.Tests.{lt-ltb, le-ltb, eq-eqb, ne-eqb, ltb-true, ltb-false}
 use Rattle.sifc_word.specs.Base.{if_then_else_}
 use Rattle.sifc_tokens.specs.Tokens.{padded}
 use Rattle.sifc_def.specs.OutcomeLaws.{by-test}
+use Rattle.sifc_deepest.specs.declared.DeepestAnswer.{DeepestAnswer}
 use Rattle.sifc_deepest.specs.declared.DeepestAnswer.the-variants.{Depth, NoLength}
-use Rattle.sifc_deepest.specs.Deepest.{opening, longest, depthOf, openings, byteAt, DeepestCall, deepestCalled, deepestCall}
+use Rattle.sifc_deepest.specs.Deepest.{opening, longest, depthOf, openings, byteAt, DeepestCall, deepestCalled, deepestCall, deepestAnswer, deepestNumbers, deepestTold, toldDeepest}
 
 -- ── the tests of entry ──
 
@@ -90,3 +91,15 @@ filled-all n b i h e =
     let whole : take (length b) full ≡ full = take-all (length b) full (omega (arith, length-filled n (length b) h)) in
     let at : 0 + length b ≡ length b = omega arith in
     ap (filled n b) e ∙ ap (λ (x : List ℕ). x ++ drop (0 + length b) b) whole ∙ ap (λ (j : ℕ). full ++ drop j b) at ∙ ap (λ (x : List ℕ). full ++ x) (drop-length b) ∙ append-nil full
+
+-- ── the answer in numbers ──
+
+-- A depth, as the definition has it.
+pub told-depth : (x : DeepestAnswer) (d : ℕ) (b : List ℕ) (c : DeepestCall) → x ≡ Depth d → deepestCalled x b ≡ c → deepestTold (deepestAnswer d 0) b ≡ toldDeepest c
+unfolding toldDeepest
+told-depth x d b c e h = ap (λ (y : DeepestAnswer). deepestTold (deepestNumbers y) b) (sym e) ∙ ap toldDeepest h
+
+-- A refusal, as the definition has it.
+pub told-none : (x : DeepestAnswer) (b : List ℕ) (c : DeepestCall) → x ≡ NoLength → deepestCalled x b ≡ c → deepestTold (deepestAnswer 0 20) b ≡ toldDeepest c
+unfolding toldDeepest
+told-none x b c e h = ap (λ (y : DeepestAnswer). deepestTold (deepestNumbers y) b) (sym e) ∙ ap toldDeepest h
