@@ -46,6 +46,7 @@ class Header(unittest.TestCase):
         refusals += " ERRORS_FULL FLAGGED TEXT_FULL"
         for number, name in enumerate(refusals.split()):
             self.assertEqual(told["SIF_" + name], number)
+        self.assertEqual(told["SIF_NO_LENGTH"], 20)
 
     def test_c_and_cpp_take_it(self) -> None:
         source = b"#include <sif.h>\nint main(void) { return SIF_TOKEN_EOF - 47; }\n"
@@ -57,7 +58,7 @@ class Header(unittest.TestCase):
 
 
 class Libraries(unittest.TestCase):
-    CALLS = ["sif_reading", "sif_text", "sif_tokens"]
+    CALLS = ["sif_deepest", "sif_reading", "sif_text", "sif_tokens"]
 
     def exported(self, *words) -> list[str]:
         told = run("nm", "--defined-only", "--extern-only", *words).stdout.decode()
