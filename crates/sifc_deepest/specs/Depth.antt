@@ -24,14 +24,19 @@ use Rattle.sifc_deepest.specs.declared.DeepestAnswer.{DeepestAnswer}
 use Rattle.sifc_deepest.specs.declared.DeepestAnswer.the-variants.{Depth, NoLength}
 use Rattle.sifc_deepest.specs.Deepest.{opening, longest, depthOf, openings, DeepestCall, deepestCalled, deepestCall}
 use Rattle.sifc_deepest.specs.DeepestLaws.{call-zero, call-long, call-small, call-given}
+use Rattle.sifc_deepest.specs.Signs.{signs, signs-few, lexed-signs}
 use Rattle.sifc_deepest.specs.Shallow.{Shallow, On, walk-shallow}
 use Rattle.sifc_deepest.specs.Reached.{opening-deep}
 
+-- The bound by the bytes that nest: a script with n of them is not refusal 6 at the limit 3 * n + 3, nor at any above.
+pub not-deeper-signs : (r : Rooms) (s : List ℕ) (d : ℕ) → depthOf (signs s) ≤ d → walk (ctxOf r s) d ≡ refuse TooDeep → ⊥
+not-deeper-signs r s d h e =
+    let toks = lexed-toks (ctxOf r s) s refl in
+    subst (Shallow (On (ctxOf r s) (worth (lex s)) toks 0)) e (walk-shallow (ctxOf r s) (worth (lex s)) toks d (omega (arith, lexed-signs s))) .shallow
+
 -- The bound: no script of n bytes is refusal 6 at the limit 3 * n + 3, nor at any above.
 pub not-deeper : (r : Rooms) (s : List ℕ) (d : ℕ) → depthOf (length s) ≤ d → walk (ctxOf r s) d ≡ refuse TooDeep → ⊥
-not-deeper r s d h e =
-    let toks = lexed-toks (ctxOf r s) s refl in
-    subst (Shallow (On (ctxOf r s) (worth (lex s)) toks 0)) e (walk-shallow (ctxOf r s) (worth (lex s)) toks d (omega (arith, lex-count s))) .shallow
+not-deeper r s d h = not-deeper-signs r s d (omega (arith, signs-few s))
 
 -- Reached: n opening parentheses are refusal 6 at every limit below.
 pub as-deep : (r : Rooms) (n d : ℕ) → 0 < n → d < depthOf n → walk (ctxOf r (openings n)) d ≡ refuse TooDeep
@@ -46,13 +51,17 @@ pub record Active (r : Rooms) (s : List ℕ) (d : ℕ) : Type 0 where
 pub openings-active : (r : Rooms) (n : ℕ) → 0 < n → Active r (openings n) (depthOf n)
 openings-active r n l = record { needed = λ e h. as-deep r n e l h; enough = λ e h. not-deeper r (openings n) e (omega (arith, length-replicate n opening)) }
 
+-- No more calls are active than the bytes that nest allow: by this the hosts choose a stack.
+pub none-deeper-signs : (r : Rooms) (s : List ℕ) (d : ℕ) → Active r s d → d ≤ depthOf (signs s)
+none-deeper-signs r s d a = go (ltb (depthOf (signs s)) d) refl
+  where
+    go : (x : Bool) → ltb (depthOf (signs s)) d ≡ x → d ≤ depthOf (signs s)
+    go true e = absurd (not-deeper-signs r s (depthOf (signs s)) (omega arith) (a .needed (depthOf (signs s)) (ltb-true (depthOf (signs s)) d e)))
+    go false e = ltb-false (depthOf (signs s)) d e
+
 -- "no script of n bytes goes deeper, flagged ones included"
 pub none-deeper : (r : Rooms) (s : List ℕ) (d : ℕ) → Active r s d → d ≤ depthOf (length s)
-none-deeper r s d a = go (ltb (depthOf (length s)) d) refl
-  where
-    go : (x : Bool) → ltb (depthOf (length s)) d ≡ x → d ≤ depthOf (length s)
-    go true e = absurd (not-deeper r s (depthOf (length s)) (omega arith) (a .needed (depthOf (length s)) (ltb-true (depthOf (length s)) d e)))
-    go false e = ltb-false (depthOf (length s)) d e
+none-deeper r s d a = omega (arith, none-deeper-signs r s d a, signs-few s)
 
 -- ── the call ──
 

@@ -1,7 +1,7 @@
--- No script of n bytes has more than 3 * n + 3 counted calls active: at that limit no step of a walk is refusal 6. A step is followed by the least token at which
--- it can stand. Where j tokens are passed, `assign_expr` needs three calls for each token that is left and the last, `unary_expr` one less, `fn_call_expr` and `block` two less:
--- `assign_expr` calls `unary_expr` and that calls `fn_call_expr` at the same token, every other call comes after a token was taken. The steps stand in the order
--- of the definition: State.antt, Symbols.antt, Expr.antt, Stmt.antt and Walk.antt of sifc_def.
+-- No more than 3 * n + 3 counted calls are active in a walk over tokens of which n nest: at that limit no step of a walk is refusal 6. A step is followed by how many
+-- tokens that nest it has passed at least. With j passed, `assign_expr` needs three calls for each one that is left and three more, `unary_expr` one less, `fn_call_expr` and
+-- `block` two less: `assign_expr` calls `unary_expr` and that calls `fn_call_expr` at the same token, every other call comes after a token that nests. The steps stand in the
+-- order of the definition: State.antt, Symbols.antt, Expr.antt, Stmt.antt and Walk.antt of sifc_def.
 use Prim.Native.Nat.{ℕ, zero, suc, _+_, _-_, _*_, _≤_, _<_}
 use mathlib.Core.List.{List, [], _∷_}
 use mathlib.Core.Option.{Option, none, some}
@@ -21,11 +21,12 @@ use Rattle.sifc_def.specs.declared.What.the-variants.{Placeholder, Function, Va
 use Rattle.sifc_def.specs.Error.{continuable}
 use Rattle.sifc_def.specs.State.{Node, Ctx, St, Out, done, fail, refuse, M, Void, go-on, tokAt, nameAt, panicAt, arrive, consume, list, raise, addErrorWPos, addError, throw, throwPast, expect, optional, matchIdent, orThrow, ident, push, setNodes}
 use Rattle.sifc_def.specs.Symbols.{putAt, retrieve, store, setLevel, initScope, closeScope, setCheck}
-use Rattle.sifc_def.specs.Expr.{Rec, isUnary, operators, levels, assignVar, assignToken, assignArray, assignNothing, assignTo, separator, paramList, single, callCounted, callDeclared, callName, callNamed, literal, known, checkName, identExpr, assignExpr, unaryExpr, groupExpr, atExpr, primaryExpr, callPart, dot, index, postfix, fnCallExpr}
+use Rattle.sifc_def.specs.Expr.{Rec, operators, levels, assignVar, assignToken, assignArray, assignNothing, assignTo, separator, paramList, single, callCounted, callDeclared, callName, callNamed, literal, known, checkName, identExpr, assignExpr, unaryExpr, groupExpr, atExpr, primaryExpr, callPart, dot, index, postfix, fnCallExpr}
 use Rattle.sifc_def.specs.Stmt.{bind, withReturn, identNode, param, identPair, declareVar, arrayNodes, endIf, commaList, arrayDecl, tableItem, itemList, tableDecl, initial, varDecl, fnDecl, elifStmt, elseBlock, branches, ifStmt, forStmt, retStmt, exprStmt, stmt, decl, decls, block}
 use Rattle.sifc_def.specs.Walk.{End, start, walkers, giveUp, settled, topDecl, endRead, program, walk}
 use Rattle.sifc_def.specs.OutcomeLaws.{by-test}
-use Rattle.sifc_def.specs.StepLaws.{Toks, clash, kindAt, moved, other, not-eof}
+use Rattle.sifc_def.specs.StepLaws.{Toks, clash, kindAt, moved, not-eof}
+use Rattle.sifc_deepest.specs.Signs.{nests, nesting, opened, opened-more, opened-next, opened-all, nests-as, nests-unary}
 
 -- any refusal but 6
 abbrev pub NotDeep : Refusal → Type 0
@@ -72,9 +73,9 @@ module _ {A : Type 0} {P : ℕ → Type 0} where
   fork b m k s f g = by-test b m k (λ (x : M A). Shallow P (x s)) f g
 
 module _ (c : Ctx) (b : ℕ → ℕ) (ts : Toks c b) where
-  -- token i is there, is no lexing panic, and j tokens or more are passed
+  -- token i is there, is no lexing panic, and j tokens that nest or more are passed
   pub record On (j i : ℕ) : Type 0 where
-    pub far : j ≤ i
+    pub far : j ≤ opened (c .toks) i
     pub here : i < length (c .toks)
     pub calm : eqb (tokAt c i .kind) LexPanic ≡ false
 
@@ -86,17 +87,19 @@ module _ (c : Ctx) (b : ℕ → ℕ) (ts : Toks c b) where
   lower : {A : Type 0} {j : ℕ} {o : Out A} → Shallow (On (suc j)) o → Shallow (On j) o
   lower h = weaken (λ i o. record { far = omega (arith, o .far); here = o .here; calm = o .calm }) h
 
-  -- the next token
-  past : {j : ℕ} (s : St) → On j (s .at) → eqb (kindAt c s) Eof ≡ false → Shallow (On (suc j)) (consume c s)
+  -- the next token, behind k tokens that nest
+  past : {j : ℕ} (s : St) → On j (s .at) → eqb (kindAt c s) Eof ≡ false → (k : ℕ) → k ≤ opened (c .toks) (suc (s .at)) → Shallow (On k) (consume c s)
   unfolding consume arrive
-  past {j} s o e =
-      by-test (eqb (kindAt c s) Eof) _ _ (Shallow (On (suc j))) (λ p. absurd (clash p e))
-      (λ p. by-test (eqb (kindAt c (moved s)) LexPanic) _ _ (Shallow (On (suc j))) (λ q. record { shallow = tt })
-      (λ q. is-at (record { far = omega (arith, o .far); here = ts .ends (s .at) (o .here) e (o .calm); calm = q })))
+  past s o e k h =
+      by-test (eqb (kindAt c s) Eof) _ _ (Shallow (On k)) (λ p. absurd (clash p e))
+      (λ p. by-test (eqb (kindAt c (moved s)) LexPanic) _ _ (Shallow (On k)) (λ q. record { shallow = tt })
+      (λ q. is-at (record { far = h; here = ts .ends (s .at) (o .here) e (o .calm); calm = q })))
 
-  -- what follows a token that is taken has one token more behind it
-  beyond : {A : Type 0} {j : ℕ} {m : M A} (s : St) → On j (s .at) → eqb (kindAt c s) Eof ≡ false → Stays (suc j) m → Shallow (On j) (go-on (consume c s) (λ u. m))
-  beyond s o e h = lower (follow (past s o e) (λ u s′ o′. h s′ o′))
+  -- what follows a token that nests has one more behind it
+  beyond : {A : Type 0} {j : ℕ} {m : M A} (s : St) → On j (s .at) → nests (kindAt c s) ≡ true → Stays (suc j) m → Shallow (On j) (go-on (consume c s) (λ u. m))
+  unfolding nests
+  beyond {j = j} s o e h =
+      lower (follow (past s o (not-eof nests (kindAt c s) e refl) (suc j) (omega (arith, o .far, opened-next (c .toks) (s .at) (o .here) e))) (λ u s′ o′. h s′ o′))
 
   module _ {j : ℕ} where
     -- ── State.antt and Symbols.antt ──
@@ -119,7 +122,7 @@ module _ (c : Ctx) (b : ℕ → ℕ) (ts : Toks c b) where
       where
         go : (q : Bool) → eqb (kindAt c s) Eof ≡ q → Shallow (On j) (consume c s)
         go true e = by-test (eqb (kindAt c s) Eof) _ _ (Shallow (On j)) (λ p. is-at o) (λ p. absurd (clash e p))
-        go false e = lower (past s o e)
+        go false e = past s o e j (omega (arith, o .far, opened-more (c .toks) (s .at)))
 
     list-stays : (e : Err) → Stays j (list c e)
     unfolding list
@@ -248,26 +251,26 @@ module _ (c : Ctx) (b : ℕ → ℕ) (ts : Toks c b) where
 
   -- assign_expr calls unary_expr at its token, and itself after an `=`
   assign-stays : {j : ℕ} (r : Rec) → Stays j (r .unary) → Stays (suc j) (r .assign) → Stays j (assignExpr c r)
-  unfolding assignExpr go-on
+  unfolding assignExpr go-on nests
   assign-stays r un ex s o =
       follow (levels-stays 7 un s o) (λ u s₁ o₁.
-      fork _ _ _ s₁ (λ e. beyond s₁ o₁ (other (kindAt c s₁) Eq Eof e refl) (λ s₂ o₂. search (steps, assign-to-stays))) (λ e. is-at o₁))
+      fork _ _ _ s₁ (λ e. beyond s₁ o₁ (nests-as (kindAt c s₁) Eq e refl) (λ s₂ o₂. search (steps, assign-to-stays))) (λ e. is-at o₁))
 
   -- unary_expr calls fn_call_expr at its token, and itself after a sign
   unary-stays : {j : ℕ} (r : Rec) → Stays j (r .call) → Stays (suc j) (r .unary) → Stays j (unaryExpr c r)
-  unfolding unaryExpr isUnary go-on
+  unfolding unaryExpr go-on
   unary-stays r ca un s o =
-      fork _ _ _ s (λ e. beyond s o (not-eof isUnary (kindAt c s) e refl) (λ s₁ o₁. search steps)) (λ e. ca s o)
+      fork _ _ _ s (λ e. beyond s o (nests-unary (kindAt c s) e) (λ s₁ o₁. search steps)) (λ e. ca s o)
 
   -- fn_call_expr makes every call after a sign
   module _ {j : ℕ} (r : Rec) (ex : Stays (suc j) (r .assign)) (ca : Stays (suc j) (r .call)) where
     group-stays : (s : St) → On j (s .at) → eqb (kindAt c s) LeftParen ≡ true → Shallow (On j) (groupExpr c r s)
-    unfolding groupExpr
-    group-stays s o e = beyond s o (other (kindAt c s) LeftParen Eof e refl) (λ s₁ o₁. search steps)
+    unfolding groupExpr nests
+    group-stays s o e = beyond s o (nests-as (kindAt c s) LeftParen e refl) (λ s₁ o₁. search steps)
 
     at-stays : (s : St) → On j (s .at) → eqb (kindAt c s) At ≡ true → Shallow (On j) (atExpr c r s)
-    unfolding atExpr
-    at-stays s o e = beyond s o (other (kindAt c s) At Eof e refl) ca
+    unfolding atExpr nests
+    at-stays s o e = beyond s o (nests-as (kindAt c s) At e refl) ca
 
     primary-stays : Stays j (primaryExpr c r)
     unfolding primaryExpr go-on
@@ -279,16 +282,16 @@ module _ (c : Ctx) (b : ℕ → ℕ) (ts : Toks c b) where
         (λ e₄. throw-past-stays _ s o))))
 
     call-part-stays : (x : Node) (i : ℕ) (s : St) → On j (s .at) → eqb (kindAt c s) LeftParen ≡ true → Shallow (On j) (callPart c r x i s)
-    unfolding callPart
-    call-part-stays x i s o e = beyond s o (other (kindAt c s) LeftParen Eof e refl) (λ s₁ o₁. search (steps, param-list-stays, call-named-stays) depth 7)
+    unfolding callPart nests
+    call-part-stays x i s o e = beyond s o (nests-as (kindAt c s) LeftParen e refl) (λ s₁ o₁. search (steps, param-list-stays, call-named-stays) depth 7)
 
     dot-stays : (x : Node) (i : ℕ) (s : St) → On j (s .at) → eqb (kindAt c s) Period ≡ true → Shallow (On j) (dot c r x i s)
-    unfolding dot setCheck
-    dot-stays x i s o e = beyond s o (other (kindAt c s) Period Eof e refl) (λ s₁ o₁. search (steps, single-stays) depth 8)
+    unfolding dot setCheck nests
+    dot-stays x i s o e = beyond s o (nests-as (kindAt c s) Period e refl) (λ s₁ o₁. search (steps, single-stays) depth 8)
 
     index-stays : (x : Node) (i : ℕ) (s : St) → On j (s .at) → eqb (kindAt c s) LeftBracket ≡ true → Shallow (On j) (index c r x i s)
-    unfolding index
-    index-stays x i s o e = beyond s o (other (kindAt c s) LeftBracket Eof e refl) (λ s₁ o₁. search (steps, single-stays) depth 7)
+    unfolding index nests
+    index-stays x i s o e = beyond s o (nests-as (kindAt c s) LeftBracket e refl) (λ s₁ o₁. search (steps, single-stays) depth 7)
 
     postfix-stays : (x : Node) → Stays j (postfix c r x)
     unfolding postfix go-on
@@ -399,35 +402,35 @@ module _ (c : Ctx) (b : ℕ → ℕ) (ts : Toks c b) where
     decls-stays zero n s o = is-at o
     decls-stays (suc f) n s o = search (steps, decl-stays, decls-stays f (suc n))
 
-  -- what follows an expected kind has one token more behind it
-  opens : {A : Type 0} {j : ℕ} {m : M A} (k : ℕ) → eqb k Eof ≡ false → Stays (suc j) m → Stays j (λ s. go-on (expect c k s) (λ u. m))
+  -- what follows an expected kind that nests has one more behind it
+  opens : {A : Type 0} {j : ℕ} {m : M A} (k : ℕ) → nests k ≡ true → Stays (suc j) m → Stays j (λ s. go-on (expect c k s) (λ u. m))
   unfolding expect raise go-on
   opens {j = j} {m = m} k e h s o =
-      by-test (eqb (kindAt c s) k) (consume c) _ (λ (x : Void). Shallow (On j) (go-on (x s) (λ u. m))) (λ p. beyond s o (other (kindAt c s) k Eof p e) h) (λ p. record { shallow = o })
+      by-test (eqb (kindAt c s) k) (consume c) _ (λ (x : Void). Shallow (On j) (go-on (x s) (λ u. m))) (λ p. beyond s o (nests-as (kindAt c s) k p e) h) (λ p. record { shallow = o })
 
   -- block makes every call after its `{`
   block-stays : {j : ℕ} (r : Rec) → Stays (suc j) (r .assign) → ((body : Bool) (names : List ℕ) → Stays (suc j) (r .block body names)) → (body : Bool) (names : List ℕ) → Stays j (block c r body names)
-  unfolding block initScope closeScope setLevel
+  unfolding block initScope closeScope setLevel nests
   block-stays r ex bl body names = opens LeftBrace refl (λ s o. search (steps, bind-stays, decls-stays r ex bl, with-return-stays) depth 13)
 
   -- ── Walk.antt ──
 
   -- what the counted calls need where so many more may be active
   pub record Deep (d : ℕ) : Type 0 where
-    pub assign : {j : ℕ} → 3 * length (c .toks) ≤ d + 3 * j → Stays j (walkers c d .assign)
-    pub unary : {j : ℕ} → 3 * length (c .toks) ≤ 1 + d + 3 * j → Stays j (walkers c d .unary)
-    pub call : {j : ℕ} → 3 * length (c .toks) ≤ 2 + d + 3 * j → Stays j (walkers c d .call)
-    pub block : {j : ℕ} → 3 * length (c .toks) ≤ 2 + d + 3 * j → (body : Bool) (names : List ℕ) → Stays j (walkers c d .block body names)
+    pub assign : {j : ℕ} → 3 * nesting (c .toks) + 3 ≤ d + 3 * j → Stays j (walkers c d .assign)
+    pub unary : {j : ℕ} → 3 * nesting (c .toks) + 3 ≤ 1 + d + 3 * j → Stays j (walkers c d .unary)
+    pub call : {j : ℕ} → 3 * nesting (c .toks) + 3 ≤ 2 + d + 3 * j → Stays j (walkers c d .call)
+    pub block : {j : ℕ} → 3 * nesting (c .toks) + 3 ≤ 2 + d + 3 * j → (body : Bool) (names : List ℕ) → Stays j (walkers c d .block body names)
 
-  -- where none may be active, no token is there
+  -- where none may be active, more tokens that nest would be passed than there are
   walkers-deep : (d : ℕ) → Deep d
   unfolding walkers
   walkers-deep zero =
       record {
-        assign = λ h s o. absurd (omega (arith, o .far, o .here));
-        unary = λ h s o. absurd (omega (arith, o .far, o .here));
-        call = λ h s o. absurd (omega (arith, o .far, o .here));
-        block = λ h body names s o. absurd (omega (arith, o .far, o .here));
+        assign = λ h s o. absurd (omega (arith, o .far, opened-all (c .toks) (s .at)));
+        unary = λ h s o. absurd (omega (arith, o .far, opened-all (c .toks) (s .at)));
+        call = λ h s o. absurd (omega (arith, o .far, opened-all (c .toks) (s .at)));
+        block = λ h body names s o. absurd (omega (arith, o .far, opened-all (c .toks) (s .at)));
       }
   walkers-deep (suc d) =
       let g : Deep d = walkers-deep d in
@@ -457,8 +460,8 @@ module _ (c : Ctx) (b : ℕ → ℕ) (ts : Toks c b) where
       next k none s′ o′ = k (suc n) flag s′ o′
       next k (some e) s′ o′ = fork _ _ _ s′ (λ p. k n true s′ o′) (λ p. end-read-stays n true (some e) s′ o′)
 
-  -- A walk at a limit of three for each token, the last one counted, is not refusal 6.
-  pub walk-shallow : (d : ℕ) → 3 * length (c .toks) ≤ d → Shallow (On 0) (walk c d)
+  -- A walk at a limit of three for each token that nests, and three more, is not refusal 6.
+  pub walk-shallow : (d : ℕ) → 3 * nesting (c .toks) + 3 ≤ d → Shallow (On 0) (walk c d)
   unfolding walk arrive go-on
   walk-shallow d h =
       by-test (eqb (kindAt c start) LexPanic) _ _ (λ (x : Out (Unit {0})). Shallow (On 0) (go-on x (λ u. program c (suc (length (c .toks))) (decl c (walkers c d)) 0 false))) (λ e. record { shallow = tt })
