@@ -37,18 +37,28 @@ pub fn check_call(n: usize, room: usize) -> Result<&'static str, String> {
     Ok(if answer.0 == 0 { "given" } else { "refused" })
 }
 
-/// Checks the bound on a script of ASCII bytes: no more calls are active than its length allows, and only
-/// opening parentheses reach that number.
+/// Checks the bound on a script of ASCII bytes by its length: no more calls are active than that allows, and
+/// only opening parentheses reach the number. And by the bytes that nest.
 pub fn check_bound(script: &[u8]) -> Result<&'static str, String> {
     let (active, most) = (depth(script), 3 * script.len() + 3);
-    let signs = !script.is_empty() && script.iter().all(|&byte| byte == b'(');
-    if signs {
+    if !script.is_empty() && script.iter().all(|&byte| byte == b'(') {
         same("active calls", active, most.min(DEPTH_LIMIT + 1))?;
     } else if active >= most {
         return Err(format!("{active} calls are active, fewer than {most} were wanted"));
     }
+    check_signs(script)
+}
+
+/// Checks the bound on a script of ASCII bytes by the bytes that nest, and that the reading is too deep where
+/// too many calls are active.
+pub fn check_signs(script: &[u8]) -> Result<&'static str, String> {
+    let signs = script.iter().filter(|byte| b"({[=.!-@".contains(byte)).count();
+    let (active, most) = (depth(script), 3 * signs + 3);
+    if active > most {
+        return Err(format!("{active} calls are active, at most {most} were wanted"));
+    }
     let refused = same("too deep", number(script) == TOO_DEEP, active > DEPTH_LIMIT);
-    refused.map(|()| if active > DEPTH_LIMIT { "too deep" } else { "read" })
+    refused.map(|()| if active > DEPTH_LIMIT { "too deep" } else { "not too deep" })
 }
 
 /// The number that the reading call answers, with ample arrays.
@@ -76,9 +86,9 @@ mod tests {
     #[test]
     fn the_bound_is_reached_by_opening_parentheses_alone() {
         reference::run(|| {
-            assert_eq!(check_bound(b"(("), Ok("read"));
-            assert_eq!(check_bound(b"(a"), Ok("read"));
-            assert_eq!(check_bound(&[b'('; 255]), Ok("read"));
+            assert_eq!(check_bound(b"(("), Ok("not too deep"));
+            assert_eq!(check_bound(b"(a"), Ok("not too deep"));
+            assert_eq!(check_bound(&[b'('; 255]), Ok("not too deep"));
             assert_eq!(check_bound(&[b'('; 256]), Ok("too deep"));
         });
     }

@@ -1,10 +1,11 @@
 //! The groups of the deepest script of a length: the call, and the bound on the calls that are active.
 
-use super::repeat;
-use crate::deepest::{check_bound, check_call, LONGEST};
+use super::{repeat, Maker};
+use crate::deepest::{check_bound, check_call, check_signs, LONGEST};
 use crate::report::Report;
 use crate::scripts::random::Random;
 use crate::scripts::short::{self, ARMS};
+use crate::scripts::{grammar, nesting, soup};
 
 /// How much of each group a form has.
 pub struct Form {
@@ -51,12 +52,22 @@ fn bounded(report: &mut Report, form: &Form) {
     every("all ASCII bytes", &short::ascii(), form.ascii_len);
     every("bytes that reach every arm", ARMS, form.arms_len);
     report.group("deepest: random nestings of up to 255 bytes", |tally| {
-        repeat(tally, form.random, SEED, &nesting, check_bound);
+        repeat(tally, form.random, SEED, &nested, check_bound);
     });
+    let scripts: [(&str, Maker); 3] = [
+        ("token soup", &soup::soup),
+        ("scripts by the grammar", &grammar::script),
+        ("mixed nesting about the limit", &nesting::mixed),
+    ];
+    for (name, make) in scripts {
+        report.group(&format!("deepest: bytes that nest in {name}"), |tally| {
+            repeat(tally, form.random / 10, SEED, make, check_signs);
+        });
+    }
 }
 
 /// A script of at most 255 bytes that nests at random.
-fn nesting(random: &mut Random) -> Vec<u8> {
+fn nested(random: &mut Random) -> Vec<u8> {
     let len = random.between(1, LONGEST);
     let mut script = String::new();
     while script.len() < len {

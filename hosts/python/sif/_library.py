@@ -9,9 +9,9 @@ from typing import Any, Callable
 
 NAME = "libsif_c.so.0"
 
-# A reading recurses as its script nests and takes up to 2.4 MB of stack. At most 3 * n + 3 of the parser's
-# calls are active at once in n bytes (sif_deepest), and each nested one is owed to one of these bytes; with at
-# most FEW of them, or of bytes at all, a reading takes less than half a megabyte.
+# A reading recurses as its script nests and takes up to 2.4 MB of stack. With n of these bytes in the script at
+# most 3 * n + 3 of the parser's calls are active at once, which is proved (docs/PROOFS.md, none-deeper-signs);
+# with at most FEW of them a reading takes less than half a megabyte.
 OPENING = b"{([.=-!@"
 FEW = 64
 STACK = 8 << 20

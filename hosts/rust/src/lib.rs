@@ -30,10 +30,10 @@
 //! # Threads and stack
 //!
 //! A reading recurses as its script nests, and the deepest takes about 2.4 MB of stack; a Rust thread has
-//! 2 MiB by default. [`read`] and [`text`] go by how many calls of the parser can be active at once: at most
-//! 3 * n + 3 in n bytes ([`deepest`]), and so for the bytes of a script that can nest. With at most 64 of
-//! them the library is called at once: it takes less than half a megabyte then. With more, the call runs
-//! on a thread of its own with a stack of 8 MiB, and the caller waits. So any thread can call with half a
+//! 2 MiB by default. [`read`] and [`text`] count the bytes of a script that can nest: with n of them at most
+//! 3 * n + 3 calls of the parser are active at once, which is proved ([`deepest`]). With at most 64 of them
+//! the library is called at once: it takes less than half a megabyte then. With more, the call runs on a
+//! thread of its own with a stack of 8 MiB, and the caller waits. So any thread can call with half a
 //! megabyte to spare. docs/HOSTS.md says what the thread costs. [`tokens`] takes little stack always.
 //!
 //! # Panics

@@ -1,16 +1,17 @@
 //! The stack of a call. A reading recurses as its script nests, and takes up to 2.4 MB: more than the
 //! 2 MiB that a Rust thread has by default.
 //!
-//! How much a script can take goes by how many of the parser's counted calls can be active at once. In
-//! n bytes that is [`depth`] of n: proved (`none-deeper`, docs/PROOFS.md), and reached by
-//! [`deepest`](crate::deepest). Only the bytes of [`opens`] nest, so the same goes for a longer script and the
-//! number of those. A script in which few calls can be active is read on the caller's stack. Any other is
-//! read on a thread of its own, with room for the deepest that is read.
+//! How much a script can take goes by how many of the parser's counted calls can be active at once. In a
+//! script in which n of the bytes of [`opens`] stand that is at most [`depth`] of n: proved
+//! (`none-deeper-signs`, docs/PROOFS.md), and reached by [`deepest`](crate::deepest). A script in which few
+//! calls can be active is read on the caller's stack. Any other is read on a thread of its own, with room
+//! for the deepest that is read.
 
 use std::thread::{scope, Builder};
 
 /// The bytes that nest: blocks, groups, calls and indices, table accesses, assignments, unary operators,
-/// and `@`. In comments, strings and numbers they are counted too, which only makes a thread more often.
+/// and `@` (`opens` of sifc_deepest/specs/Signs.antt). In comments, strings and numbers they are counted
+/// too, which only makes a thread more often.
 fn opens(byte: u8) -> bool {
     matches!(byte, b'{' | b'(' | b'[' | b'.' | b'=' | b'-' | b'!' | b'@')
 }
@@ -18,7 +19,7 @@ fn opens(byte: u8) -> bool {
 /// The limit of refusal 6: so many counted calls are active at most.
 const MOST: usize = 768;
 
-/// The most counted calls that are active at once in so many bytes.
+/// The most counted calls that are active at once where so many bytes nest.
 pub const fn depth(bytes: usize) -> usize {
     if bytes < 255 {
         3 * bytes + 3
