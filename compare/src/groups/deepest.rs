@@ -54,14 +54,14 @@ fn bounded(report: &mut Report, form: &Form) {
     report.group("deepest: random nestings of up to 255 bytes", |tally| {
         repeat(tally, form.random, SEED, &nested, check_bound);
     });
-    let scripts: [(&str, Maker); 3] = [
-        ("token soup", &soup::soup),
-        ("scripts by the grammar", &grammar::script),
-        ("mixed nesting about the limit", &nesting::mixed),
+    let scripts: [(&str, usize, Maker); 3] = [
+        ("token soup", form.random / 10, &soup::soup),
+        ("scripts by the grammar", form.random / 10, &grammar::script),
+        ("mixed nesting about the limit", form.random / 100, &nesting::mixed),
     ];
-    for (name, make) in scripts {
+    for (name, count, make) in scripts {
         report.group(&format!("deepest: bytes that nest in {name}"), |tally| {
-            repeat(tally, form.random / 10, SEED, make, check_signs);
+            repeat(tally, count, SEED, make, check_signs);
         });
     }
 }
