@@ -7,7 +7,8 @@ ghost use Rattle.sifc_deepest.specs.Deepest.{deepestCall, deepestAnswer, deepes
 // a refusal that is 0.
 #[no_mangle]
 pub extern "C" fn sif_deepest(n: usize, script: &mut [u8], depth: &mut usize) -> u32
-    ensures { λ r. ⌜ deepestTold (deepestAnswer (now (depth .exit)) r) (now (script .exit)) ≡ toldDeepest (deepestCall n (now (script .entry))) ⌝ }
+    ensures { λ r. ⌜ deepestTold (deepestAnswer (now (depth .exit)) r) (now (script .exit))
+        ≡ toldDeepest (deepestCall n (now (script .entry))) ⌝ }
 {
     let said = sifc_deepest::deepest(n, script);
     match said {

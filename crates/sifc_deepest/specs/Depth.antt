@@ -1,9 +1,9 @@
 -- The theorem of ask 14: 3 * n + 3 is the greatest number of counted calls active in a walk over n bytes, flagged ones included, whatever the rooms. The definition
 -- has a limit and no counter, so the number is the least limit at which the walk is not refusal 6.
-use Prim.Native.Nat.{ℕ, suc, _+_, _*_, _≤_, _<_}
+use Prim.Native.Nat.{ℕ, _+_, _*_, _≤_, _<_}
 use mathlib.Core.List.{List, [], _∷_, _++_, map}
 use mathlib.Core.Bool.{Bool, true, false}
-use mathlib.Core.Path.{_≡_, refl, sym, ap, _∙_, subst}
+use mathlib.Core.Path.{_≡_, refl, subst}
 use native.Mathlib.Omega.{arith}
 use lib.Dec.{eqb, ltb}
 use lib.ListN.{length, take, replicate, length-replicate}
@@ -11,18 +11,15 @@ use lib.Seq.{take-at}
 use borrow.Author.Tests.{ltb-true, ltb-false, le-ltb, eqb-true, eqb-false}
 use Rattle.sifc_err.specs.declared.Token.{Token}
 use Rattle.sifc_err.specs.declared.Refusal.the-variants.{TokensFull, TooDeep}
-use Rattle.sifc_word.specs.Base.{if_then_else_}
 use Rattle.sifc_lex.specs.Lex.{lex}
 use Rattle.sifc_lex.specs.LexLaws.{lex-count}
 use Rattle.sifc_tokens.specs.Tokens.{padded}
 use Rattle.sifc_def.specs.State.{Out, done, fail, refuse}
 use Rattle.sifc_def.specs.Walk.{End, walk}
 use Rattle.sifc_def.specs.Read.{Rooms, Outcome, refused, ctxOf, depthLimit, ended, read}
-use Rattle.sifc_def.specs.OutcomeLaws.{by-test}
 use Rattle.sifc_def.specs.TokLaws.{worth, lexed-toks}
-use Rattle.sifc_deepest.specs.declared.DeepestAnswer.{DeepestAnswer}
 use Rattle.sifc_deepest.specs.declared.DeepestAnswer.the-variants.{Depth, NoLength}
-use Rattle.sifc_deepest.specs.Deepest.{opening, longest, depthOf, openings, DeepestCall, deepestCalled, deepestCall}
+use Rattle.sifc_deepest.specs.Deepest.{opening, longest, depthOf, openings, deepestCalled, deepestCall}
 use Rattle.sifc_deepest.specs.DeepestLaws.{call-zero, call-long, call-small, call-given}
 use Rattle.sifc_deepest.specs.Signs.{signs, signs-few, lexed-signs}
 use Rattle.sifc_deepest.specs.Shallow.{Shallow, On, walk-shallow}

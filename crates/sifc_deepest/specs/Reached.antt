@@ -1,12 +1,11 @@
 -- A script of n opening parentheses has 3 * n + 3 counted calls active: at every limit below that its walk is refusal 6. Each `(` takes three calls, and so does
 -- the Eof behind them: assign_expr, unary_expr, fn_call_expr. Nothing is built or listed on the way down, so the rooms do not matter.
 use Prim.Native.Nat.{ℕ, zero, suc, _+_, _*_, _≤_, _<_}
-use mathlib.Core.List.{List, _∷_}
 use mathlib.Core.Bool.{Bool, true, false}
-use mathlib.Core.Path.{_≡_, refl, sym, subst}
+use mathlib.Core.Path.{_≡_, refl}
 use native.Mathlib.Omega.{arith}
 use lib.Dec.{eqb, ltb}
-use lib.ListN.{length, replicate, length-replicate}
+use lib.ListN.{length, length-replicate}
 use borrow.Author.Tests.{ltb-true, ltb-false}
 use Rattle.sifc_err.specs.declared.Refusal.{Refusal}
 use Rattle.sifc_err.specs.declared.Refusal.the-variants.{TooDeep}
@@ -18,8 +17,7 @@ use Rattle.sifc_def.specs.State.{Ctx, St, Out, done, refuse, M, Void, go-on, to
 use Rattle.sifc_def.specs.Expr.{Rec, isUnary, isLiteral, levels, assignExpr, unaryExpr, groupExpr, primaryExpr, fnCallExpr}
 use Rattle.sifc_def.specs.Stmt.{exprStmt, stmt, decl}
 use Rattle.sifc_def.specs.Walk.{start, walkers, settled, topDecl, program, walk}
-use Rattle.sifc_def.specs.OutcomeLaws.{by-test}
-use Rattle.sifc_def.specs.StepLaws.{clash, kindAt, moved}
+use Rattle.sifc_def.specs.StepLaws.{moved}
 use Rattle.sifc_deepest.specs.Deepest.{openings}
 
 -- ── the tokens of n opening parentheses ──

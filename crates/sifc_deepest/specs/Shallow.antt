@@ -8,7 +8,7 @@ use mathlib.Core.Option.{Option, none, some}
 use mathlib.Core.Bool.{Bool, true, false}
 use mathlib.Core.Path.{_≡_, refl}
 use native.Mathlib.Omega.{arith}
-use lib.Dec.{eqb, leb, ltb}
+use lib.Dec.{eqb}
 use lib.ListN.{length}
 use Rattle.sifc_err.specs.declared.Refusal.{Refusal}
 use Rattle.sifc_err.specs.declared.Refusal.the-variants.{LongScript, NotAscii, Uneven, TokensFull, SourceFault, TooDeep, NodesFull, SymbolsFull, ErrorsFull, Flagged, TextFull}
@@ -19,8 +19,8 @@ use Rattle.sifc_def.specs.declared.Why.{Why}
 use Rattle.sifc_def.specs.declared.What.{What}
 use Rattle.sifc_def.specs.declared.What.the-variants.{Placeholder, Function, Variable, Other}
 use Rattle.sifc_def.specs.Error.{continuable}
-use Rattle.sifc_def.specs.State.{Node, Ctx, St, Out, done, fail, refuse, M, Void, go-on, tokAt, nameAt, panicAt, arrive, consume, list, raise, addErrorWPos, addError, throw, throwPast, expect, optional, matchIdent, orThrow, ident, push, setNodes}
-use Rattle.sifc_def.specs.Symbols.{putAt, retrieve, store, setLevel, initScope, closeScope, setCheck}
+use Rattle.sifc_def.specs.State.{Node, Ctx, St, Out, done, fail, refuse, M, Void, go-on, tokAt, panicAt, arrive, consume, list, raise, addErrorWPos, addError, throw, throwPast, expect, optional, matchIdent, orThrow, ident, push, setNodes}
+use Rattle.sifc_def.specs.Symbols.{retrieve, store, setLevel, initScope, closeScope, setCheck}
 use Rattle.sifc_def.specs.Expr.{Rec, operators, levels, assignVar, assignToken, assignArray, assignNothing, assignTo, separator, paramList, single, callCounted, callDeclared, callName, callNamed, literal, known, checkName, identExpr, assignExpr, unaryExpr, groupExpr, atExpr, primaryExpr, callPart, dot, index, postfix, fnCallExpr}
 use Rattle.sifc_def.specs.Stmt.{bind, withReturn, identNode, param, identPair, declareVar, arrayNodes, endIf, commaList, arrayDecl, tableItem, itemList, tableDecl, initial, varDecl, fnDecl, elifStmt, elseBlock, branches, ifStmt, forStmt, retStmt, exprStmt, stmt, decl, decls, block}
 use Rattle.sifc_def.specs.Walk.{End, start, walkers, giveUp, settled, topDecl, endRead, program, walk}

@@ -13,9 +13,9 @@ use Rattle.sifc_err.specs.declared.Ending.{Ending}
 use Rattle.sifc_err.specs.declared.Ending.the-variants.{TrueEnd, UnknownChar, UnterminatedString, Panic}
 use Rattle.sifc_lex.specs.declared.lex.Step.{Step}
 use Rattle.sifc_lex.specs.declared.lex.Step.the-variants.{Skip, Word, Stop}
-use Rattle.sifc_word.specs.Base.{if_then_else_, member, same, span}
+use Rattle.sifc_word.specs.Base.{member, same, span}
 use Rattle.sifc_word.specs.BaseLaws.{and-left, and-right, if-either}
-use Rattle.sifc_word.specs.Kind.{LeftParen, LeftBrace, LeftBracket, Eq, Period, Bang, Minus, At, Eof}
+use Rattle.sifc_word.specs.Kind.{LeftParen, LeftBrace, LeftBracket, Eq, Period, Bang, Minus, At}
 use Rattle.sifc_word.specs.Reserved.{reservedWords, kindAmong, nameKind}
 use Rattle.sifc_word.specs.Reserved as Reserved
 use Rattle.sifc_lex.specs.Lex.{white, digit, letter, alnum, inLine, inStr, Sign, doubles, singles, singleKind, doubleKind, oneSign, lexSign, hashComment, lineEnd, slashComment, nextIs, lexSlash, closed, lexStr, pointed, fraction, lexNum, lexIdent, step, endKind, Lexed, ended, onStep, lexFrom, lexed, lex}

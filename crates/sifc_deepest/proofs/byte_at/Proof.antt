@@ -5,8 +5,6 @@ use Rattle.sifc_word.specs.Base.{if_then_else_}
 use Rattle.sifc_deepest.specs.Deepest.{byteAt}
 use Rattle.sifc_deepest.proofs.byte_at.Statement.{statement}
 use Rattle.sifc_deepest.proofs.byte_at.Tie as tie
-use Rattle.sifc_deepest.proofs.byte_at.Reads as reads
-use Rattle.sifc_deepest.proofs.byte_at.Lts as lts
 
 returns : tie.Need-returns
 unfolding byteAt if_then_else_

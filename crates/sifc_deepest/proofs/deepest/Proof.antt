@@ -1,15 +1,12 @@
 -- `deepest` meets its contract: each test of entry is one of the definition's. Assumes nothing.
 use native.Mathlib.Omega.{arith}
 use borrow.Author.Needs.{needs}
-use mathlib.Core.Path.{_≡_, sym, ap, _∙_}
+use mathlib.Core.Path.{sym, ap, _∙_}
 use Rattle.sifc_deepest.specs.declared.DeepestAnswer.the-variants.{Depth}
 use Rattle.sifc_deepest.specs.Deepest.{depthOf, deepestCalled}
 use Rattle.sifc_deepest.specs.DeepestLaws.{call-zero, call-long, call-small, call-given}
 use Rattle.sifc_deepest.proofs.deepest.Statement.{statement}
 use Rattle.sifc_deepest.proofs.deepest.Tie as tie
-use Rattle.sifc_deepest.proofs.deepest.Reads as reads
-use Rattle.sifc_deepest.proofs.deepest.Lts as lts
-use Rattle.sifc_deepest.proofs.fill.Reads as fill-reads
 
 returns : tie.Need-returns
 returns c = sym (call-zero _ _ (omega arith))

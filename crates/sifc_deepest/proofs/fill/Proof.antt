@@ -4,13 +4,10 @@ use Prim.Native.Nat.{_-_, _≤_, _<_}
 use native.Mathlib.Omega.{arith}
 use borrow.Author.Needs.{needs}
 use mathlib.Core.Path.{_≡_, _∙_}
-use lib.ListN.{length, length-set}
+use lib.ListN.{length}
 use Rattle.sifc_deepest.specs.DeepestLaws.{filled, filled-none, filled-more, filled-all}
 use Rattle.sifc_deepest.proofs.fill.Statement.{statement}
 use Rattle.sifc_deepest.proofs.fill.Tie as tie
-use Rattle.sifc_deepest.proofs.fill.Reads as reads
-use Rattle.sifc_deepest.proofs.fill.Lts as lts
-use Rattle.sifc_deepest.proofs.byte_at.Reads as byte-at-reads
 
 abbrev Inv-loop : tie.InvT-loop
 Inv-loop n script₀ i₀ script i = (i ≤ length script₀) × (length script ≡ length script₀) × (script ≡ filled n script₀ i)

@@ -2,9 +2,6 @@ use borrow.Author.Needs.{needs}
 use Rattle.sifc_deepest.specs.DeepestLaws.{told-depth, told-none}
 use Rattle.sif_c.proofs.deepest.sif_deepest.Statement.{statement}
 use Rattle.sif_c.proofs.deepest.sif_deepest.Tie as tie
-use Rattle.sif_c.proofs.deepest.sif_deepest.Reads as reads
-use Rattle.sif_c.proofs.deepest.sif_deepest.Lts as lts
-use Rattle.sifc_deepest.proofs.deepest.Reads as deepest-reads
 
 deepest-requires : tie.Need-deepest-requires
 deepest-requires c κs = search needs
