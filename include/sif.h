@@ -31,9 +31,17 @@ extern "C" {
 #define SIF_TEXT_ROOM(n) (4 * (size_t)(n))
 
 /*
+ * The most of the parser's counted calls (SIF_TOO_DEEP) that are active at once while n bytes are read,
+ * whatever they are and whatever is lent. This is proved, and up to 255 bytes n opening parentheses reach
+ * it (sif_deepest); from 256 bytes on refusal 6 keeps it at 768. An integrator sizes a stack by it:
+ * docs/HOSTS.md has the bytes of stack for each of these calls.
+ */
+#define SIF_DEPTH(n) ((size_t)(n) > 255 ? (size_t)768 : 3 * (size_t)(n) + 3)
+
+/*
  * The refusals. Of 1 to 4 the least that holds is answered; of 5 to 9 the one that the reading meets
  * first; 10 and 11 come last, in this order. sif_tokens answers 0 to 5, sif_reading 0 to 9, sif_text 0
- * to 11.
+ * to 11. 20 is of sif_deepest alone.
  */
 enum {
     /* No refusal: the script was lexed or read, or its text was written. */
@@ -64,7 +72,9 @@ enum {
     /* The script did not read without failure: its flag is up, and it has no canonical text. */
     SIF_FLAGGED = 10,
     /* The canonical text is longer than its buffer. */
-    SIF_TEXT_FULL = 11
+    SIF_TEXT_FULL = 11,
+    /* No deepest script is given: for 0 bytes, for more than 255, or where the buffer is shorter. */
+    SIF_NO_LENGTH = 20
 };
 
 /* The kinds of fault, which refusal 5 comes with. */
@@ -269,7 +279,8 @@ uint32_t sif_tokens(const uint8_t *script, size_t script_len,
  * 9 set every element to 0.
  *
  * The call recurses as the script nests, up to the limit of refusal 6. It takes at most about 2.4 MB of
- * stack (measured; docs/PERFORMANCE.md): a thread that calls it needs more than that.
+ * stack (measured; docs/PERFORMANCE.md): a thread that calls it needs more than that. On short scripts it
+ * takes less: SIF_DEPTH.
  *
  * Answers the number of the refusal, or 0.
  */
@@ -323,6 +334,22 @@ uint32_t sif_text(const uint8_t *script, size_t script_len,
                   uint32_t *reasons, size_t reasons_len,
                   uint8_t *text, size_t text_len,
                   size_t *count, uint32_t *kind, size_t *offset);
+
+/*
+ * Gives a script of n bytes in whose reading as many of the parser's counted calls (SIF_TOO_DEEP) are active
+ * at once as in any script of n bytes, and their number: n opening parentheses, and SIF_DEPTH(n). With it
+ * an integrator tries a stack, or measures what it takes.
+ *
+ *   n                      the length, from 1 to 255
+ *   script, script_len     the buffer for the script, and how many bytes it has; it may be full of anything
+ *                          beforehand. The script stands at its front, and all bytes behind it become 0
+ *   depth                  receives the number of calls; 0 with refusal 20. It is always written
+ *
+ * Refusal 20 leaves the buffer as it was. The call takes little stack.
+ *
+ * Answers the number of the refusal, or 0.
+ */
+uint32_t sif_deepest(size_t n, uint8_t *script, size_t script_len, size_t *depth);
 
 #ifdef __cplusplus
 }

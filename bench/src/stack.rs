@@ -2,6 +2,7 @@
 //! of ours, which is full of a pattern beforehand.
 
 use crate::sides::{Call, Job, Side};
+use compare::host::deepest;
 use compare::scripts::nesting;
 use std::ffi::{c_int, c_void};
 
@@ -39,6 +40,27 @@ pub fn measure_all() {
             });
             println!("{}, {}: {}, on {}..", call.name(), side.name(), most.0, most.1);
         }
+    }
+    measure_deepest();
+}
+
+/// The lengths of the deepest scripts that are measured.
+const LENGTHS: [usize; 9] = [1, 2, 4, 8, 16, 32, 64, 128, 255];
+
+/// Prints the stack of a reading of the deepest script of some lengths, how much that is for each of the calls
+/// that are active, and the most that any way to nest takes in as many bytes.
+fn measure_deepest() {
+    println!("The stack of a reading of the deepest script of n bytes: n, calls, bytes, bytes for a call;");
+    println!("and the most that a script of n bytes takes that nests in one of 16 ways.");
+    for n in LENGTHS {
+        let mut script = vec![0; n];
+        let (_, calls) = deepest(n, &mut script);
+        let bytes = taken(Side::Ours, Call::Reading, &script);
+        let mut most = (0, String::new());
+        nesting::in_bytes(n, |script| {
+            most = (taken(Side::Ours, Call::Reading, script), shown(script)).max(most.clone())
+        });
+        println!("{n} {calls} {bytes} {}; {}, on {}", bytes.div_ceil(calls), most.0, most.1);
     }
 }
 

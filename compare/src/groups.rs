@@ -1,6 +1,7 @@
 //! The groups of scripts that a run goes through, in the short and in the long form.
 
 mod checks;
+mod deepest;
 mod reading;
 mod text;
 
@@ -23,6 +24,7 @@ pub struct Form {
     pub damaged_large: usize,
     pub reading: reading::Form,
     pub text: text::Form,
+    pub deepest: deepest::Form,
 }
 
 pub const SHORT: Form = Form {
@@ -34,6 +36,7 @@ pub const SHORT: Form = Form {
     damaged_large: 40,
     reading: reading::SHORT,
     text: text::SHORT,
+    deepest: deepest::SHORT,
 };
 
 pub const LONG: Form = Form {
@@ -45,6 +48,7 @@ pub const LONG: Form = Form {
     damaged_large: 2_000,
     reading: reading::LONG,
     text: text::LONG,
+    deepest: deepest::LONG,
 };
 
 /// The sizes of damaged scripts.
@@ -73,6 +77,7 @@ pub fn run(run: Run) -> bool {
     println!("our side: {OURS}");
     tokens(&mut report, form);
     walk(&mut report, form, &Checks::of_library());
+    deepest::run(&mut report, &form.deepest);
     report.finish()
 }
 

@@ -160,6 +160,8 @@ extern "C" {
         kind: *mut u32,
         offset: *mut usize,
     ) -> u32;
+
+    fn sif_deepest(n: usize, script: *mut u8, script_len: usize, depth: *mut usize) -> u32;
 }
 
 /// The reading call.
@@ -251,6 +253,18 @@ fn text(script: &[u8], arrays: Arrays<'_>, text: &mut [u8]) -> TextAnswer {
     };
     TextAnswer { number, kind, offset: word(offset), count: word(count) }
 }
+
+/// The call that gives the deepest script of a length: the refusal's number, and the depth.
+#[cfg(not(feature = "stand-in"))]
+pub fn deepest(n: usize, script: &mut [u8]) -> (u32, usize) {
+    let mut depth = UNWRITTEN as usize;
+    // SAFETY: each pointer comes from a reference and has the length that goes with it, and the call
+    // has no further requirement.
+    let number = unsafe { sif_deepest(n, script.as_mut_ptr(), script.len(), &mut depth) };
+    (number, depth)
+}
+#[cfg(feature = "stand-in")]
+pub use crate::deepest::written as deepest;
 
 /// A count or an offset as an answer has it.
 #[cfg(not(feature = "stand-in"))]

@@ -1,9 +1,10 @@
 //! The comparison: the proved calls and the Rust of docs/src on the same scripts.
 //!
-//! `scripts` makes the scripts, `host` calls the static library, and `tokens`, `reading` and `text` judge
-//! its answers by what `reference` says. `groups` runs all of this; `list` keeps a sample of the Rust's
+//! `scripts` makes the scripts, `host` calls the static library, and `tokens`, `reading`, `text` and `deepest`
+//! judge its answers by what `reference` says. `groups` runs all of this; `list` keeps a sample of the Rust's
 //! answers.
 
+pub mod deepest;
 pub mod groups;
 pub mod host;
 mod lent;

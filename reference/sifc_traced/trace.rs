@@ -51,6 +51,8 @@ pub struct Trace {
     pub carried: Vec<Place>,
     /// The opening signs of the suffixes that were being read when a panic came.
     pub opened: Vec<Place>,
+    /// The most counted calls that were active at once.
+    pub most_active: usize,
     depth: usize,
     nodes: usize,
     next_carried: Option<Place>,
@@ -93,6 +95,7 @@ impl Drop for Counted {
 pub fn enter() -> Counted {
     let too_deep = with(|trace| {
         trace.depth += 1;
+        trace.most_active = trace.most_active.max(trace.depth);
         trace.depth > DEPTH_LIMIT
     });
     let counted = Counted;

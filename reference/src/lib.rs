@@ -14,7 +14,7 @@ mod tree;
 
 pub use errors::{Carries, Error};
 pub use kinds::{EOF_KIND, STR_KIND, VAL_KIND};
-pub use reading::{reading, End, Read, Reading};
+pub use reading::{depth, reading, End, Read, Reading};
 pub use run::run;
 pub use sifc_parse::{lex, parser, symtab, token};
 pub use sifc_traced::trace::{Event, DEPTH_LIMIT};

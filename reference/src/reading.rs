@@ -68,6 +68,12 @@ pub fn reading(script: &[u8], lexed: &Lexed) -> Reading {
     Reading { events: trace.events, end: end.unwrap_or_else(End::Unknown) }
 }
 
+/// The most counted calls that are active at once while the Rust reads a script of ASCII bytes; one more
+/// than the limit where it is refusal 6.
+pub fn depth(script: &[u8]) -> usize {
+    traced(script).1.most_active
+}
+
 fn plain(script: &[u8]) -> Result<Parsed, PanicPlace> {
     use sifc_parse::{parser::Parser, symtab::SymTab};
     seen::take();

@@ -55,6 +55,13 @@ pub fn around_limit(few: bool, mut visit: impl FnMut(&[u8])) {
     }
 }
 
+/// Visits scripts of so many bytes that nest in each way from the first byte on.
+pub fn in_bytes(len: usize, mut visit: impl FnMut(&[u8])) {
+    for (open, _, _) in LEVELS {
+        visit(&open.repeat(len).as_bytes()[..len]);
+    }
+}
+
 /// Visits scripts that nest far too deep.
 pub fn far_too_deep(mut visit: impl FnMut(&[u8])) {
     for (open, _, _) in LEVELS {

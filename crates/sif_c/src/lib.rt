@@ -1,4 +1,7 @@
 // The calls that hosts in other languages link, on plain slices. include/sif.h declares them.
+mod deepest;
+
+pub use deepest::sif_deepest;
 use sifc_tokens::TokensAnswer;
 use sifc_told::told;
 use sifc_told::told_text;

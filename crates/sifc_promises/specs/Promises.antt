@@ -25,6 +25,10 @@ use Rattle.sifc_text.proofs.text as text-call
 use Rattle.sifc_text.proofs.text.Symbol as text-symbol
 use Rattle.sifc_text.proofs.text.Met as text-met
 use Rattle.sifc_told.specs.Hosts.{answer, earlyNumbers, readAnswer, told, textAnswer, textTold, toldText}
+use Rattle.sifc_deepest.specs.Deepest.{deepestCalled, deepestCall, deepestAnswer, deepestTold, toldDeepest}
+use Rattle.sifc_deepest.proofs.deepest as deepest-call
+use Rattle.sifc_deepest.proofs.deepest.Symbol as deepest-symbol
+use Rattle.sifc_deepest.proofs.deepest.Met as deepest-met
 use Rattle.sif_c.proofs.sif_tokens as sif-tokens-call
 use Rattle.sif_c.proofs.sif_tokens.Symbol as sif-tokens-symbol
 use Rattle.sif_c.proofs.sif_tokens.Met as sif-tokens-met
@@ -34,6 +38,9 @@ use Rattle.sif_c.proofs.sif_reading.Met as sif-reading-met
 use Rattle.sif_c.proofs.sif_text as sif-text-call
 use Rattle.sif_c.proofs.sif_text.Symbol as sif-text-symbol
 use Rattle.sif_c.proofs.sif_text.Met as sif-text-met
+use Rattle.sif_c.proofs.sif_deepest as sif-deepest-call
+use Rattle.sif_c.proofs.sif_deepest.Symbol as sif-deepest-symbol
+use Rattle.sif_c.proofs.sif_deepest.Met as sif-deepest-met
 
 module _ {M : Type 1} where
   -- The tokens call: answer and both arrays at exit are `tokensCall` of the script and the arrays at entry.
@@ -126,6 +133,16 @@ module _ {M : Type 1} where
       (arrays (now (a .0)) (now (a .1 .0)) (now (a .1 .1 .0)) (now (b .0)) (now (b .1 .0)) (now (b .1 .1 .0)) (now (b .1 .1 .1 .0)))
       (now (b .1 .1 .1 .1 .0)))
   sif-text = sif-text-met.met
+
+  -- The deepest script of a length, which is the first argument: answer and buffer at exit are `deepestCall` of the length and the buffer at entry.
+  pub deepest : Promised M deepest-call.ended deepest-symbol.routine λ κs at r end.
+      deepestCalled r (now (end .1 .0)) ≡ deepestCall (at .0) (now (at .1 .0))
+  deepest = deepest-met.met
+
+  -- The same for hosts: the numbers are the depth and, as the result, the refusal's number.
+  pub sif-deepest : Promised M sif-deepest-call.ended sif-deepest-symbol.routine λ κs at r end.
+      deepestTold (deepestAnswer (now (end .1 .1 .0)) r) (now (end .1 .0)) ≡ toldDeepest (deepestCall (at .0) (now (at .1 .0)))
+  sif-deepest = sif-deepest-met.met
 
 -- Demand 3, of any eight calls that ran: two scripts, their readings and text calls, and the readings and text calls of their canonical texts.
 pub demand3 : (x y : Ran) → FlagDown (x .reads .answer) → FlagDown (y .reads .answer) → AllFit x → AllFit y → Demand3 x y

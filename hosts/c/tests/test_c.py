@@ -30,6 +30,26 @@ def constant(prefix: str, name: str) -> str:
     return prefix + re.sub(r"(?<=[a-z])(?=[A-Z])", "_", name).upper()
 
 
+# Prints length, refusal, depth, SIF_DEPTH and the script for every length; `-` where the buffer was left.
+DEEPEST = """
+#include <sif.h>
+#include <stdio.h>
+
+int main(void) {
+    uint8_t script[257];
+    size_t n, depth;
+    for (n = 1; n <= 257; n++) {
+        uint32_t number;
+        script[0] = '-';
+        script[1] = 0;
+        number = sif_deepest(n % 257, script, sizeof script, &depth);
+        printf("%zu %u %zu %zu %s\\n", n % 257, (unsigned)number, depth, SIF_DEPTH(n % 257), (const char *)script);
+    }
+    return 0;
+}
+"""
+
+
 class Header(unittest.TestCase):
     def test_the_numbers_are_those_of_the_rust_source(self) -> None:
         header = (ROOT / "include/sif.h").read_text()
@@ -46,6 +66,7 @@ class Header(unittest.TestCase):
         refusals += " ERRORS_FULL FLAGGED TEXT_FULL"
         for number, name in enumerate(refusals.split()):
             self.assertEqual(told["SIF_" + name], number)
+        self.assertEqual(told["SIF_NO_LENGTH"], 20)
 
     def test_c_and_cpp_take_it(self) -> None:
         source = b"#include <sif.h>\nint main(void) { return SIF_TOKEN_EOF - 47; }\n"
@@ -57,7 +78,7 @@ class Header(unittest.TestCase):
 
 
 class Libraries(unittest.TestCase):
-    CALLS = ["sif_reading", "sif_text", "sif_tokens"]
+    CALLS = ["sif_deepest", "sif_reading", "sif_text", "sif_tokens"]
 
     def exported(self, *words) -> list[str]:
         told = run("nm", "--defined-only", "--extern-only", *words).stdout.decode()
@@ -94,6 +115,14 @@ class Programs(unittest.TestCase):
         self.assertEqual(told, [(call, refusal) for call in wanted for refusal in wanted[call]])
         for call, refusal, due, cleared in lines:
             self.assertEqual(cleared, due, f"{call}, refusal {refusal}")
+
+    def test_the_deepest_script_of_a_length(self) -> None:
+        source = self.folder / "deepest.c"
+        source.write_text(DEEPEST)
+        told = run(self.built(source, "-Iinclude", "target/staticlib/libsif_c.a")).stdout.decode()
+        wanted = [f"{n} 0 {3 * n + 3} {3 * n + 3} {'(' * n}" for n in range(1, 256)]
+        none = ["256 20 0 768 -", "0 20 0 3 -"]
+        self.assertEqual(told.splitlines(), wanted + none)
 
     def replayed(self, *words) -> None:
         program = self.built("hosts/c/replay.c", "-Iinclude", *words)

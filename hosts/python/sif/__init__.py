@@ -35,7 +35,7 @@ from ._model import (
     TokenKind,
     place,
 )
-from ._reader import MAX_SCRIPT, read, text, tokens
+from ._reader import MAX_SCRIPT, deepest, read, text, tokens
 
 __all__ = [
     "MAX_SCRIPT",
@@ -51,6 +51,7 @@ __all__ = [
     "Span",
     "Token",
     "TokenKind",
+    "deepest",
     "place",
     "read",
     "text",

@@ -9,8 +9,9 @@ from typing import Any, Callable
 
 NAME = "libsif_c.so.0"
 
-# A reading recurses as its script nests and takes up to 2.4 MB of stack. Each nested call is owed to one of
-# these bytes; with at most FEW of them it takes less than half a megabyte.
+# A reading recurses as its script nests and takes up to 2.4 MB of stack. With n of these bytes in the script at
+# most 3 * n + 3 of the parser's calls are active at once, which is proved (docs/PROOFS.md, none-deeper-signs);
+# with at most FEW of them a reading takes less than half a megabyte.
 OPENING = b"{([.=-!@"
 FEW = 64
 STACK = 8 << 20
@@ -47,7 +48,8 @@ def _declare(library: CDLL) -> CDLL:
         words * 8 + [size] * 3 + [number] + [size] * 2 + [number] + [size] * 2 + [number, size]
     )
     library.sif_text.argtypes = words * 9 + [size, number, size]
-    for call in (library.sif_tokens, library.sif_reading, library.sif_text):
+    library.sif_deepest.argtypes = [c_size_t, *words, size]
+    for call in (library.sif_tokens, library.sif_reading, library.sif_text, library.sif_deepest):
         call.restype = c_uint32
     return library
 
@@ -57,7 +59,7 @@ _library = _declare(_load())
 
 def with_room(script: bytes, call: Callable[[], Any]) -> Any:
     """Runs a call with enough stack: on a thread of its own where the script may nest deeply."""
-    if sum(map(script.count, (OPENING[i : i + 1] for i in range(len(OPENING))))) <= FEW:
+    if len(script) <= FEW or sum(map(script.count, (OPENING[i : i + 1] for i in range(len(OPENING))))) <= FEW:
         return call()
     answer: list[Any] = []
     _on_thread(_START(lambda _: answer.append(call())))
@@ -130,3 +132,10 @@ def text(script: bytes, rooms: Rooms, room: int) -> tuple[tuple[int, int, int], 
         script, lambda: _library.sif_text(script, len(script), *rooms.lent, buffer, room, *numbers)
     )
     return (number, kind.value, offset.value), bytes(memoryview(buffer)[: count.value])
+
+
+def deepest(length: int, room: int) -> tuple[int, int, bytes]:
+    """Refusal; the number of calls; and the buffer."""
+    buffer, depth = (c_uint8 * room)(), c_size_t()
+    number = _library.sif_deepest(length, buffer, room, byref(depth))
+    return number, depth.value, bytes(buffer)

@@ -65,6 +65,7 @@ class Refusal(IntEnum):
     ErrorsFull = 9
     Flagged = 10
     TextFull = 11
+    NoLength = 20
 
 
 class Fault(IntEnum):
@@ -112,6 +113,7 @@ _REFUSAL_TEXTS = {
     Refusal.ErrorsFull: "there are more errors than the arrays hold",
     Refusal.Flagged: "the script has errors, and so no canonical text",
     Refusal.TextFull: "the canonical text is longer than its buffer",
+    Refusal.NoLength: "a deepest script has from 1 to 255 bytes",
 }
 
 _FAULT_TEXTS = {

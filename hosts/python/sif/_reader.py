@@ -1,4 +1,4 @@
-"""The calls: tokens, read, text."""
+"""The calls: tokens, read, text, deepest."""
 
 from __future__ import annotations
 
@@ -23,6 +23,9 @@ from ._model import (
 MAX_SCRIPT = 65_535
 
 Script = Union[bytes, bytearray, memoryview]
+
+# The longest script that deepest gives.
+_LONGEST_DEEPEST = 255
 
 # The kind of a last word that stands for a fault which a reading did not come to.
 _HIDDEN_FAULT = 48
@@ -55,6 +58,14 @@ def text(data: Script) -> bytes:
     said, written = _library.text(script, Rooms(length), 4 * length)
     _answered(*said)
     return written
+
+
+def deepest(length: int) -> tuple[bytes, int]:
+    """A script of this length, 1 to 255, in whose reading as many of the parser's calls are active at once as in
+    any of that length; and their number, 3 * length + 3. Raises Refused: NoLength."""
+    number, depth, script = _library.deepest(max(length, 0), min(max(length, 0), _LONGEST_DEEPEST))
+    _answered(number, 0, 0)
+    return script, depth
 
 
 def _bytes(data: Script) -> bytes:

@@ -177,6 +177,18 @@ class Calls(unittest.TestCase):
             copy = pickle.loads(pickle.dumps(error))
             self.assertEqual((copy.number, str(copy)), (error.number, str(error)))
 
+    def test_the_deepest_script_of_a_length(self) -> None:
+        for length in range(1, 256):
+            script, depth = sif.deepest(length)
+            self.assertEqual((script, depth), (b"(" * length, 3 * length + 3))
+            self.assertTrue(sif.read(script).failed)
+        for length in (-1, 0, 256, 1 << 63):
+            with self.assertRaises(sif.Refused) as caught:
+                sif.deepest(length)
+            self.assertEqual((caught.exception.number, caught.exception.kind), (sif.Refusal.NoLength, 0))
+        self.assertEqual(_library.deepest(3, 5), (0, 12, b"(((\0\0"))
+        self.assertEqual(_library.deepest(3, 2), (20, 0, b"\0\0"))
+
     def test_a_script_is_bytes(self) -> None:
         self.assertEqual(len(sif.tokens(memoryview(b"a;"))), 3)
         self.assertFalse(sif.read(bytearray(b"")).failed)

@@ -167,6 +167,8 @@ extern "C" {
         kind: *mut u32,
         offset: *mut usize,
     ) -> u32;
+
+    fn sif_deepest(n: usize, script: *mut u8, script_len: usize, depth: *mut usize) -> u32;
 }
 
 /// The tokens call: the refusal and the number of tokens.
@@ -263,4 +265,12 @@ pub fn text(script: &[u8], arrays: &mut Arrays, text: &mut [u8]) -> (Said, usize
         )
     };
     (said, count)
+}
+
+/// The deepest script of a length: the refusal and the number of calls.
+pub fn deepest(n: usize, script: &mut [u8]) -> (Said, usize) {
+    let (mut said, mut depth) = (Said::default(), 0);
+    // SAFETY: the pointers come from a slice, with its length, and from a number of this function.
+    said.number = unsafe { sif_deepest(n, script.as_mut_ptr(), script.len(), &mut depth) };
+    (said, depth)
 }

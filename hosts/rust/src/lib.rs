@@ -30,9 +30,10 @@
 //! # Threads and stack
 //!
 //! A reading recurses as its script nests, and the deepest takes about 2.4 MB of stack; a Rust thread has
-//! 2 MiB by default. [`read`] and [`text`] count the bytes of a script that can nest. With at most 64 of
-//! them the library is called at once: it takes less than half a megabyte then. With more, the call runs
-//! on a thread of its own with a stack of 8 MiB, and the caller waits. So any thread can call with half a
+//! 2 MiB by default. [`read`] and [`text`] count the bytes of a script that can nest: with n of them at most
+//! 3 * n + 3 calls of the parser are active at once, which is proved ([`deepest`]). With at most 64 of them
+//! the library is called at once: it takes less than half a megabyte then. With more, the call runs on a
+//! thread of its own with a stack of 8 MiB, and the caller waits. So any thread can call with half a
 //! megabyte to spare. docs/HOSTS.md says what the thread costs. [`tokens`] takes little stack always.
 //!
 //! # Panics
@@ -139,6 +140,37 @@ pub fn text(script: &[u8]) -> Result<Vec<u8>, Refusal> {
     text.truncate(count);
     Ok(text)
 }
+
+/// A script in whose reading as many calls of the parser are active at once as in any of its length.
+#[derive(Clone, Debug, PartialEq, Eq)]
+pub struct Deepest {
+    /// Opening parentheses.
+    pub script: Vec<u8>,
+    /// How many calls are active: those that refusal 6 counts.
+    pub depth: usize,
+}
+
+/// The deepest script of a length from 1 to 255: to try a stack, or to measure what a reading takes.
+///
+/// ```
+/// let deepest = sif::deepest(4)?;
+/// assert_eq!((&deepest.script[..], deepest.depth), (&b"(((("[..], 15));
+/// assert_eq!(sif::deepest(256), Err(sif::Refusal::NoLength));
+/// # Ok::<(), sif::Refusal>(())
+/// ```
+///
+/// # Errors
+///
+/// Refusal 20 of document 02, for any other length.
+pub fn deepest(n: usize) -> Result<Deepest, Refusal> {
+    let mut script = vec![0; n.min(LONGEST_DEEPEST)];
+    let (said, depth) = call::deepest(n, &mut script);
+    answered(said)?;
+    Ok(Deepest { script, depth })
+}
+
+/// The longest script that [`deepest`] gives.
+const LONGEST_DEEPEST: usize = 255;
 
 /// The length that memory is lent for: none for a script that is refused at entry.
 fn lent(script: &[u8]) -> usize {

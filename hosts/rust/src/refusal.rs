@@ -31,6 +31,8 @@ pub enum Refusal {
     Flagged,
     /// 11: a text that is longer than its buffer. Does not occur.
     TextFull,
+    /// 20: there is no deepest script of this length. Of [`deepest`](crate::deepest) only.
+    NoLength,
 }
 
 /// The kind of a fault.
@@ -88,11 +90,12 @@ impl Refusal {
             9 => Refusal::ErrorsFull,
             10 => Refusal::Flagged,
             11 => Refusal::TextFull,
-            _ => unreachable!("a call answers 0 to 11"),
+            20 => Refusal::NoLength,
+            _ => unreachable!("a call answers 0 to 11 or 20"),
         })
     }
 
-    /// The number of document 01, from 1 to 11.
+    /// The number of document 01, from 1 to 11, or of document 02.
     pub fn number(self) -> u32 {
         match self {
             Refusal::LongScript => 1,
@@ -106,6 +109,7 @@ impl Refusal {
             Refusal::ErrorsFull => 9,
             Refusal::Flagged => 10,
             Refusal::TextFull => 11,
+            Refusal::NoLength => 20,
         }
     }
 
@@ -142,6 +146,7 @@ impl Display for Refusal {
             Refusal::ErrorsFull => "there are more errors than the arrays hold",
             Refusal::Flagged => "the script has errors, and so no canonical text",
             Refusal::TextFull => "the canonical text is longer than its buffer",
+            Refusal::NoLength => "a deepest script has from 1 to 255 bytes",
         })
     }
 }

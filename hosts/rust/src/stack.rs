@@ -1,16 +1,31 @@
 //! The stack of a call. A reading recurses as its script nests, and takes up to 2.4 MB: more than the
 //! 2 MiB that a Rust thread has by default.
 //!
-//! Each of the parser's nested calls beyond the first few is owed to one of the bytes of [`opens`]. So a
-//! script with few of them cannot nest deeply, wherever they stand, and is read on the caller's stack.
-//! Any other is read on a thread of its own, with room for the deepest that is read.
+//! How much a script can take goes by how many of the parser's counted calls can be active at once. In a
+//! script in which n of the bytes of [`opens`] stand that is at most [`depth`] of n: proved
+//! (`none-deeper-signs`, docs/PROOFS.md), and reached by [`deepest`](crate::deepest). A script in which few
+//! calls can be active is read on the caller's stack. Any other is read on a thread of its own, with room
+//! for the deepest that is read.
 
 use std::thread::{scope, Builder};
 
 /// The bytes that nest: blocks, groups, calls and indices, table accesses, assignments, unary operators,
-/// and `@`. In comments, strings and numbers they are counted too, which only makes a thread more often.
+/// and `@` (`opens` of sifc_deepest/specs/Signs.antt). In comments, strings and numbers they are counted
+/// too, which only makes a thread more often.
 fn opens(byte: u8) -> bool {
     matches!(byte, b'{' | b'(' | b'[' | b'.' | b'=' | b'-' | b'!' | b'@')
+}
+
+/// The limit of refusal 6: so many counted calls are active at most.
+const MOST: usize = 768;
+
+/// The most counted calls that are active at once where so many bytes nest.
+pub const fn depth(bytes: usize) -> usize {
+    if bytes < 255 {
+        3 * bytes + 3
+    } else {
+        MOST
+    }
 }
 
 /// With at most so many opening bytes a call takes less than half a megabyte of stack (tests/stack.rs).
@@ -35,15 +50,25 @@ pub fn with_room<T: Send>(script: &[u8], call: impl FnOnce() -> T + Send) -> T {
     })
 }
 
-/// Whether a script may nest deeply. One that is too long is refused at entry.
+/// Whether more counted calls may be active in a script than half a megabyte has room for. One that is
+/// too long is refused at entry.
 fn nests(script: &[u8]) -> bool {
-    script.iter().filter(|byte| opens(**byte)).nth(FEW).is_some()
+    let opening = script.iter().filter(|byte| opens(**byte)).take(FEW + 1);
+    script.len() > FEW && depth(opening.count()) > depth(FEW)
 }
 
 #[cfg(test)]
 mod tests {
     use super::*;
     use std::thread;
+
+    #[test]
+    fn the_depth_is_that_of_the_deepest_script() {
+        for n in 1..=255 {
+            assert_eq!(crate::deepest(n).unwrap().depth, depth(n));
+        }
+        assert_eq!((depth(0), depth(256), depth(1 << 40)), (3, MOST, MOST));
+    }
 
     #[test]
     fn few_opening_bytes_stay_on_the_callers_thread() {

@@ -47,6 +47,17 @@ fn few_opening_bytes_take_little_stack() {
     }
 }
 
+/// The deepest scripts of each length that is read on the caller's stack, and all that are longer.
+#[test]
+fn the_deepest_scripts_of_a_length() {
+    for n in 1..=255 {
+        let script = String::from_utf8(sif::deepest(n).unwrap().script).unwrap();
+        let stack = if n <= 64 { 512 << 10 } else { 64 << 10 };
+        assert_eq!(on_stack(stack, &script), (None, Some(Refusal::Flagged)), "{n} bytes");
+    }
+    assert_eq!(on_stack(64 << 10, &"(".repeat(256)).0, Some(Refusal::TooDeep));
+}
+
 /// Scripts about the deepest, and far beyond it, on a thread with the least stack.
 #[test]
 fn deep_scripts_need_no_stack_of_the_caller() {
