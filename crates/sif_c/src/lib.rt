@@ -1,4 +1,6 @@
 // The calls that hosts in other languages link, on plain slices. include/sif.h declares them.
+mod value;
+
 use sifc_tokens::TokensAnswer;
 use sifc_told::told;
 use sifc_told::told_text;

@@ -4,3 +4,4 @@ pub mod Decimal
 pub mod Steps
 pub mod Value
 pub mod Scan
+pub mod Cases
