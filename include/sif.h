@@ -33,7 +33,7 @@ extern "C" {
 /*
  * The refusals. Of 1 to 4 the least that holds is answered; of 5 to 9 the one that the reading meets
  * first; 10 and 11 come last, in this order. sif_tokens answers 0 to 5, sif_reading 0 to 9, sif_text 0
- * to 11.
+ * to 11, sif_value 0 or 12.
  */
 enum {
     /* No refusal: the script was lexed or read, or its text was written. */
@@ -64,8 +64,13 @@ enum {
     /* The script did not read without failure: its flag is up, and it has no canonical text. */
     SIF_FLAGGED = 10,
     /* The canonical text is longer than its buffer. */
-    SIF_TEXT_FULL = 11
+    SIF_TEXT_FULL = 11,
+    /* The bytes are no number literal of at most 19 digits. */
+    SIF_NO_NUMBER = 12
 };
+
+/* The most digits of a number literal that has a value; leading zeros count. */
+#define SIF_MAX_DIGITS 19
 
 /* The kinds of fault, which refusal 5 comes with. */
 enum {
@@ -323,6 +328,22 @@ uint32_t sif_text(const uint8_t *script, size_t script_len,
                   uint32_t *reasons, size_t reasons_len,
                   uint8_t *text, size_t text_len,
                   size_t *count, uint32_t *kind, size_t *offset);
+
+/*
+ * The value of a number literal: its digits as a whole number, over ten to the power of how many of them
+ * stand behind the point, rounded to the nearest double, ties to even, as IEEE 754 says.
+ *
+ *   literal, literal_len   the literal's bytes; only read. One or more digits, with at most one point
+ *                          behind the first of them (`5`, `5.`, `0.25`), and at most 19 digits in all,
+ *                          leading zeros counted. A token of kind SIF_TOKEN_VAL is one, unless it has
+ *                          more digits. No byte behind the twentieth digit is looked at
+ *   value                  receives the value; +0 with refusal 12. It is always written
+ *
+ * The value is 0 or lies between 1e-18 and 1e19. The call takes little stack.
+ *
+ * Answers 0, or 12 for anything else than such a literal.
+ */
+uint32_t sif_value(const uint8_t *literal, size_t literal_len, double *value);
 
 #ifdef __cplusplus
 }

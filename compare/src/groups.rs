@@ -3,6 +3,7 @@
 mod checks;
 mod reading;
 mod text;
+mod value;
 
 use crate::host::OURS;
 use crate::report::{Report, Tally};
@@ -23,6 +24,7 @@ pub struct Form {
     pub damaged_large: usize,
     pub reading: reading::Form,
     pub text: text::Form,
+    pub value: value::Form,
 }
 
 pub const SHORT: Form = Form {
@@ -34,6 +36,7 @@ pub const SHORT: Form = Form {
     damaged_large: 40,
     reading: reading::SHORT,
     text: text::SHORT,
+    value: value::SHORT,
 };
 
 pub const LONG: Form = Form {
@@ -45,6 +48,7 @@ pub const LONG: Form = Form {
     damaged_large: 2_000,
     reading: reading::LONG,
     text: text::LONG,
+    value: value::LONG,
 };
 
 /// The sizes of damaged scripts.
@@ -55,7 +59,7 @@ const DAMAGED_LARGE_BYTES: usize = 65_000;
 #[derive(Default)]
 pub struct Run {
     pub is_long: bool,
-    /// Whether the plain twin is compared; then the tokens call is left out.
+    /// Whether the plain twin is compared; then the tokens and the value call are left out.
     pub is_twin: bool,
     /// What the names of its groups have in them.
     pub only: String,
@@ -72,6 +76,7 @@ pub fn run(run: Run) -> bool {
     }
     println!("our side: {OURS}");
     tokens(&mut report, form);
+    value::run(&mut report, &form.value);
     walk(&mut report, form, &Checks::of_library());
     report.finish()
 }

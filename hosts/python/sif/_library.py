@@ -3,9 +3,9 @@
 from __future__ import annotations
 
 import os
-from ctypes import CDLL, CFUNCTYPE, POINTER, byref, c_char, c_size_t, c_uint8, c_uint32, c_ulong, c_void_p
+from ctypes import CDLL, CFUNCTYPE, POINTER, byref, c_char, c_double, c_size_t, c_uint8, c_uint32, c_ulong, c_void_p
 from pathlib import Path
-from typing import Any, Callable
+from typing import Any, Callable, Optional
 
 NAME = "libsif_c.so.0"
 
@@ -47,7 +47,8 @@ def _declare(library: CDLL) -> CDLL:
         words * 8 + [size] * 3 + [number] + [size] * 2 + [number] + [size] * 2 + [number, size]
     )
     library.sif_text.argtypes = words * 9 + [size, number, size]
-    for call in (library.sif_tokens, library.sif_reading, library.sif_text):
+    library.sif_value.argtypes = words + [POINTER(c_double)]
+    for call in (library.sif_tokens, library.sif_reading, library.sif_text, library.sif_value):
         call.restype = c_uint32
     return library
 
@@ -130,3 +131,9 @@ def text(script: bytes, rooms: Rooms, room: int) -> tuple[tuple[int, int, int], 
         script, lambda: _library.sif_text(script, len(script), *rooms.lent, buffer, room, *numbers)
     )
     return (number, kind.value, offset.value), bytes(memoryview(buffer)[: count.value])
+
+
+def value(literal: bytes) -> Optional[float]:
+    """The value of a literal, if it is one of at most 19 digits."""
+    number = c_double()
+    return number.value if _library.sif_value(literal, len(literal), byref(number)) == 0 else None

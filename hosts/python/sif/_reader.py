@@ -1,4 +1,4 @@
-"""The calls: tokens, read, text."""
+"""The calls: tokens, read, text, value."""
 
 from __future__ import annotations
 
@@ -55,6 +55,12 @@ def text(data: Script) -> bytes:
     said, written = _library.text(script, Rooms(length), 4 * length)
     _answered(*said)
     return written
+
+
+def value(literal: Script) -> Optional[float]:
+    """The value of a number literal: digits over a power of ten, rounded to the nearest float, ties to even. None
+    where the bytes are no literal of at most 19 digits, leading zeros counted."""
+    return _library.value(_bytes(literal))
 
 
 def _bytes(data: Script) -> bytes:

@@ -167,6 +167,8 @@ extern "C" {
         kind: *mut u32,
         offset: *mut usize,
     ) -> u32;
+
+    fn sif_value(literal: *const u8, literal_len: usize, value: *mut f64) -> u32;
 }
 
 /// The tokens call: the refusal and the number of tokens.
@@ -263,4 +265,12 @@ pub fn text(script: &[u8], arrays: &mut Arrays, text: &mut [u8]) -> (Said, usize
         )
     };
     (said, count)
+}
+
+/// The value call: the value of a literal, if it is one of at most 19 digits.
+pub fn value(literal: &[u8]) -> Option<f64> {
+    let mut value = 0.0;
+    // SAFETY: as for `tokens`.
+    let number = unsafe { sif_value(literal.as_ptr(), literal.len(), &mut value) };
+    (number == 0).then_some(value)
 }
