@@ -27,7 +27,8 @@ pub fn table() -> bool {
         "values: no slower than str::parse on the numbers of supplier-like scripts, 1 to 8 digits",
         Bound::AtMost(1.0),
     );
-    let mut most = Goal::new("values: at most 4 times str::parse on any literal", Bound::AtMost(4.0));
+    let mut most =
+        Goal::new("values: at most 4 times str::parse on any literal", Bound::AtMost(4.0));
     println!("{HEADING}\n{:<44}{:>8}{:>8}{:>8}", "literals", "parse", "ours", "times");
     for (name, literals, is_supplier) in lines() {
         let [rust, ours] = timed(&literals);
@@ -44,9 +45,11 @@ pub fn table() -> bool {
 /// The lines of the table: name, literals, and whether they are those of supplier-like scripts.
 fn lines() -> Vec<(String, Vec<String>, bool)> {
     let all: Vec<String> = Shape::ALL.iter().flat_map(|shape| numbers(*shape)).collect();
-    let mut lines: Vec<_> = Shape::ALL.map(|shape| (format!("{shape:?}"), numbers(shape), true)).into();
+    let mut lines: Vec<_> =
+        Shape::ALL.map(|shape| (format!("{shape:?}"), numbers(shape), true)).into();
     for digits in 1..=8 {
-        let some = all.iter().filter(|literal| count(literal) == digits).cloned().collect::<Vec<_>>();
+        let some =
+            all.iter().filter(|literal| count(literal) == digits).cloned().collect::<Vec<_>>();
         if !some.is_empty() {
             lines.push((format!("of these, {digits} digits"), some, true));
         }
@@ -59,7 +62,15 @@ fn lines() -> Vec<(String, Vec<String>, bool)> {
     let mut ties = Vec::new();
     literals::ties(8, 3, |literal| ties.push(text(literal.to_vec())));
     lines.push(("ties and near ties, every exponent".to_string(), ties, false));
-    for one in ["0", "0.25", "4.125", "20271231", "0.000000000000000001", "9007199254740993.001", "0.9007199254740993001"] {
+    for one in [
+        "0",
+        "0.25",
+        "4.125",
+        "20271231",
+        "0.000000000000000001",
+        "9007199254740993.001",
+        "0.9007199254740993001",
+    ] {
         lines.push((one.to_string(), vec![one.to_string(); LITERALS], false));
     }
     lines

@@ -12,6 +12,7 @@ fn parsed(literal: &[u8]) -> Option<f64> {
     let text = std::str::from_utf8(literal).ok()?;
     let (whole, fraction) = text.split_once('.').unwrap_or((text, ""));
     let digits = [whole, fraction].map(str::as_bytes).concat();
-    let fine = !whole.is_empty() && digits.len() <= MOST_DIGITS && digits.iter().all(u8::is_ascii_digit);
+    let fine =
+        !whole.is_empty() && digits.len() <= MOST_DIGITS && digits.iter().all(u8::is_ascii_digit);
     fine.then(|| text.parse().ok())?
 }

@@ -19,7 +19,7 @@ use Rattle.sifc_value.specs.Scan.{Capped, Read}
 use Rattle.sifc_value.proofs.Scanned.{numeral-append}
 use Rattle.sifc_value.specs.declared.ValueAnswer.{ValueAnswer}
 use Rattle.sifc_value.specs.declared.ValueAnswer.the-variants.{Number, NoNumber}
-use Rattle.sifc_value.specs.Value.{digitsOf, placesOf, numeral, ends, literal, valueOf}
+use Rattle.sifc_value.specs.Value.{digitsOf, counted, placesOf, numeral, ends, literal, valueOf}
 
 -- ---- what is no literal
 refused : (s : List ℕ) → literal s ≡ false → valueOf s ≡ NoNumber
@@ -29,15 +29,15 @@ refused s e = rw e refl
 pub no-digit : (s : List ℕ) → span digit s ≡ 0 → valueOf s ≡ NoNumber
 no-digit s e = refused s (unfold literal in simp (e))
 
-last-false : (s : List ℕ) → ltb (length (digitsOf s)) 20 ≡ false → literal s ≡ false
+last-false : (s : List ℕ) → ltb (counted s) 20 ≡ false → literal s ≡ false
 unfolding literal
 last-false s e = simp (e, and-false)
 
 no-end : (s : List ℕ) → ends (drop (span digit s) s) ≡ false → valueOf s ≡ NoNumber
 no-end s e = refused s (unfold literal in simp (e, and-false))
 
-pub digits-length : (s : List ℕ) → length (digitsOf s) ≡ span digit s + (length s - suc (span digit s))
-unfolding digitsOf
+digits-length : (s : List ℕ) → counted s ≡ span digit s + (length s - suc (span digit s))
+unfolding counted digitsOf
 digits-length s =
     length-append (take (span digit s) s) (drop (suc (span digit s)) s)
     ∙ ap (λ (n : ℕ). n + length (drop (suc (span digit s)) s)) (length-take-le (span digit s) s (span-le digit s))
@@ -45,7 +45,7 @@ digits-length s =
 
 too-long : (s : List ℕ) → 20 ≤ span digit s + (length s - suc (span digit s)) → valueOf s ≡ NoNumber
 too-long s h =
-    let e : ltb (length (digitsOf s)) 20 ≡ false = le-ltb (length (digitsOf s)) 20 (let l = digits-length s in omega arith) in
+    let e : ltb (counted s) 20 ≡ false = le-ltb (counted s) 20 (let l = digits-length s in omega arith) in
     refused s (last-false s e)
 
 -- ---- the value of a literal, by its digits and places
@@ -57,7 +57,7 @@ accepted : (s : List ℕ) (n p : ℕ) → 0 < span digit s → ends (drop (span 
     → n ≡ numeral 0 (digitsOf s) → p ≡ placesOf s → valueOf s ≡ Number (round binary64 false n (10 ^ p))
 unfolding valueOf literal if_then_else_
 accepted s n p d e l h k =
-    let t : ltb (length (digitsOf s)) 20 ≡ true = lt-ltb (length (digitsOf s)) 20 (let y = digits-length s in omega arith) in
+    let t : ltb (counted s) 20 ≡ true = lt-ltb (counted s) 20 (let y = digits-length s in omega arith) in
     simp (lt-ltb 0 (span digit s) d, e, t, h, k)
 
 module _ (s : List ℕ) (end number scale next : ℕ) (cap : Capped (length s) 19 end) (read : Read s 0 end 0 number scale next) where

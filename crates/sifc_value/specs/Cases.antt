@@ -7,7 +7,7 @@ use lib.Count.{trailingZeros}
 use lib.Ieee.{binary64, round, toBits, size, span as digitSpan, climb, units, odd}
 use Rattle.sifc_word.specs.Base.{if_then_else_, span, within}
 use Rattle.sifc_lex.specs.Lex.{digit}
-use Rattle.sifc_value.specs.Value.{digitsOf, placesOf, numeral, ends, literal, valueOf}
+use Rattle.sifc_value.specs.Value.{digitsOf, counted, placesOf, numeral, ends, literal, valueOf}
 use Rattle.sifc_value.specs.declared.ValueAnswer.{ValueAnswer}
 use Rattle.sifc_value.specs.declared.ValueAnswer.the-variants.{Number, NoNumber}
 
@@ -73,5 +73,5 @@ refused (s ∷ ss) = hasNone (valueOf s) && refused ss
 
 -- each has the value, or the refusal, of the list
 pub marked-values : T (right values && refused noValues)
-unfolding right refused values noValues hasBits hasNone valueOf literal ends digitsOf placesOf numeral if_then_else_ span digit within round size digitSpan climb units odd trailingZeros toBits
+unfolding right refused values noValues hasBits hasNone valueOf literal ends counted digitsOf placesOf numeral if_then_else_ span digit within round size digitSpan climb units odd trailingZeros toBits
 marked-values = tt

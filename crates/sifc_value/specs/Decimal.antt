@@ -56,6 +56,11 @@ unfoldable pub bit : ℕ → ℕ
 bit zero = 0
 bit (suc r) = 1
 
+pub bit-le : (r : ℕ) → bit r ≤ 1
+unfolding bit
+bit-le zero = omega arith
+bit-le (suc r) = omega arith
+
 pub bit-some : (r : ℕ) → (r ≡ 0 → ⊥) → bit r ≡ 1
 unfolding bit
 bit-some zero h = absurd (h refl)

@@ -26,6 +26,11 @@ unfoldable pub numeral : ℕ → List ℕ → ℕ
 numeral n [] = n
 numeral n (b ∷ bs) = numeral (n * 10 + (b - 48)) bs
 
+-- how many digits count: all of them, leading zeros too
+unfoldable pub counted : List ℕ → ℕ
+unfolding digitsOf
+counted s = length (digitsOf s)
+
 -- what may follow the first digits: nothing, or a point and only digits
 unfoldable pub ends : List ℕ → Bool
 unfolding span digit
@@ -34,8 +39,8 @@ ends (b ∷ bs) = eqb b 46 && eqb (span digit bs) (length bs)
 
 -- "one or more digits with at most one point after the first of them", up to 19 digits, leading zeros counted
 unfoldable pub literal : List ℕ → Bool
-unfolding span digit ends digitsOf
-literal s = ltb 0 (span digit s) && ends (drop (span digit s) s) && ltb (length (digitsOf s)) 20
+unfolding span digit ends counted
+literal s = ltb 0 (span digit s) && ends (drop (span digit s) s) && ltb (counted s) 20
 
 -- the value call
 unfoldable pub valueOf : List ℕ → ValueAnswer

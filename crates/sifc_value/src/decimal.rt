@@ -48,15 +48,22 @@ fn deeper(five: u64, split: Split) -> Split
     step(five, split, 1024, 10)
 }
 
+// The last bit that stands for a remainder.
+fn last_bit(rest: u64) -> u64
+    ensures { λ r. ⌜ r ≡ bit rest ⌝ }
+{
+    if rest == 0 {
+        return 0;
+    }
+    1
+}
+
 // Twice the whole part, with an odd last bit in place of a remainder.
 fn with_bit(whole: u64, rest: u64) -> u64
     requires { ⌜ whole < 2 ^ 63 ⌝ }
     ensures { λ r. ⌜ r ≡ 2 * whole + bit rest ⌝ }
 {
-    if rest == 0 {
-        return 2 * whole;
-    }
-    2 * whole + 1
+    2 * whole + last_bit(rest)
 }
 
 // A number above 2^53 over 10 to the power of places: at least 54 bits of the quotient by 5 to that

@@ -181,7 +181,10 @@ fn json_token(token: &Token, lines: &Lines) -> String {
     let where_it_is =
         format!("\"line\":{},\"column\":{},\"offset\":{offset}", place.line, place.column);
     let value = json_value(token);
-    format!("{{\"index\":{},\"kind\":\"{kind}\",\"text\":{text},{where_it_is}{value}}}", token.index)
+    format!(
+        "{{\"index\":{},\"kind\":\"{kind}\",\"text\":{text},{where_it_is}{value}}}",
+        token.index
+    )
 }
 
 /// The value of a number, null where it has too many digits; nothing for other tokens.

@@ -10,15 +10,6 @@ use Rattle.sifc_value.specs.declared.ValueAnswer.the-variants.{Number, N
 use Rattle.sifc_value.proofs.Literal.{none, only, other, more, pointed}
 use Rattle.sifc_value.proofs.value.Statement.{statement}
 use Rattle.sifc_value.proofs.value.Tie as tie
-use Rattle.sifc_value.proofs.value.Reads as reads
-use Rattle.sifc_value.proofs.value.Lts as lts
-use Rattle.sifc_value.proofs.capped.Reads as capped-reads
-use Rattle.sifc_value.proofs.decimal.decimal.Reads as decimal-reads
-use Rattle.sifc_value.proofs.digits.Reads as digits-reads
-use Rattle.std.proofs.num.nearest_u64_to_f64.Reads as nearest-u64-to-f64-reads
-
-above-zero : (n : ℕ) → (n ≡ 0 → ⊥) → 0 < n
-above-zero n h = omega arith
 
 -- the first digits end before the last byte does
 inside : (c : tie.Else3) → c .before .before .before .before .digits .result .next < length (c .before .before .before .before .before .before .before .args .literal .now)
@@ -29,56 +20,46 @@ inside c =
     let n = c .before .before .if2 .left in
     omega arith
 
--- src/lib.rt:65:36
 capped-requires : tie.Need-capped-requires
 capped-requires c κs = search needs
 
--- src/lib.rt:65:9
 digits-requires : tie.Need-digits-requires
 digits-requires c κs =
     let k = c .capped .ensures in
     (omega arith, (k .low, (omega (arith, k .high), ten-pos _)))
 
--- src/lib.rt:68:9
 returns : tie.Need-returns
 returns c =
     let read = c .before in
     let start = read .before .before .before in
-    sym (none (start .args .literal .now) (read .before .capped .result) (read .digits .result .number) (read .digits .result .scale) (read .digits .result .next) (read .before .capped .ensures) (read .digits .ensures) (c .if1 .taken))
+    sym (none (start .args .literal .now) (read .before .capped .result) (read .digits .result .number) (read .digits .result .scale) (read .digits .result .next) (read .before .capped .ensures) (read .digits .ensures) (omega arith))
 
--- src/lib.rt:71:36
 nearest-u64-to-f64-requires : tie.Need-nearest-u64-to-f64-requires
 nearest-u64-to-f64-requires c κs = search needs
 
--- src/lib.rt:71:9
 returns-2 : tie.Need-returns-2
 unfolding ofInt
 returns-2 c =
     let read = c .before .before .before in
     let start = read .before .before .before in
     ap Number (c .nearest-u64-to-f64 .ensures)
-    ∙ sym (only (start .args .literal .now) (read .before .capped .result) (read .digits .result .number) (read .digits .result .scale) (read .digits .result .next) (read .before .capped .ensures) (read .digits .ensures) (above-zero _ (c .before .before .if1 .left)) (c .before .if2 .taken))
+    ∙ sym (only (start .args .literal .now) (read .before .capped .result) (read .digits .result .number) (read .digits .result .scale) (read .digits .result .next) (read .before .capped .ensures) (read .digits .ensures) (omega arith) (omega arith))
 
--- src/lib.rt:73:8
 shared-slice-read-if3 : tie.Need-shared-slice-read-if3
 shared-slice-read-if3 c = search needs
 
--- src/lib.rt:74:9
 returns-3 : tie.Need-returns-3
 returns-3 c =
     let read = c .before .before .before .before in
     let start = read .before .before .before in
     sym (other (start .args .literal .now) (read .before .capped .result) (read .digits .result .number) (read .digits .result .scale) (read .digits .result .next) (read .before .capped .ensures) (read .digits .ensures) (omega arith) (c .if3 .taken))
 
--- src/lib.rt:76:31
 add-digits : tie.Need-add-digits
 add-digits c = search needs
 
--- src/lib.rt:76:42
 capped-requires-2 : tie.Need-capped-requires-2
 capped-requires-2 c κs = search needs
 
--- src/lib.rt:76:9
 digits-requires-2 : tie.Need-digits-requires-2
 digits-requires-2 c κs =
     let read = c .before .before .before .before .before in
@@ -93,23 +74,23 @@ digits-requires-2 c κs =
     let x = g .reach (c .capped2 .result - 1) (omega arith) (omega arith) in
     (k .reach _ (omega arith) (omega arith), (k .low, (omega arith, lt-of-lt-of-le (r .small) (ten-le _ _ (omega arith)))))
 
--- src/lib.rt:78:9
 returns-4 : tie.Need-returns-4
 returns-4 c =
     let last = c .before .before in
     let read = last .before .before .before .before .before .before in
     let start = read .before .before .before in
-    sym (more (start .args .literal .now) (read .before .capped .result) (read .digits .result .number) (read .digits .result .scale) (read .digits .result .next) (read .before .capped .ensures) (read .digits .ensures) (inside (last .before .before)) (last .before .before .if3 .left) (last .before .capped2 .result) (last .digits2 .result .number) (last .digits2 .result .scale) (last .digits2 .result .next) (last .before .capped2 .ensures) (last .digits2 .ensures) (c .if4 .taken))
+    sym (more (start .args .literal .now) (read .before .capped .result) (read .digits .result .number) (read .digits .result .scale) (read .digits .result .next) (read .before .capped .ensures) (read .digits .ensures) (inside (last .before .before)) (last .before .before .if3 .left) (last .before .capped2 .result) (last .digits2 .result .number) (last .digits2 .result .scale) (last .digits2 .result .next) (last .before .capped2 .ensures) (last .digits2 .ensures) (λ e. omega arith))
 
--- src/lib.rt:80:56
 sub-decimal : tie.Need-sub-decimal
 sub-decimal c = search needs
 
--- src/lib.rt:80:56
 sub-decimal-2 : tie.Need-sub-decimal-2
 sub-decimal-2 c = search needs
 
--- src/lib.rt:80:25
+-- the digits behind the point go to the end
+whole-read : (c : tie.Else4) → c .before .before .digits2 .result .next ≡ length (c .before .before .before .before .before .before .before .before .before .before .before .args .literal .now)
+whole-read c = omega arith
+
 decimal-requires : tie.Need-decimal-requires
 decimal-requires c κs =
     let last = c .before .before in
@@ -117,16 +98,16 @@ decimal-requires c κs =
     let r = last .digits2 .ensures in
     let h = r .stop in
     let k = last .before .capped2 .ensures .high in
-    let z = above-zero _ (last .before .before .before .before .before .if1 .left) in
-    (r .scale-is ∙ ap (λ (n : ℕ). 10 ^ n) (let e = c .if4 .left in omega arith), (let e = c .if4 .left in omega arith))
+    let z = last .before .before .before .before .before .if1 .left in
+    let e = whole-read c in
+    (r .scale-is ∙ ap (λ (n : ℕ). 10 ^ n) (omega arith), omega arith)
 
--- src/lib.rt:61:1
 returns-5 : tie.Need-returns-5
 returns-5 c =
     let last = c .before .before .before in
     let read = last .before .before .before .before .before .before in
     let start = read .before .before .before in
-    ap Number (c .decimal .ensures) ∙ sym (pointed (start .args .literal .now) (read .before .capped .result) (read .digits .result .number) (read .digits .result .scale) (read .digits .result .next) (read .before .capped .ensures) (read .digits .ensures) (inside (last .before .before)) (last .before .before .if3 .left) (last .before .capped2 .result) (last .digits2 .result .number) (last .digits2 .result .scale) (last .digits2 .result .next) (last .before .capped2 .ensures) (last .digits2 .ensures) (above-zero _ (last .before .before .before .before .before .if1 .left)) (c .before .if4 .left))
+    ap Number (c .decimal .ensures) ∙ sym (pointed (start .args .literal .now) (read .before .capped .result) (read .digits .result .number) (read .digits .result .scale) (read .digits .result .next) (read .before .capped .ensures) (read .digits .ensures) (inside (last .before .before)) (last .before .before .if3 .left) (last .before .capped2 .result) (last .digits2 .result .number) (last .digits2 .result .scale) (last .digits2 .result .next) (last .before .capped2 .ensures) (last .digits2 .ensures) (let z = last .before .before .before .before .before .if1 .left in omega arith) (whole-read (c .before)))
 
 pub value-spec : {M : Type 1} → statement M
 value-spec =

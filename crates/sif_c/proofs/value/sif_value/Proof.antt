@@ -4,9 +4,6 @@ use lib.Ieee.{ofBits, ofFields, odd}
 use Rattle.sifc_value.specs.Value.{toldValue}
 use Rattle.sif_c.proofs.value.sif_value.Statement.{statement}
 use Rattle.sif_c.proofs.value.sif_value.Tie as tie
-use Rattle.sif_c.proofs.value.sif_value.Reads as reads
-use Rattle.sif_c.proofs.value.sif_value.Lts as lts
-use Rattle.sifc_value.proofs.value.Reads as value-reads
 
 value-requires : tie.Need-value-requires
 value-requires c κs = search needs

@@ -1,7 +1,7 @@
 use borrow.Author.Needs.{needs}
 use native.Mathlib.Omega.{arith}
 use native.Mathlib.Nat.{mul-div-cancel}
-use Prim.Native.Nat.{ℕ, _/_, _^_, _≤_}
+use Prim.Native.Nat.{ℕ, _/_, _^_}
 use mathlib.Core.Path.{_≡_, ap, _∙_}
 use lib.Dec.{le→leb}
 use lib.Pow.{pow-pos}
@@ -9,49 +9,34 @@ use lib.Ieee.{inFloat, ofInt}
 use Rattle.sifc_value.specs.Decimal.{short-way, ten-split}
 use Rattle.sifc_value.proofs.decimal.decimal.Statement.{statement}
 use Rattle.sifc_value.proofs.decimal.decimal.Tie as tie
-use Rattle.sifc_value.proofs.decimal.decimal.Reads as reads
-use Rattle.sifc_value.proofs.decimal.decimal.Lts as lts
-use Rattle.sifc_value.proofs.decimal.long_quotient.Reads as long-quotient-reads
-use Rattle.std.proofs.num.nearest_u64_to_f64.Reads as nearest-u64-to-f64-reads
 
--- src/decimal.rt:91:17
 int-to-float-result : tie.Need-int-to-float-result
 unfolding inFloat
-int-to-float-result c = le→leb (c .before .before .args .number) (2 ^ 53) (c .before .if1 .taken)
+int-to-float-result c = le→leb (c .before .before .args .number) (2 ^ 53) (omega arith)
 
--- src/decimal.rt:91:34
 nearest-u64-to-f64-requires : tie.Need-nearest-u64-to-f64-requires
 nearest-u64-to-f64-requires c κs = search needs
 
--- src/decimal.rt:91:9
 returns : tie.Need-returns
 returns c =
     let start = c .before .before .before in
-    rw (c .nearest-u64-to-f64 .ensures) (short-way (start .args .number) (start .args .scale) (start .args .places) (c .before .before .if1 .taken) (start .pre .1) (start .pre .0))
+    rw (c .nearest-u64-to-f64 .ensures) (short-way (start .args .number) (start .args .scale) (start .args .places) (omega arith) (start .pre .1) (start .pre .0))
 
--- src/decimal.rt:94:9
 nearest-u64-to-f64-requires-2 : tie.Need-nearest-u64-to-f64-requires-2
 nearest-u64-to-f64-requires-2 c κs = search needs
 
--- src/decimal.rt:94:9
 returns-2 : tie.Need-returns-2
 unfolding ofInt
 returns-2 c = rw (c .before .if2 .taken) (c .nearest-u64-to-f642 .ensures)
 
--- src/decimal.rt:96:27
 shr-long-quotient : tie.Need-shr-long-quotient
 shr-long-quotient c = search needs
 
--- src/decimal.rt:96:5
 long-quotient-requires : tie.Need-long-quotient-requires
 long-quotient-requires c κs =
     let start = c .before .before in
-    (c .before .if1 .left, (above-zero _ (c .if2 .left), (start .pre .1, ap (λ (z : ℕ). z / 2 ^ start .args .places) (start .pre .0 ∙ ten-split (start .args .places)) ∙ mul-div-cancel (5 ^ start .args .places) (pow-pos (start .args .places)))))
-  where
-    above-zero : (n : ℕ) → (n ≡ 0 → ⊥) → 1 ≤ n
-    above-zero n h = omega arith
+    (omega arith, (omega arith, (start .pre .1, ap (λ (z : ℕ). z / 2 ^ start .args .places) (start .pre .0 ∙ ten-split (start .args .places)) ∙ mul-div-cancel (5 ^ start .args .places) (pow-pos (start .args .places)))))
 
--- src/decimal.rt:85:1
 returns-3 : tie.Need-returns-3
 returns-3 c = search needs
 

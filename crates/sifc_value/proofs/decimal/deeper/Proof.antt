@@ -3,19 +3,13 @@ use native.Mathlib.Omega.{arith}
 use Rattle.sifc_value.proofs.Worked.{deep-far, deep-near}
 use Rattle.sifc_value.proofs.decimal.deeper.Statement.{statement}
 use Rattle.sifc_value.proofs.decimal.deeper.Tie as tie
-use Rattle.sifc_value.proofs.decimal.deeper.Reads as reads
-use Rattle.sifc_value.proofs.decimal.deeper.Lts as lts
-use Rattle.sifc_value.proofs.decimal.step.Reads as step-reads
 
--- src/decimal.rt:42:9
 returns : tie.Need-returns
 returns c = search needs
 
--- src/decimal.rt:45:9
 step-requires : tie.Need-step-requires
 step-requires c κs = search needs
 
--- src/decimal.rt:45:9
 returns-2 : tie.Need-returns-2
 returns-2 c =
     let start = c .before .before .before .before .before in
@@ -23,11 +17,9 @@ returns-2 c =
     let r = c .step .result in
     deep-far (start .args .five) (split .whole) (split .rest) (split .shift) (r .whole) (r .rest) (r .shift) (c .step .ensures) (omega arith)
 
--- src/decimal.rt:47:5
 step-requires-2 : tie.Need-step-requires-2
 step-requires-2 c κs = search needs
 
--- src/decimal.rt:34:1
 returns-3 : tie.Need-returns-3
 returns-3 c =
     let start = c .before .before .before .before .before in

@@ -9,11 +9,6 @@ use Rattle.sifc_value.specs.Decimal.{bit, long-way, power-held, power-nu
 use Rattle.sifc_value.proofs.Worked.{First, first}
 use Rattle.sifc_value.proofs.decimal.long_quotient.Statement.{statement}
 use Rattle.sifc_value.proofs.decimal.long_quotient.Tie as tie
-use Rattle.sifc_value.proofs.decimal.long_quotient.Reads as reads
-use Rattle.sifc_value.proofs.decimal.long_quotient.Lts as lts
-use Rattle.sifc_value.proofs.decimal.deeper.Reads as deeper-reads
-use Rattle.sifc_value.proofs.decimal.with_bit.Reads as with-bit-reads
-use Rattle.std.proofs.num.nearest_u64_to_f64.Reads as nearest-u64-to-f64-reads
 
 c-first : (c : tie.Start) → First (c .args .number) (c .args .five)
 c-first c = first (c .args .number) (c .args .places) (c .args .five) (c .pre .1 .1 .1) (c .pre .1 .0) (c .pre .1 .1 .0) (c .pre .0) (c .fits .number .fits)
@@ -27,28 +22,23 @@ small c =
     let p = c .before .before .before .pre .1 .1 .0 in
     omega arith
 
--- src/decimal.rt:71:16
 div-bits : tie.Need-div-bits
 div-bits c = c-first c .some
 
--- src/decimal.rt:72:15
 rem-bits : tie.Need-rem-bits
 rem-bits c = c-first c .some
 
--- src/decimal.rt:75:9
 deeper-requires : tie.Need-deeper-requires
 deeper-requires c κs =
     let f = c-first c in
     (mod-lt (c .args .number) (f .some), (f .below, (f .high, omega arith)))
 
--- src/decimal.rt:76:9
 deeper-requires-2 : tie.Need-deeper-requires-2
 deeper-requires-2 c κs =
     let f = c-first (c .before) in
     let d = c .deeper .ensures in
     (d .less, (f .below, (d .fits, omega arith)))
 
--- src/decimal.rt:77:9
 deeper-requires-3 : tie.Need-deeper-requires-3
 deeper-requires-3 c κs =
     let f = c-first (c .before .before) in
@@ -56,37 +46,29 @@ deeper-requires-3 c κs =
     let e = c .deeper2 .ensures in
     (e .less, (f .below, (e .fits, omega arith)))
 
--- src/decimal.rt:78:25
 add-bits : tie.Need-add-bits
 add-bits c = search needs
 
--- src/decimal.rt:78:25
 add-bits-2 : tie.Need-add-bits-2
 add-bits-2 c = search needs
 
--- src/decimal.rt:78:17
 add-bits-3 : tie.Need-add-bits-3
 add-bits-3 c = search needs
 
--- src/decimal.rt:78:16
 mul-bits : tie.Need-mul-bits
 mul-bits c = search needs
 
--- src/decimal.rt:79:17
 float-from-bits-power : tie.Need-float-from-bits-power
 float-from-bits-power c =
     let last = c .before in
     power-number (last .deeper3 .result .shift + 1 + last .before .before .before .args .places) (small last)
 
--- src/decimal.rt:80:34
 with-bit-requires : tie.Need-with-bit-requires
 with-bit-requires c κs = search needs
 
--- src/decimal.rt:80:5
 nearest-u64-to-f64-requires : tie.Need-nearest-u64-to-f64-requires
 nearest-u64-to-f64-requires c κs = search needs
 
--- src/decimal.rt:63:1
 returns : tie.Need-returns
 returns c =
     let last = c .before .before .before in

@@ -3,36 +3,27 @@ use native.Mathlib.Omega.{arith}
 use Rattle.sifc_value.proofs.Worked.{part-lt, stepped}
 use Rattle.sifc_value.proofs.decimal.step.Statement.{statement}
 use Rattle.sifc_value.proofs.decimal.step.Tie as tie
-use Rattle.sifc_value.proofs.decimal.step.Reads as reads
-use Rattle.sifc_value.proofs.decimal.step.Lts as lts
 
--- src/decimal.rt:25:16
 mul-more : tie.Need-mul-more
 mul-more c = search needs
 
--- src/decimal.rt:27:16
 mul-t6 : tie.Need-mul-t6
 mul-t6 c = search needs
 
--- src/decimal.rt:27:39
 div-t7 : tie.Need-div-t7
 div-t7 c = search needs
 
--- src/decimal.rt:27:16
 add-t8 : tie.Need-add-t8
 add-t8 c =
     let start = c .before .before in
     omega (arith, part-lt (start .args .five) (start .args .split .rest) (start .args .factor) (start .pre .0) (start .pre .1 .0))
 
--- src/decimal.rt:28:15
 rem-t9 : tie.Need-rem-t9
 rem-t9 c = search needs
 
--- src/decimal.rt:29:16
 add-t10 : tie.Need-add-t10
 add-t10 c = search needs
 
--- src/decimal.rt:18:1
 returns : tie.Need-returns
 returns c =
     let start = c .before .before .before in
