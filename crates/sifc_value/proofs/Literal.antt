@@ -1,14 +1,14 @@
 -- The value of a literal, by where its first digits end and what follows them. Assumes nothing.
-use Prim.Native.Nat.{ℕ, suc, _+_, _-_, _*_, _^_, _≤_, _<_}
-use mathlib.Core.Path.{_≡_, refl, sym, ap, _∙_, subst}
+use Prim.Native.Nat.{ℕ, suc, _+_, _-_, _^_, _≤_, _<_}
+use mathlib.Core.Path.{_≡_, refl, sym, ap, _∙_}
 use mathlib.Core.Logic.{inl, inr}
 use mathlib.Core.List.{List, [], _∷_, _++_, append-nil}
-use mathlib.Core.Bool.{Bool, true, false, _&&_}
+use mathlib.Core.Bool.{Bool, true, false}
 use native.Mathlib.Nat.{eq-or-lt-of-le, sub-zero}
 use native.Mathlib.Numerals.{add-one}
 use native.Mathlib.Omega.{arith}
 use borrow.Author.Tests.{lt-ltb, le-ltb, eq-eqb, ne-eqb, ltb-true, ltb-false}
-use lib.Dec.{eqb, ltb}
+use lib.Dec.{ltb}
 use lib.ListN.{take, drop, length, getD, length-append, length-drop, drop-of-length-le}
 use lib.Seq.{drop-cons, length-take-le, take-all}
 use lib.Ieee.{binary64, round}
@@ -17,7 +17,6 @@ use Rattle.sifc_word.specs.BaseLaws.{and-false, span-le, span-at-no, span-at-en
 use Rattle.sifc_lex.specs.Lex.{digit}
 use Rattle.sifc_value.specs.Scan.{Capped, Read}
 use Rattle.sifc_value.proofs.Scanned.{numeral-append}
-use Rattle.sifc_value.specs.declared.ValueAnswer.{ValueAnswer}
 use Rattle.sifc_value.specs.declared.ValueAnswer.the-variants.{Number, NoNumber}
 use Rattle.sifc_value.specs.Value.{digitsOf, counted, placesOf, numeral, ends, literal, valueOf}
 

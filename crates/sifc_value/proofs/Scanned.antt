@@ -1,9 +1,9 @@
 -- Reading digits one by one: what holds before each of them, and that it gives what Scan.antt says at the end. Assumes nothing.
 use Prim.Native.Nat.{ℕ, suc, _+_, _-_, _*_, _^_, _≤_, _<_}
-use mathlib.Core.Path.{_≡_, refl, sym, ap, _∙_, subst}
+use mathlib.Core.Path.{_≡_, refl, sym, ap, _∙_}
 use mathlib.Core.List.{List, [], _∷_, _++_}
-use mathlib.Core.Bool.{Bool, true, false}
-use native.Mathlib.Nat.{le-trans, lt-of-lt-of-le, pow-succ', sub-self, add-sub-of-le}
+use mathlib.Core.Bool.{true, false}
+use native.Mathlib.Nat.{lt-of-lt-of-le, pow-succ', sub-self, add-sub-of-le}
 use native.Mathlib.Numerals.{add-one}
 use native.Mathlib.Omega.{arith}
 use borrow.Author.Tests.{le-leb, lt-leb}

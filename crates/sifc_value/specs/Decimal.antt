@@ -1,10 +1,9 @@
 -- Whole numbers over powers of ten, rounded: the short way for small numbers, whose floats are exact, and the long way by a quotient of 54 bits or more.
 -- Assumes nothing.
-use mathlib.Core.Path.{_≡_, refl, sym, ap, _∙_, subst}
-use Prim.Native.Nat.{ℕ, zero, suc, _+_, _-_, _*_, _/_, _%_, _^_, _≤_, _<_}
-use native.Mathlib.Nat.{le-trans, le-of-eq, lt-of-lt-of-le, lt-of-le-of-lt, mul-one, mul-comm, mul-assoc, mul-left-comm, mul-right-comm, mul-mul-mul-comm, mul-le-mul, mul-le-mul-left, mul-le-mul-right, mul-pos, pow-succ', pow-le-pow-right, div-le-self, add-zero, eq-zero-or-pos}
+use mathlib.Core.Path.{_≡_, refl, sym, ap, _∙_}
+use Prim.Native.Nat.{ℕ, zero, suc, _+_, _-_, _*_, _/_, _^_, _≤_, _<_}
+use native.Mathlib.Nat.{le-trans, lt-of-lt-of-le, lt-of-le-of-lt, mul-one, mul-comm, mul-assoc, mul-left-comm, mul-right-comm, mul-mul-mul-comm, mul-le-mul-left, mul-le-mul-right, pow-succ', pow-le-pow-right, div-le-self, add-zero}
 use native.Mathlib.Omega.{arith}
-use mathlib.Core.List.{List}
 use mathlib.Core.Bool.{Bool, true, false, not, _&&_}
 use lib.Dec.{T, eqb, lit<, lit≤, eqb→eq}
 use lib.Count.{trailingZeros}

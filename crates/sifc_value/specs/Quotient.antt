@@ -2,17 +2,16 @@
 -- gives what rounding the smaller fraction gives, in the normal range. Nothing here is about literals. Assumes nothing.
 use mathlib.Core.Path.{_≡_, refl, sym, ap, _∙_, subst}
 use mathlib.Core.Logic.{inl, inr}
-use Prim.Native.Nat.{ℕ, zero, suc, _+_, _-_, _*_, _/_, _%_, _^_, _≤_, _<_, compare}
-use native.Mathlib.Nat.{le-trans, le-of-eq, lt-irrefl, lt-of-le-of-lt, eq-or-lt-of-le, mul-one, one-mul, zero-mul, mul-comm, mul-assoc, mul-left-comm, mul-right-comm, mul-le-mul-left, mul-le-mul-right, mul-pos, eq-of-mul-eq-mul-right, div-div-eq-div-mul, zero-lt-suc}
-use native.Mathlib.Omega.{arith}
-use mathlib.Core.Bool.{Bool, true, false, not, cond}
+use Prim.Native.Nat.{ℕ, _+_, _-_, _*_, _/_, _%_, _^_, _≤_, _<_, compare}
+use native.Mathlib.Nat.{le-trans, le-of-eq, lt-irrefl, lt-of-le-of-lt, eq-or-lt-of-le, mul-one, one-mul, mul-comm, mul-assoc, mul-left-comm, mul-right-comm, mul-le-mul-left, mul-le-mul-right, mul-pos, eq-of-mul-eq-mul-right, div-div-eq-div-mul}
+use mathlib.Core.Bool.{Bool, false, cond}
 use borrow.Author.Tests.{ne-eqb}
-use lib.Dec.{T, eqb, lit<}
+use lib.Dec.{T, lit<}
 use lib.Pow.{pow-add, pow-pos}
 use lib.IntN.{ℤ}
-use lib.Ieee.{Float, nan, inf, fin, Format, binary32, binary64, prec, emax, low, up, down, unlike, size, hid, top, fits, div, round, toBits}
+use lib.Ieee.{Float, nan, inf, fin, Format, binary32, binary64, prec, low, up, down, unlike, size, hid, top, fits, div, round, toBits}
 use lib.Ieee.Bits.{ofBits-toBits}
-use lib.Ieee.Fits.{up-pos, down-pos, nearest-le, kept-lt, round-fits}
+use lib.Ieee.Fits.{down-pos, nearest-le, kept-lt, round-fits}
 use lib.Ieee.Exact.{HasValue, round-exact}
 use lib.Ieee.Nearest.{div-same}
 use lib.Ieee.Order.{drop, kept}

@@ -2,7 +2,7 @@
 -- Nothing here is about literals. Assumes nothing.
 use mathlib.Core.Path.{_≡_, refl, sym, ap, _∙_, subst}
 use Prim.Native.Nat.{ℕ, suc, _+_, _-_, _*_, _/_, _%_, _^_, _≤_, _<_, compare, Ordering, Ordering·lt, Ordering·eq, Ordering·gt}
-use native.Mathlib.Nat.{le-trans, le-of-eq, le-of-lt, le-antisymm, lt-irrefl, lt-of-lt-of-le, lt-of-le-of-lt, lt-of-not-le, not-le-of-lt, mul-one, one-mul, mul-comm, mul-assoc, mul-left-comm, mul-right-comm, mul-le-mul-right, mul-lt-mul-of-pos-right, mul-pos, add-mul, suc-mul, le-div-iff-mul-le, div-lt-iff-lt-mul, div-div-eq-div-mul, div-add-mod', mod-lt, pow-succ'}
+use native.Mathlib.Nat.{le-trans, le-of-eq, le-of-lt, le-antisymm, lt-irrefl, lt-of-lt-of-le, lt-of-le-of-lt, lt-of-not-le, not-le-of-lt, one-mul, mul-comm, mul-assoc, mul-left-comm, mul-le-mul-right, mul-lt-mul-of-pos-right, add-mul, suc-mul, le-div-iff-mul-le, div-lt-iff-lt-mul, div-div-eq-div-mul, div-add-mod', mod-lt, pow-succ'}
 use native.Mathlib.Omega.{arith}
 use mathlib.Core.Bool.{Bool, true, false, not}
 use lib.Dec.{T, isLe, isEq, ltb, le→leb, eqb→eq, ltb→lt, nltb→le}
@@ -12,7 +12,6 @@ use lib.Ieee.{Format, prec, low, size, nearest, units, round}
 use lib.Ieee.Digits.{size-lt, size-le, size-reaches}
 use lib.Ieee.Fits.{round-is}
 use lib.Ieee.Nearest.{closest}
-use lib.Ieee.Scale.{round-same}
 
 -- ---- what `compare` answers
 order-lt : (a b : ℕ) → a < b → compare a b ≡ Ordering·lt

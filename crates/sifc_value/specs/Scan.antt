@@ -1,6 +1,6 @@
 -- What reading digits out of a literal gives.
 use mathlib.Core.Path.{_≡_}
-use Prim.Native.Nat.{ℕ, _+_, _-_, _*_, _^_, _≤_, _<_}
+use Prim.Native.Nat.{ℕ, _+_, _-_, _^_, _≤_, _<_}
 use mathlib.Core.List.{List}
 use lib.ListN.{take, drop}
 use Rattle.sifc_word.specs.Base.{span}

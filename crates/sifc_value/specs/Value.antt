@@ -1,5 +1,5 @@
 -- Number values: document 02, ask 1. A literal is digits over a power of ten in whole numbers, and its value is that fraction, rounded to the nearest f64, ties to even.
-use Prim.Native.Nat.{ℕ, zero, suc, _+_, _-_, _*_, _^_}
+use Prim.Native.Nat.{ℕ, suc, _+_, _-_, _*_, _^_}
 use mathlib.Core.List.{List, [], _∷_, _++_}
 use mathlib.Core.Bool.{Bool, true, false, _&&_}
 use lib.Dec.{eqb, ltb}

@@ -15,19 +15,19 @@ struct Split {
 }
 
 // Works out `bits` more bits of a quotient.
-fn step(five: u64, split: Split, factor: u64, bits: u64) -> Split
-    requires { ⌜ split .rest < five ⌝ }
+fn step(five: u64, old: Split, factor: u64, bits: u64) -> Split
+    requires { ⌜ old .rest < five ⌝ }
     requires { ⌜ 0 < factor ⌝ }
-    requires { ⌜ split .rest * factor < 2 ^ 64 ⌝ }
-    requires { ⌜ split .whole * factor + factor ≤ 2 ^ 63 ⌝ }
-    requires { ⌜ split .shift + bits < 2 ^ 64 ⌝ }
-    ensures { λ r. ⌜ Stepped five (split .whole) (split .rest) (split .shift) factor bits (r .whole) (r .rest) (r .shift) ⌝ }
+    requires { ⌜ old .rest * factor < 2 ^ 64 ⌝ }
+    requires { ⌜ old .whole * factor + factor ≤ 2 ^ 63 ⌝ }
+    requires { ⌜ old .shift + bits < 2 ^ 64 ⌝ }
+    ensures { λ r. ⌜ Stepped five (old .whole) (old .rest) (old .shift) factor bits (r .whole) (r .rest) (r .shift) ⌝ }
 {
-    let more = split.rest * factor;
+    let more = old.rest * factor;
     Split {
-        whole: split.whole * factor + more / five,
+        whole: old.whole * factor + more / five,
         rest: more % five,
-        shift: split.shift + bits,
+        shift: old.shift + bits,
     }
 }
 

@@ -14,7 +14,7 @@ pub enum ValueAnswer {
     NoNumber,
 }
 
-// Run that were read: the number that they make behind those before them, ten to the power of how
+// Digits that were read: the number that they make behind those before them, ten to the power of how
 // many they are, and the index behind them.
 struct Run {
     number: u64,

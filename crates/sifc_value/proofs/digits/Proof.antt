@@ -1,8 +1,7 @@
 -- `digits` gives what Scan.antt says. Before each digit what was read is `Scanned`; the measure is what is left up to the end.
-use Prim.Native.Nat.{_-_, _<_, _≤_}
+use Prim.Native.Nat.{_-_}
 use native.Mathlib.Nat.{lt-of-lt-of-le}
 use native.Mathlib.Omega.{arith}
-use lib.ListN.{length}
 use Rattle.sifc_value.proofs.Scanned.{Scanned, scanned-none, scanned-more, room, scale-room, read-all, read-stop, below-digit, above-digit}
 use Rattle.sifc_value.proofs.digits.Statement.{statement}
 use Rattle.sifc_value.proofs.digits.Tie as tie

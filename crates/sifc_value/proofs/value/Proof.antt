@@ -6,7 +6,7 @@ use native.Mathlib.Omega.{arith}
 use lib.ListN.{length}
 use lib.Ieee.{ofInt}
 use Rattle.sifc_value.specs.Decimal.{ten-pos, ten-le}
-use Rattle.sifc_value.specs.declared.ValueAnswer.the-variants.{Number, NoNumber}
+use Rattle.sifc_value.specs.declared.ValueAnswer.the-variants.{Number}
 use Rattle.sifc_value.proofs.Literal.{none, only, other, more, pointed}
 use Rattle.sifc_value.proofs.value.Statement.{statement}
 use Rattle.sifc_value.proofs.value.Tie as tie

@@ -16,7 +16,7 @@ div-t7 c = search needs
 add-t8 : tie.Need-add-t8
 add-t8 c =
     let start = c .before .before in
-    omega (arith, part-lt (start .args .five) (start .args .split .rest) (start .args .factor) (start .pre .0) (start .pre .1 .0))
+    omega (arith, part-lt (start .args .five) (start .args .old .rest) (start .args .factor) (start .pre .0) (start .pre .1 .0))
 
 rem-t9 : tie.Need-rem-t9
 rem-t9 c = search needs
@@ -27,7 +27,7 @@ add-t10 c = search needs
 returns : tie.Need-returns
 returns c =
     let start = c .before .before .before in
-    stepped (start .args .five) (start .args .split .whole) (start .args .split .rest) (start .args .split .shift) (start .args .factor) (start .args .bits) (start .pre .0) (start .pre .1 .0)
+    stepped (start .args .five) (start .args .old .whole) (start .args .old .rest) (start .args .old .shift) (start .args .factor) (start .args .bits) (start .pre .0) (start .pre .1 .0)
 
 pub step-spec : {M : Type 1} → statement M
 step-spec = tie.close (tie.spec mul-more mul-t6 div-t7 add-t8 rem-t9 add-t10 returns)
