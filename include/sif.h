@@ -41,7 +41,7 @@ extern "C" {
 /*
  * The refusals. Of 1 to 4 the least that holds is answered; of 5 to 9 the one that the reading meets
  * first; 10 and 11 come last, in this order. sif_tokens answers 0 to 5, sif_reading 0 to 9, sif_text 0
- * to 11. 20 is of sif_deepest alone.
+ * to 11, sif_value 0 or 12. 20 is of sif_deepest alone.
  */
 enum {
     /* No refusal: the script was lexed or read, or its text was written. */
@@ -73,9 +73,14 @@ enum {
     SIF_FLAGGED = 10,
     /* The canonical text is longer than its buffer. */
     SIF_TEXT_FULL = 11,
+    /* The bytes are no number literal of at most 19 digits. */
+    SIF_NO_NUMBER = 12,
     /* No deepest script is given: for 0 bytes, for more than 255, or where the buffer is shorter. */
     SIF_NO_LENGTH = 20
 };
+
+/* The most digits of a number literal that has a value; leading zeros count. */
+#define SIF_MAX_DIGITS 19
 
 /* The kinds of fault, which refusal 5 comes with. */
 enum {
@@ -350,6 +355,22 @@ uint32_t sif_text(const uint8_t *script, size_t script_len,
  * Answers the number of the refusal, or 0.
  */
 uint32_t sif_deepest(size_t n, uint8_t *script, size_t script_len, size_t *depth);
+
+/*
+ * The value of a number literal: its digits as a whole number, over ten to the power of how many of them
+ * stand behind the point, rounded to the nearest double, ties to even, as IEEE 754 says.
+ *
+ *   literal, literal_len   the literal's bytes; only read. One or more digits, with at most one point
+ *                          behind the first of them (`5`, `5.`, `0.25`), and at most 19 digits in all,
+ *                          leading zeros counted. A token of kind SIF_TOKEN_VAL is one, unless it has
+ *                          more digits. No byte behind the twentieth digit is looked at
+ *   value                  receives the value; +0 with refusal 12. It is always written
+ *
+ * The value is 0 or lies between 1e-18 and 1e19. The call takes little stack.
+ *
+ * Answers 0, or 12 for anything else than such a literal.
+ */
+uint32_t sif_value(const uint8_t *literal, size_t literal_len, double *value);
 
 #ifdef __cplusplus
 }

@@ -1,8 +1,8 @@
 //! Times the calls: the Rust of docs/src, the proved calls, and their plain twins, each in a process of its
 //! own, on scripts as suppliers write them and on shapes that a reader can be slow at, in one run. `bench`
 //! prints all tables, the instructions for each byte, the stack that calls take, and whether the goals are
-//! met; `bench --instructions [NAME..]` (of the scripts of these names) and `bench --stack` print those alone;
-//! `bench --write DIR` writes the scripts. `bench --side SIDE` is a side's process, and `bench --run SIDE CALL
+//! met; `bench --instructions [NAME..]` (of the scripts of these names), `bench --stack` and `bench --values`
+//! print those alone; `bench --write DIR` writes the scripts. `bench --side SIDE` is a side's process, and `bench --run SIDE CALL
 //! SCRIPT TIMES` makes a call some times.
 
 mod goals;
@@ -13,12 +13,13 @@ mod sides;
 mod stack;
 mod tables;
 mod timing;
+mod values;
 
 use sides::Side;
 use std::process::ExitCode;
 
 const USAGE: &str =
-    "usage: bench [--instructions [NAME..] | --stack | --write DIR | --side SIDE | \
+    "usage: bench [--instructions [NAME..] | --stack | --values | --write DIR | --side SIDE | \
     --run SIDE CALL SCRIPT TIMES]";
 
 fn main() -> ExitCode {
@@ -37,6 +38,7 @@ fn main() -> ExitCode {
             stack::measure_all();
             ExitCode::SUCCESS
         }
+        ["--values"] => verdict(values::table()),
         ["--write", folder] => inputs::write_all(folder),
         ["--side", side] => served(side),
         ["--run", side, call, script, times] => {
@@ -53,7 +55,13 @@ fn all() -> ExitCode {
     instructions::table();
     println!();
     stack::measure_all();
-    if bench.verdicts() {
+    println!();
+    let values = values::table();
+    verdict(bench.verdicts() && values)
+}
+
+fn verdict(met: bool) -> ExitCode {
+    if met {
         return ExitCode::SUCCESS;
     }
     ExitCode::FAILURE

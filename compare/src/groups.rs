@@ -4,6 +4,7 @@ mod checks;
 mod deepest;
 mod reading;
 mod text;
+mod value;
 
 use crate::host::OURS;
 use crate::report::{Report, Tally};
@@ -25,6 +26,7 @@ pub struct Form {
     pub reading: reading::Form,
     pub text: text::Form,
     pub deepest: deepest::Form,
+    pub value: value::Form,
 }
 
 pub const SHORT: Form = Form {
@@ -37,6 +39,7 @@ pub const SHORT: Form = Form {
     reading: reading::SHORT,
     text: text::SHORT,
     deepest: deepest::SHORT,
+    value: value::SHORT,
 };
 
 pub const LONG: Form = Form {
@@ -49,6 +52,7 @@ pub const LONG: Form = Form {
     reading: reading::LONG,
     text: text::LONG,
     deepest: deepest::LONG,
+    value: value::LONG,
 };
 
 /// The sizes of damaged scripts.
@@ -59,7 +63,7 @@ const DAMAGED_LARGE_BYTES: usize = 65_000;
 #[derive(Default)]
 pub struct Run {
     pub is_long: bool,
-    /// Whether the plain twin is compared; then the tokens call is left out.
+    /// Whether the plain twin is compared; then the tokens and the value call are left out.
     pub is_twin: bool,
     /// What the names of its groups have in them.
     pub only: String,
@@ -76,6 +80,7 @@ pub fn run(run: Run) -> bool {
     }
     println!("our side: {OURS}");
     tokens(&mut report, form);
+    value::run(&mut report, &form.value);
     walk(&mut report, form, &Checks::of_library());
     deepest::run(&mut report, &form.deepest);
     report.finish()

@@ -162,7 +162,20 @@ extern "C" {
     ) -> u32;
 
     fn sif_deepest(n: usize, script: *mut u8, script_len: usize, depth: *mut usize) -> u32;
+    fn sif_value(literal: *const u8, literal_len: usize, value: *mut f64) -> u32;
 }
+
+/// The value call: number and value.
+#[cfg(not(feature = "stand-in"))]
+pub fn value(literal: &[u8]) -> (u32, f64) {
+    let mut value = f64::NAN;
+    // SAFETY: the pointers come from references, the first with its length, and the call has no further
+    // requirement.
+    let number = unsafe { sif_value(literal.as_ptr(), literal.len(), &mut value) };
+    (number, value)
+}
+#[cfg(feature = "stand-in")]
+pub use twin::value;
 
 /// The reading call.
 #[cfg(not(feature = "stand-in"))]

@@ -1,4 +1,4 @@
-//! The plain twin: the tokens, the reading and the text call written in ordinary Rust, with nothing proved.
+//! The plain twin: the tokens, the reading, the text and the value call written in ordinary Rust, with nothing proved.
 //! The benchmark times it beside the proved calls, and the comparison can be run on it. The files are
 //! named after those of the Rust. All calls work in the arrays that they are lent.
 
@@ -10,9 +10,11 @@ mod parser;
 mod reserved;
 mod symtab;
 mod token;
+mod value;
 mod writer;
 
 pub use parse_err::Early;
+pub use value::value;
 
 use ast::Tree;
 use lex::lex_tokens;

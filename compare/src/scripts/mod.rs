@@ -3,6 +3,7 @@
 pub mod damaged;
 pub mod grammar;
 pub mod limits;
+pub mod literals;
 pub mod nesting;
 pub mod operations;
 pub mod phrases;

@@ -1,10 +1,12 @@
 // The calls that hosts in other languages link, on plain slices. include/sif.h declares them.
 mod deepest;
+mod value;
 
 pub use deepest::sif_deepest;
 use sifc_tokens::TokensAnswer;
 use sifc_told::told;
 use sifc_told::told_text;
+pub use value::sif_value;
 ghost use mathlib.Core.Path.{_≡_};
 ghost use Rattle.sifc_tokens.specs.Tokens.{tokensCalled, tokensCall};
 ghost use Rattle.sifc_def.specs.Read.{called, reading as readingOf, textCall};

@@ -29,6 +29,10 @@ use Rattle.sifc_deepest.specs.Deepest.{deepestCalled, deepestCall, deepestAnswe
 use Rattle.sifc_deepest.proofs.deepest as deepest-call
 use Rattle.sifc_deepest.proofs.deepest.Symbol as deepest-symbol
 use Rattle.sifc_deepest.proofs.deepest.Met as deepest-met
+use Rattle.sifc_value.specs.Value.{valueOf, told as toldIn, toldValue}
+use Rattle.sifc_value.proofs.value as value-call
+use Rattle.sifc_value.proofs.value.Symbol as value-symbol
+use Rattle.sifc_value.proofs.value.Met as value-met
 use Rattle.sif_c.proofs.sif_tokens as sif-tokens-call
 use Rattle.sif_c.proofs.sif_tokens.Symbol as sif-tokens-symbol
 use Rattle.sif_c.proofs.sif_tokens.Met as sif-tokens-met
@@ -41,6 +45,9 @@ use Rattle.sif_c.proofs.sif_text.Met as sif-text-met
 use Rattle.sif_c.proofs.sif_deepest as sif-deepest-call
 use Rattle.sif_c.proofs.sif_deepest.Symbol as sif-deepest-symbol
 use Rattle.sif_c.proofs.sif_deepest.Met as sif-deepest-met
+use Rattle.sif_c.proofs.sif_value as sif-value-call
+use Rattle.sif_c.proofs.sif_value.Symbol as sif-value-symbol
+use Rattle.sif_c.proofs.sif_value.Met as sif-value-met
 
 module _ {M : Type 1} where
   -- The tokens call: answer and both arrays at exit are `tokensCall` of the script and the arrays at entry.
@@ -143,6 +150,14 @@ module _ {M : Type 1} where
   pub sif-deepest : Promised M sif-deepest-call.ended sif-deepest-symbol.routine λ κs at r end.
       deepestTold (deepestAnswer (now (end .1 .1 .0)) r) (now (end .1 .0)) ≡ toldDeepest (deepestCall (at .0) (now (at .1 .0)))
   sif-deepest = sif-deepest-met.met
+
+  -- The value of a number literal: the answer is `valueOf` of its bytes.
+  pub value : Promised M value-call.ended value-symbol.routine λ κs at r end. r ≡ valueOf (now (at .0))
+  value = value-met.met
+
+  -- The same for hosts: the refusal's number as the result, and the value.
+  pub sif-value : Promised M sif-value-call.ended sif-value-symbol.routine λ κs at r end. toldIn r (now (end .1 .0)) ≡ toldValue (valueOf (now (at .0)))
+  sif-value = sif-value-met.met
 
 -- Demand 3, of any eight calls that ran: two scripts, their readings and text calls, and the readings and text calls of their canonical texts.
 pub demand3 : (x y : Ran) → FlagDown (x .reads .answer) → FlagDown (y .reads .answer) → AllFit x → AllFit y → Demand3 x y

@@ -63,7 +63,7 @@ class Header(unittest.TestCase):
             wanted = {constant(prefix, name): number for number, name in enumerate(names + more, 1)}
             self.assertEqual({name: told[name] for name in told if name.startswith(prefix)}, wanted)
         refusals = "NONE LONG_SCRIPT NOT_ASCII UNEVEN TOKENS_FULL SOURCE_FAULT TOO_DEEP NODES_FULL SYMBOLS_FULL"
-        refusals += " ERRORS_FULL FLAGGED TEXT_FULL"
+        refusals += " ERRORS_FULL FLAGGED TEXT_FULL NO_NUMBER"
         for number, name in enumerate(refusals.split()):
             self.assertEqual(told["SIF_" + name], number)
         self.assertEqual(told["SIF_NO_LENGTH"], 20)
@@ -78,7 +78,7 @@ class Header(unittest.TestCase):
 
 
 class Libraries(unittest.TestCase):
-    CALLS = ["sif_deepest", "sif_reading", "sif_text", "sif_tokens"]
+    CALLS = ["sif_deepest", "sif_reading", "sif_text", "sif_tokens", "sif_value"]
 
     def exported(self, *words) -> list[str]:
         told = run("nm", "--defined-only", "--extern-only", *words).stdout.decode()

@@ -9,6 +9,8 @@ lends it memory and gives its answers types. Scripts are ASCII, of at most 65,53
     ['VarDecl']
     >>> sif.text(b"var a=(1+2)*3; # three")
     b'var a = ( 1 + 2 ) * 3 ;\\n'
+    >>> [token.value for token in sif.tokens(b"007.50;")]
+    [7.5, None, None]
     >>> str(sif.read(b"var a = b;").errors[0])
     '1:9: `b` is not declared'
     >>> sif.read(b"1(2);")
@@ -35,7 +37,7 @@ from ._model import (
     TokenKind,
     place,
 )
-from ._reader import MAX_SCRIPT, deepest, read, text, tokens
+from ._reader import MAX_SCRIPT, deepest, read, text, tokens, value
 
 __all__ = [
     "MAX_SCRIPT",
@@ -56,5 +58,6 @@ __all__ = [
     "read",
     "text",
     "tokens",
+    "value",
 ]
 __version__ = "0.1.0"

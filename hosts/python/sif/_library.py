@@ -3,9 +3,9 @@
 from __future__ import annotations
 
 import os
-from ctypes import CDLL, CFUNCTYPE, POINTER, byref, c_char, c_size_t, c_uint8, c_uint32, c_ulong, c_void_p
+from ctypes import CDLL, CFUNCTYPE, POINTER, byref, c_char, c_double, c_size_t, c_uint8, c_uint32, c_ulong, c_void_p
 from pathlib import Path
-from typing import Any, Callable
+from typing import Any, Callable, Optional
 
 NAME = "libsif_c.so.0"
 
@@ -49,7 +49,8 @@ def _declare(library: CDLL) -> CDLL:
     )
     library.sif_text.argtypes = words * 9 + [size, number, size]
     library.sif_deepest.argtypes = [c_size_t, *words, size]
-    for call in (library.sif_tokens, library.sif_reading, library.sif_text, library.sif_deepest):
+    library.sif_value.argtypes = words + [POINTER(c_double)]
+    for call in (library.sif_tokens, library.sif_reading, library.sif_text, library.sif_deepest, library.sif_value):
         call.restype = c_uint32
     return library
 
@@ -139,3 +140,9 @@ def deepest(length: int, room: int) -> tuple[int, int, bytes]:
     buffer, depth = (c_uint8 * room)(), c_size_t()
     number = _library.sif_deepest(length, buffer, room, byref(depth))
     return number, depth.value, bytes(buffer)
+
+
+def value(literal: bytes) -> Optional[float]:
+    """The value of a literal, if it is one of at most 19 digits."""
+    number = c_double()
+    return number.value if _library.sif_value(literal, len(literal), byref(number)) == 0 else None

@@ -7,6 +7,8 @@ from dataclasses import dataclass, field
 from enum import IntEnum
 from typing import Iterator, Optional, Union
 
+from . import _library
+
 TokenKind = IntEnum(
     "TokenKind",
     "LeftParen RightParen LeftBrace RightBrace LeftBracket RightBracket Semicolon Eq Lt Gt Period Comma Bang"
@@ -169,6 +171,12 @@ class Token:
     def spelling(self) -> str:
         """The text; of a string without its quotes."""
         return self.text[1:-1] if self.kind == TokenKind.Str else self.text
+
+    @property
+    def value(self) -> Optional[float]:
+        """The value of a number: the nearest float, ties to even. None of a number of 20 digits or more, leading
+        zeros counted, and of every other kind of token."""
+        return _library.value(self.text.encode("ascii")) if self.kind == TokenKind.Val else None
 
     def __str__(self) -> str:
         """In quotes, or words for the end of the script. It is on one line, and a long text is cut."""

@@ -1,4 +1,4 @@
-"""The calls: tokens, read, text, deepest."""
+"""The calls: tokens, read, text, deepest, value."""
 
 from __future__ import annotations
 
@@ -66,6 +66,12 @@ def deepest(length: int) -> tuple[bytes, int]:
     number, depth, script = _library.deepest(max(length, 0), min(max(length, 0), _LONGEST_DEEPEST))
     _answered(number, 0, 0)
     return script, depth
+
+
+def value(literal: Script) -> Optional[float]:
+    """The value of a number literal: digits over a power of ten, rounded to the nearest float, ties to even. None
+    where the bytes are no literal of at most 19 digits, leading zeros counted."""
+    return _library.value(_bytes(literal))
 
 
 def _bytes(data: Script) -> bytes:

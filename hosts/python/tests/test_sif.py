@@ -160,6 +160,12 @@ class Calls(unittest.TestCase):
         self.assertEqual(failed, 0)
         self.assertGreater(tried, 4)
 
+    def test_values(self) -> None:
+        self.assertEqual([token.value for token in sif.tokens(b'5. + "5" 0;')], [5.0, None, None, 0.0, None, None])
+        self.assertEqual([sif.value(b"9007199254740993"), sif.value(b"0.1")], [9007199254740992.0, 0.1])
+        for none in (b"", b".5", b"5..", b"1e5", b"+1", b"5 ", b"0" * 20):
+            self.assertIsNone(sif.value(none))
+
     def test_refusals_carry_number_kind_and_offset(self) -> None:
         cases = [
             (b" " * 65_536, (1, 0, 0)),

@@ -169,6 +169,7 @@ extern "C" {
     ) -> u32;
 
     fn sif_deepest(n: usize, script: *mut u8, script_len: usize, depth: *mut usize) -> u32;
+    fn sif_value(literal: *const u8, literal_len: usize, value: *mut f64) -> u32;
 }
 
 /// The tokens call: the refusal and the number of tokens.
@@ -273,4 +274,12 @@ pub fn deepest(n: usize, script: &mut [u8]) -> (Said, usize) {
     // SAFETY: the pointers come from a slice, with its length, and from a number of this function.
     said.number = unsafe { sif_deepest(n, script.as_mut_ptr(), script.len(), &mut depth) };
     (said, depth)
+}
+
+/// The value call: the value of a literal, if it is one of at most 19 digits.
+pub fn value(literal: &[u8]) -> Option<f64> {
+    let mut value = 0.0;
+    // SAFETY: as for `tokens`.
+    let number = unsafe { sif_value(literal.as_ptr(), literal.len(), &mut value) };
+    (number == 0).then_some(value)
 }

@@ -172,6 +172,20 @@ pub fn deepest(n: usize) -> Result<Deepest, Refusal> {
 /// The longest script that [`deepest`] gives.
 const LONGEST_DEEPEST: usize = 255;
 
+/// The value of a number literal: digits over a power of ten, rounded to the nearest `f64`, ties to even.
+/// None where the bytes are no literal of at most 19 digits, leading zeros counted. [`Token::value`] asks
+/// it of a token.
+///
+/// ```
+/// assert_eq!(sif::value(b"0.1"), Some(0.1));
+/// assert_eq!(sif::value(b"5."), Some(5.0));
+/// assert_eq!(sif::value(b".5"), None);
+/// assert_eq!(sif::value(b"1e5"), None);
+/// ```
+pub fn value(literal: &[u8]) -> Option<f64> {
+    call::value(literal)
+}
+
 /// The length that memory is lent for: none for a script that is refused at entry.
 fn lent(script: &[u8]) -> usize {
     if script.len() > MAX_SCRIPT {

@@ -1,5 +1,6 @@
 //! The tokens of a script.
 
+use crate::call;
 use crate::kind::TokenKind;
 use crate::place::Span;
 use crate::refusal::Fault;
@@ -24,6 +25,22 @@ impl<'s> Token<'s> {
         match self.kind {
             TokenKind::Str => &self.text[1..self.text.len() - 1],
             _ => self.text,
+        }
+    }
+
+    /// The value of a number: the nearest `f64`, ties to even. None of a number of 20 digits or more,
+    /// leading zeros counted, and of every other kind of token.
+    ///
+    /// ```
+    /// let tokens = sif::tokens(b"007.50 + \"1\";")?;
+    /// let values: Vec<Option<f64>> = tokens.iter().map(|token| token.value()).collect();
+    /// assert_eq!(values, [Some(7.5), None, None, None, None]);
+    /// # Ok::<(), sif::Refusal>(())
+    /// ```
+    pub fn value(&self) -> Option<f64> {
+        match self.kind {
+            TokenKind::Val => call::value(self.text.as_bytes()),
+            _ => None,
         }
     }
 }

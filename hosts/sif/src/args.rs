@@ -16,7 +16,7 @@ Commands:
              --write            replace each file by its canonical text, once the text was read back
                                 and has the same tree
              --drop-comments    with --write: also where comments are lost by it
-  tokens   print the tokens of scripts
+  tokens   print the tokens of scripts, numbers with their values
              --machine          document 01's numbers instead of names
   tree     print the trees of scripts
              --json             as JSON, an object for each file

@@ -5,7 +5,7 @@ use crate::excerpt::place_for_people;
 use crate::input::{load, Script};
 use crate::output::{note, print};
 use crate::Status;
-use sif::{Lines, Node, NodeKind, ParseError, Reading, Refusal, Token};
+use sif::{Lines, Node, NodeKind, ParseError, Reading, Refusal, Token, TokenKind};
 use std::ffi::OsString;
 use std::fmt::Write;
 
@@ -49,7 +49,8 @@ fn told(script: &Script, refusal: Refusal) -> Status {
     status
 }
 
-/// A token a line: place, kind and text. Or in numbers: kind, line, column, offset, length.
+/// A token a line: place, kind and text, and behind a number its value. Or in numbers: kind, line, column,
+/// offset, length.
 pub fn tokens(text: &mut String, script: &[u8], machine: bool) -> Result<(), Refusal> {
     let tokens = sif::tokens(script)?;
     let lines = Lines::new(script);
@@ -61,7 +62,8 @@ pub fn tokens(text: &mut String, script: &[u8], machine: bool) -> Result<(), Ref
             text.push_str(&(joined(&[kind, place.line, place.column, span.start, len]) + "\n"));
         } else {
             let place = place_for_people(script, &lines, span.start).to_string();
-            let line = format!("{place:<9} {:<18} {}", kind.name(), plain(token.text));
+            let value = token.value().map_or(String::new(), |value| format!("  value {value}"));
+            let line = format!("{place:<9} {:<18} {}{value}", kind.name(), plain(token.text));
             text.push_str(&(line.trim_end().to_string() + "\n"));
         }
     }
@@ -178,7 +180,20 @@ fn json_token(token: &Token, lines: &Lines) -> String {
     let (kind, text) = (token.kind.name(), quoted(token.text));
     let where_it_is =
         format!("\"line\":{},\"column\":{},\"offset\":{offset}", place.line, place.column);
-    format!("{{\"index\":{},\"kind\":\"{kind}\",\"text\":{text},{where_it_is}}}", token.index)
+    let value = json_value(token);
+    format!(
+        "{{\"index\":{},\"kind\":\"{kind}\",\"text\":{text},{where_it_is}{value}}}",
+        token.index
+    )
+}
+
+/// The value of a number, null where it has too many digits; nothing for other tokens.
+fn json_value(token: &Token) -> String {
+    match (token.kind, token.value()) {
+        (TokenKind::Val, Some(value)) => format!(",\"value\":{value}"),
+        (TokenKind::Val, None) => ",\"value\":null".to_string(),
+        _ => String::new(),
+    }
 }
 
 fn json_error(error: &ParseError) -> String {

@@ -278,6 +278,15 @@ class Show(Case):
         wanted = "Program\n  Block scope 1\n    VarDecl a  1:7\n      UnaryExpr -  1:11\n        PrimaryExpr 1  1:12\n"
         self.assertEqual(ran.stdout.decode(), wanted)
 
+    def test_values(self) -> None:
+        data = b"var a = 007.50; 0.1; 12345678901234567890;"
+        shown = sif("tokens", "-", data=data).stdout.decode().splitlines()
+        numbers = [line.split()[2:] for line in shown if line.split()[1] == "Val"]
+        self.assertEqual(numbers, [["007.50", "value", "7.5"], ["0.1", "value", "0.1"], ["12345678901234567890"]])
+        nodes = json.loads(sif("tree", "--json", "-", data=data).stdout)["nodes"]
+        values = [node["token"]["value"] for node in nodes if "value" in node.get("token", {})]
+        self.assertEqual(values, [7.5, 0.1, None])
+
     def test_json(self) -> None:
         data = (EXAMPLES / "planted.sif").read_bytes()
         told = json.loads(sif("tree", "--json", "-", data=data).stdout)
