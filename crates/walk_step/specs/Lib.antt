@@ -1,0 +1,5 @@
+pub mod Words
+pub mod WordsLaws
+pub mod Small
+pub mod SmallLaws
+pub mod Moves
