@@ -3,3 +3,4 @@ pub mod WordsLaws
 pub mod Small
 pub mod SmallLaws
 pub mod Moves
+pub mod Call

@@ -20,7 +20,7 @@ use Rattle.sifc_step.specs.declared.walk.Walk.{Walk}
 use Rattle.sifc_step.specs.declared.walk.Target.{Target}
 use Rattle.sifc_step.specs.declared.walk.Parsed.{Parsed as Outcome}
 use Rattle.sifc_step.specs.declared.walk.Parsed.the-variants as outcome
-use Rattle.sifc_step.specs.Abs.{Inp, Mem, inp, mem, Rooms, roomsOf, kindIn, flagIn, kidsIn, nodesOf, ctx, ctxOf, abs, kindAt, Stands, Ready, DoesAs, Sure, void, many, checkedBy, countedBy, leveledBy}
+use Rattle.sifc_step.specs.Abs.{Inp, Mem, inp, mem, Rooms, roomsOf, kindIn, flagIn, kidsIn, nodesOf, ctx, ctxOf, abs, kindAt, Stands, Ready, DoesAs, Sure, Lost, void, many, checkedBy, countedBy, leveledBy}
 use Rattle.sifc_step.specs.Small as step
 use Rattle.sifc_step.specs.Small.{nodeOf, newest, throwAt, HeadWord}
 use Rattle.sifc_step.specs.SmallLaws as laws
@@ -44,6 +44,14 @@ pub record Starts (I : Inp) (M : Mem) (s : List ℕ) : Type 0 where
 pub record Goes {A : Type 0} (v : Walk → A) (j : ℕ) (f : Ctx → St → Out A) (I : Inp) (M : Mem) (s : List ℕ) (r : Parsed) (s′ : List ℕ) (M′ : Mem) : Type 0 where
   pub does : DoesAs v j f I M (walkOf s) (told (I .offs) r s′) M′
   pub left : Left (I .lim) r s′
+
+-- what the small functions ask, of what belongs together
+module _ {I : Inp} {M : Mem} {s : List ℕ} (p : Starts I M s) where
+  pub standing-at : Standing (I .words) s
+  standing-at = record { words = p .words; offs = I .offs; stands = p .is .stands }
+
+  pub pushable-at : Pushable (M .head) (M .load) s
+  pushable-at = record { words = p .words; even = p .is .even; used = p .is .used }
 
 -- ── where a walk stands ──
 
@@ -104,6 +112,10 @@ module _ {A : Type 0} {o₀ : Out A} {I : Inp} {n : Rooms} {k lo : ℕ} {E : Lis
   pub by : {o o′ : Out A} → On o₀ o I n k lo E M s → o ≡ o′ → On o₀ o′ I n k lo E M s
   by p e = record { at = steps.by (p .at) e; words = p .words; lim = p .lim }
 
+  -- a step of sifc_step that writes no word
+  pub on : {o o′ : Out A} → On o₀ o I n k lo E M s → At o₀ o′ I n k lo E M (walkOf s) → On o₀ o′ I n k lo E M s
+  on p q = record { at = q; words = p .words; lim = p .lim }
+
   -- what is read off the state
   pub read : {B : Type 0} {a : B} {x : St} (K : B → St → Out A) → On o₀ (go-on (done a x) K) I n k lo E M s → On o₀ (K a x) I n k lo E M s
   read K p = record { at = steps.read K (p .at); words = p .words; lim = p .lim }
@@ -122,15 +134,27 @@ module _ {A : Type 0} {o₀ : Out A} {I : Inp} {n : Rooms} {k lo : ℕ} {E : Lis
   pub written : (i x : ℕ) {w : Walk} {o : Out A} → i < 10 → Words s → limOf s ≡ I .lim → walkOf (set s i x) ≡ w → At o₀ o I n k lo E M w → On o₀ o I n k lo E M (set s i x)
   written i x {w} {o} h ws l e p = record { at = subst (λ (y : Walk). At o₀ o I n k lo E M y) (sym e) p; words = words-set s i x h ws; lim = lim-set s i x h ∙ l }
 
+-- a refusal
+pub refused : {A : Type 0} {v : Walk → A} {o₀ o : Out A} {I : Inp} {n : Rooms} {k lo : ℕ} {E : List Err} {M M′ : Mem} {s s′ : List ℕ} {r : Parsed} (number kind token : ℕ) → On o₀ o I n k lo E M s
+    → Says (λ os q. q ≡ outcome.Refused (refusalOf os number kind token)) s r s′ → steps.Ends v o₀ I lo E (outcome.Refused (refusalOf (I .offs) number kind token)) M′ → Ends v o₀ I lo E r s′ M′
+refused {v = v} {o₀} {I} {lo = lo} {E} {M′ = M′} number kind token p d e = record { is = subst (λ (q : Outcome). steps.Ends v o₀ I lo E q M′) (sym (d .is (I .offs))) e; left = left-as (p .lim) (d .left) }
+
+-- the symbol words are as they were
+pub held : {A : Type 0} {v : Walk → A} {o₀ : Out A} {I : Inp} {lo : ℕ} {E : List Err} {r : Parsed} {s ys ys′ hs ls : List ℕ} → ys′ ≡ ys → Ends v o₀ I lo E r s (mem ys hs ls) → Ends v o₀ I lo E r s (mem ys′ hs ls)
+held {v = v} {o₀} {I} {lo} {E} {r} {s} {hs = hs} {ls = ls} e p = subst (λ (zs : List ℕ). Ends v o₀ I lo E r s (mem zs hs ls)) (sym e) p
+
+-- an answer that stands for no Done is none
+pub lost-back : (os s : List ℕ) (r : Parsed) → Lost (told os r s) → NotDone r
+lost-back os s Done h = absurd h
+lost-back os s Failed h = record { lost = tt }
+lost-back os s Refused h = record { lost = tt }
+
 -- ── what the small functions promise, of the whole state ──
 
 module _ {A : Type 0} {o₀ o : Out A} {I : Inp} {n : Rooms} {k lo : ℕ} {E : List Err} {M : Mem} {s : List ℕ} (p : On o₀ o I n k lo E M s) where
-  -- what is asked of the token in front, of the node arrays and of the symbols
-  pub standing : Standing (I .words) s
-  standing = record { words = p .words; offs = I .offs; stands = p .at .is .stands }
-
-  pub pushable : Pushable (M .head) (M .load) s
-  pushable = record { words = p .words; even = p .at .is .even; used = p .at .is .used }
+  -- the walk and its words belong together
+  pub starts : Starts I M s
+  starts = record { is = p .at .is; words = p .words }
 
   -- what a promise by the words' own limits is by the walk's
   limited : (P : Limits → Type 0) → P (limOf s) → P (I .lim)
@@ -198,6 +222,10 @@ module _ {A : Type 0} {o₀ o : Out A} {I : Inp} {n : Rooms} {k lo : ℕ} {E : L
           (limited (λ (l : Limits). step.Pasts (I .offs) (I .words) l (walkOf s) (whyOf w) (told (I .offs) r s′)) (d .is (I .offs) (p .at .is .stands))));
       left = left-as (p .lim) (d .left);
     }
+
+    -- and it is never done
+    pub never-done : (w : ℕ) → Says (λ os q. Stands os (I .words) (walkOf s) → step.Pasts os (I .words) (limOf s) (walkOf s) (whyOf w) q) s r s′ → NotDone r
+    never-done w d = lost-back (I .offs) s′ r (d .is (I .offs) (p .at .is .stands) .lost)
 
     -- a name, whose token is the one in front
     pub named : {w : ℕ} (y : ℕ → Why) → Reason w (y (getD s 0 0)) → Says (λ os q. Stands os (I .words) (walkOf s) → step.Idents os (I .words) (limOf s) (walkOf s) (whyOf w) q) s r s′

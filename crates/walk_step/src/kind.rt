@@ -23,6 +23,18 @@ pub const TABLE_ACCESS_HEAD: u32 = 143;
 
 pub const ARRAY_ACCESS_HEAD: u32 = 146;
 
+pub const VAR_ASSIGN_EXPR_HEAD: u32 = 149;
+
+pub const GLOBAL_ASSIGN_EXPR_HEAD: u32 = 181;
+
+pub const ARRAY_MUT_EXPR_HEAD: u32 = 211;
+
 // Reasons of errors, in the order of ParseErrTy. A reason's word is number + 16 × first + 2^20 × second,
 // with what it carries.
+pub const INVALID_ASSIGN: usize = 3;
+
 pub const TKN_MISMATCH: usize = 6;
+
+pub const WRONG_FN_PARM_CNT: usize = 8;
+
+pub const UNDECL_SYM: usize = 9;

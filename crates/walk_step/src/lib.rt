@@ -1,6 +1,6 @@
 // The small steps of a reading whose state is lent in words: sifc_step's, without copies.
-mod kind;
-mod state;
+pub mod kind;
+pub mod state;
 mod step;
 
 pub use state::Parsed;

@@ -1,35 +1,26 @@
+-- `walk_step::step::access` meets its contract. Written by tools/walk.py from tools/answers/walk_step/access.txt; edit that.
 use borrow.Author.Needs.{needs}
 use Rattle.walk_step.specs.SmallLaws.{access-faults, access-pushes}
 use Rattle.walk_step.proofs.step.access.Statement.{statement}
 use Rattle.walk_step.proofs.step.access.Tie as tie
-use Rattle.walk_step.proofs.step.access.Reads as reads
-use Rattle.walk_step.proofs.step.access.Lts as lts
-use Rattle.walk_step.proofs.state.refuse.Reads as refuse-reads
-use Rattle.walk_step.proofs.step.push_node.Reads as push-node-reads
 
--- src/step.rt:181:9
 refuse-requires : tie.Need-refuse-requires
 refuse-requires c κs = search needs
 
--- src/step.rt:181:9
 returns : tie.Need-returns
 returns c =
     let c-if1 = c .before .before in
     access-faults (c-if1 .if1 .taken) (c .refuse .ensures)
 
--- src/step.rt:183:5
 push-node-requires : tie.Need-push-node-requires
 push-node-requires c κs = search needs
 
--- src/step.rt:168:1
 same-length : tie.Need-same-length
 same-length c = search needs
 
--- src/step.rt:168:1
 same-length-2 : tie.Need-same-length-2
 same-length-2 c = search needs
 
--- src/step.rt:168:1
 returns-2 : tie.Need-returns-2
 returns-2 c =
     let c-push-node = c .before .before .before .before in
@@ -37,6 +28,4 @@ returns-2 c =
     access-pushes (c-if1 .if1 .left) (c-push-node .push-node .ensures)
 
 pub access-spec : {M : Type 1} → statement M
-access-spec =
-    tie.close
-    (tie.spec refuse-requires returns push-node-requires same-length same-length-2 returns-2)
+access-spec = tie.close (tie.spec refuse-requires returns push-node-requires same-length same-length-2 returns-2)

@@ -1,46 +1,36 @@
+-- `walk_step::step::literal` meets its contract. Written by tools/walk.py from tools/answers/walk_step/literal.txt; edit that.
 use borrow.Author.Needs.{needs}
 use Rattle.walk_step.specs.SmallLaws.{literal-stops, standing-on, literal-passes}
 use Rattle.walk_step.proofs.Tags.{not-done}
 use native.Mathlib.Omega.{arith}
 use Rattle.walk_step.proofs.step.literal.Statement.{statement}
 use Rattle.walk_step.proofs.step.literal.Tie as tie
-use Rattle.walk_step.proofs.step.literal.Reads as reads
-use Rattle.walk_step.proofs.step.literal.Lts as lts
-use Rattle.walk_step.proofs.step.consume.Reads as consume-reads
-use Rattle.walk_step.proofs.step.push_node.Reads as push-node-reads
 
--- src/step.rt:158:14
 element-copy-out-at : tie.Need-element-copy-out-at
 element-copy-out-at c = search needs
 
--- src/step.rt:159:58
 cast-push-node : tie.Need-cast-push-node
 cast-push-node c =
     let start = c .before .before .before .before .before .before in
     omega (arith, start .pre .0 .stands .here, start .pre .0 .stands .toks .few)
 
--- src/step.rt:159:9
 push-node-requires : tie.Need-push-node-requires
 push-node-requires c κs = search needs
 
 enum-told : tie.Need-enum-told
 enum-told c = search needs
 
--- src/step.rt:161:9
 same-length : tie.Need-same-length
 same-length c = search needs
 
--- src/step.rt:161:9
 same-length-2 : tie.Need-same-length-2
 same-length-2 c = search needs
 
--- src/step.rt:161:9
 returns : tie.Need-returns
 returns c =
     let c-push-node = c .before .before .before .before .before in
     literal-stops (c-push-node .push-node .ensures) (not-done _ (c .match .keys2))
 
--- src/step.rt:163:5
 consume-requires : tie.Need-consume-requires
 consume-requires c κs =
     let c-enum-told = c .before in
@@ -48,15 +38,12 @@ consume-requires c κs =
     let start = c-push-node .before .before .before .before .before .before .before in
     standing-on (c-push-node .push-node .ensures) (c-enum-told .enum-told .given .1) (start .pre .0)
 
--- src/step.rt:149:1
 same-length-3 : tie.Need-same-length-3
 same-length-3 c = search needs
 
--- src/step.rt:149:1
 same-length-4 : tie.Need-same-length-4
 same-length-4 c = search needs
 
--- src/step.rt:149:1
 returns-2 : tie.Need-returns-2
 returns-2 c =
     let c-enum-told = c .before .before in
@@ -64,17 +51,4 @@ returns-2 c =
     literal-passes (c-push-node .push-node .ensures) (c-push-node .push-node .kept .0) (c-push-node .push-node .kept .1 .0) (c-enum-told .enum-told .given .1) (c .consume .ensures)
 
 pub literal-spec : {M : Type 1} → statement M
-literal-spec =
-    tie.close
-    (tie.spec
-    element-copy-out-at
-    cast-push-node
-    push-node-requires
-    enum-told
-    same-length
-    same-length-2
-    returns
-    consume-requires
-    same-length-3
-    same-length-4
-    returns-2)
+literal-spec = tie.close (tie.spec element-copy-out-at cast-push-node push-node-requires enum-told same-length same-length-2 returns consume-requires same-length-3 same-length-4 returns-2)

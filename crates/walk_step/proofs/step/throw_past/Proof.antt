@@ -1,3 +1,4 @@
+-- `walk_step::step::throw_past` meets its contract. Written by tools/walk.py from tools/answers/walk_step/throw_past.txt; edit that.
 use borrow.Author.Needs.{needs}
 use Rattle.walk_step.specs.SmallLaws.{counts-one, past-stops, past-fails, past-full}
 use Rattle.walk_step.specs.WordsLaws.{words-set}
@@ -6,35 +7,24 @@ use Rattle.walk_step.proofs.Tags.{not-done}
 use native.Mathlib.Omega.{arith}
 use Rattle.walk_step.proofs.step.throw_past.Statement.{statement}
 use Rattle.walk_step.proofs.step.throw_past.Tie as tie
-use Rattle.walk_step.proofs.step.throw_past.Reads as reads
-use Rattle.walk_step.proofs.step.throw_past.Lts as lts
-use Rattle.walk_step.proofs.state.fail.Reads as fail-reads
-use Rattle.walk_step.proofs.state.refuse.Reads as refuse-reads
-use Rattle.walk_step.proofs.step.consume.Reads as consume-reads
 
--- src/step.rt:135:17
 element-copy-out-place : tie.Need-element-copy-out-place
 element-copy-out-place c = search needs
 
--- src/step.rt:136:13
 element-copy-out-e : tie.Need-element-copy-out-e
 element-copy-out-e c = search needs
 
--- src/step.rt:137:12
 element-copy-out-if1 : tie.Need-element-copy-out-if1
 element-copy-out-if1 c = search needs
 
--- src/step.rt:138:22
 add-st : tie.Need-add-st
 add-st c =
     let start = c .before .before .before .before in
     omega (arith, c .if1 .taken, start .pre .0 .words .room)
 
--- src/step.rt:138:9
 element-write-st : tie.Need-element-write-st
 element-write-st c = search needs
 
--- src/step.rt:139:13
 consume-requires : tie.Need-consume-requires
 consume-requires c κs =
     let start = c .before .before .before .before .before in
@@ -43,7 +33,6 @@ consume-requires c κs =
 enum-told : tie.Need-enum-told
 enum-told c = search needs
 
--- src/step.rt:141:13
 returns : tie.Need-returns
 returns c =
     let c-consume = c .before in
@@ -51,14 +40,12 @@ returns c =
     let start = c-if1 .before .before .before .before in
     past-stops _ (start .pre .1) (c-if1 .if1 .taken) (c-consume .consume .ensures) (not-done _ (c .match .keys2))
 
--- src/step.rt:143:9
 fail-requires : tie.Need-fail-requires
 fail-requires c κs =
     let c-consume = c .before .before .before in
     let start = c-consume .before .before .before .before .before .before in
     record { words = c-consume .consume .ensures .left .words; reason = start .pre .1 .reason }
 
--- src/step.rt:143:9
 returns-2 : tie.Need-returns-2
 returns-2 c =
     let c-enum-told = c .before .before in
@@ -67,11 +54,9 @@ returns-2 c =
     let start = c-if1 .before .before .before .before in
     past-fails _ (start .pre .1) (c-if1 .if1 .taken) (c-consume .consume .ensures) (c-enum-told .enum-told .given .1) (c .fail .ensures)
 
--- src/step.rt:145:5
 refuse-requires : tie.Need-refuse-requires
 refuse-requires c κs = search needs
 
--- src/step.rt:131:1
 returns-3 : tie.Need-returns-3
 returns-3 c =
     let c-if1 = c .before .before in
@@ -79,18 +64,4 @@ returns-3 c =
     past-full _ (start .pre .1) (c-if1 .if1 .left) (c .refuse .ensures)
 
 pub throw-past-spec : {M : Type 1} → statement M
-throw-past-spec =
-    tie.close
-    (tie.spec
-    element-copy-out-place
-    element-copy-out-e
-    element-copy-out-if1
-    add-st
-    element-write-st
-    consume-requires
-    enum-told
-    returns
-    fail-requires
-    returns-2
-    refuse-requires
-    returns-3)
+throw-past-spec = tie.close (tie.spec element-copy-out-place element-copy-out-e element-copy-out-if1 add-st element-write-st consume-requires enum-told returns fail-requires returns-2 refuse-requires returns-3)
