@@ -156,6 +156,14 @@ module _ {A : Type 0} {o₀ o : Out A} {I : Inp} {n : Rooms} {k lo : ℕ} {E : L
   pub starts : Starts I M s
   starts = record { is = p .at .is; words = p .words }
 
+  -- as a function is to have them that is lent all of it
+  pub begins : Starts (inp (I .script) (I .offs) (I .words) (limOf s)) M s
+  begins = subst (λ (l : Limits). Starts (inp (I .script) (I .offs) (I .words) l) M s) (sym (p .lim)) starts
+
+  -- and what it has given then
+  pub called : {B : Type 0} {v : Walk → B} {j : ℕ} {f : Ctx → St → Out B} {r : Parsed} {s′ : List ℕ} {M′ : Mem} → Goes v j f (inp (I .script) (I .offs) (I .words) (limOf s)) M s r s′ M′ → Goes v j f I M s r s′ M′
+  called {B} {v} {j} {f} {r} {s′} {M′} d = subst (λ (l : Limits). Goes v j f (inp (I .script) (I .offs) (I .words) l) M s r s′ M′) (p .lim) d
+
   -- what a promise by the words' own limits is by the walk's
   limited : (P : Limits → Type 0) → P (limOf s) → P (I .lim)
   limited P x = subst P (p .lim) x

@@ -14,11 +14,21 @@ pub const EOF: u32 = 47;
 pub const LEX_PANIC: u32 = 48;
 
 // Kinds of nodes, in the order of AstNode.
+pub const VAR_DECL: u32 = 8;
+
+pub const ARRAY_ITEMS: u32 = 17;
+
 pub const ARRAY_ACCESS: u32 = 18;
 
 pub const PRIMARY_EXPR: u32 = 24;
 
 // Head words: kind + 32 × mark + 64 × children.
+pub const EMPTY_ARRAY_HEAD: u32 = 16;
+
+pub const ARRAY_HEAD: u32 = 80;
+
+pub const IDENT_PAIR_HEAD: u32 = 139;
+
 pub const TABLE_ACCESS_HEAD: u32 = 143;
 
 pub const ARRAY_ACCESS_HEAD: u32 = 146;
@@ -38,3 +48,5 @@ pub const TKN_MISMATCH: usize = 6;
 pub const WRONG_FN_PARM_CNT: usize = 8;
 
 pub const UNDECL_SYM: usize = 9;
+
+pub const EXPECTED_IDENT: usize = 11;
