@@ -3,17 +3,23 @@ use Prim.Native.Nat.{ℕ, _≤_, _<_}
 use mathlib.Core.Path.{_≡_}
 use mathlib.Core.List.{List}
 use mathlib.Core.Bool.{Bool}
-use lib.ListN.{length}
+use lib.ListN.{length, getD}
+use denote.Ref.{now}
 use Rattle.sifc_def.specs.State.{tokenAt}
 use Rattle.sifc_symtab.specs.declared.symtab.Found.{Found}
 use Rattle.sifc_symtab.specs.Toks.{toksOf}
 use Rattle.sifc_step.specs.declared.walk.Target.{Target}
-use Rattle.sifc_step.specs.Abs.{Stands}
+use Rattle.sifc_step.specs.Abs.{kindAt, Stands}
 use Rattle.sifc_name.specs.Name as name
 use Rattle.sifc_name.specs.Name.{valueIn}
 use Rattle.walk_step.specs.declared.state.Parsed.{Parsed}
 use Rattle.walk_step.specs.Words.{walkOf, limOf}
+use Rattle.walk_step.specs.Call.{Ref, RefRef}
 use Rattle.walk_step.specs.Small.{Lent, Shown, entry, exit, shown, Says, SaysHere, Standing, Pushable}
+
+-- the token in front is not Eof
+abbrev pub NotEof : RefRef → Ref → Type 0
+NotEof words st = kindAt (now (now words)) (getD (now st) 0 0) ≡ 47 → ⊥
 
 -- a token's kind, wherever the tokens' offsets are
 pub record KindOf (ks : List ℕ) (i r : ℕ) : Type 0 where

@@ -31,17 +31,16 @@ use walk_step::state::LEVEL;
 use walk_step::state::NODES;
 use walk_step::state::SYMBOLS;
 use walk_step::throw_past;
-ghost use mathlib.Core.Path.{_≡_};
 ghost use Prim.Native.Nat.{_-_, _≤_, _<_};
 ghost use lib.ListN.{length, getD};
 ghost use Rattle.sifc_def.specs.Expr.{identExpr, assignToken, assignTo, callNamed};
 ghost use Rattle.sifc_symtab.specs.Table.{Holds};
-ghost use Rattle.sifc_step.specs.Abs.{kindAt};
 ghost use Rattle.sifc_step.specs.Small.{nodeOf};
 ghost use Rattle.sifc_name.specs.Name.{CallWord};
-ghost use Rattle.walk_step.specs.Small.{entry, exit, shown, Standing, Pushable};
+ghost use Rattle.walk_step.specs.Small.{entry, exit, shown, Pushable};
 ghost use Rattle.walk_step.specs.Call.{Begins, Walks};
-ghost use Rattle.walk_name.specs.Name.{KindOf, NamedAs, Exists, Counting, CallsCounted, Declaring, CallsDeclared};
+ghost use Rattle.walk_name.specs.Name.{NotEof, KindOf, NamedAs, Exists, Counting, CallsCounted};
+ghost use Rattle.walk_name.specs.Name.{Declaring, CallsDeclared};
 ghost use Rattle.walk_name.specs.Name.{Assigning, AssignsVar, Shifts, Mutates};
 
 // The kind of token i; Eof past the tokens.
@@ -85,7 +84,7 @@ pub fn ident_expr(
     load: &mut [u32],
     st: &mut [usize; 12],
 ) -> Parsed
-    requires { ⌜ Begins script offs words symbols head load st × (kindAt (now (now words)) (getD (now st) 0 0) ≡ 47 → ⊥) ⌝ }
+    requires { ⌜ Begins script offs words symbols head load st × NotEof words st ⌝ }
     ensures { λ r. ⌜ Walks 1 (λ c. identExpr c (getD (entry st) 0 0)) script offs words symbols head load st r ⌝ }
 {
     if st[CHECK] != 1 {
