@@ -1,5 +1,5 @@
-// The names that a declaration declares, over lent state words: of a variable, a table and an array, and of a
-// loop. Nothing here reads an expression.
+// The names that a declaration declares, over lent state words: of a variable, a table and an array, of a
+// function's parameters and of a loop. Nothing here reads an expression.
 mod declare;
 mod ident;
 
@@ -8,3 +8,4 @@ pub use declare::declare_other;
 pub use declare::declare_var;
 pub use ident::ident_node;
 pub use ident::ident_pair;
+pub use ident::param_list;
