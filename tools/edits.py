@@ -4,16 +4,17 @@
 An edit that must fail is a file crates/CRATE/must-fail/LABEL.edit. Its first lines say of which functions it
 makes a wrong answer and which, one line each: `# FUNCTION: sentence`, or `# TYPE::METHOD: sentence`. An edit
 that changes a definition, and that a law or a worked case refuses, has `# definition: sentence`. An edit may
-change several functions that do not call one another; then each of them must be refused.
+change the bodies of several functions; then the prover must find a fault in each, since a proof knows of
+another function its contract alone.
 
-An edit counts for a public function if it names it, or if it names a function of the same crate that it
+A wrong answer counts for a public function if the edit names it, or names a function of the same crate that it
 reaches through functions that no other crate calls: what these answer is a part of its answer.
 
   tools/edits.py           prints the table (docs/EDITS.md has it)
   tools/edits.py --check   fails where an edit names no function, where a public function that another crate or
-                           a host calls has fewer than two edits, or where docs/EDITS.md is another table
-  tools/edits.py --logs    fails where the prover's log of an edit (target/must-fail) does not say, of each
-                           function that the edit names, that it is not proved, and for a reason of its own
+                           a host calls has fewer than two wrong answers, or where docs/EDITS.md is another table
+  tools/edits.py --logs    fails where the prover's log of an edit (target/must-fail) does not say that it is refused,
+                           or has no fault in a function's own proof, for each of several functions that it names
 """
 
 import re
@@ -125,17 +126,6 @@ def reach(function, functions, callers):
     return seen
 
 
-def all_reached(name, functions):
-    """The names of all functions of a crate that one of them reaches."""
-    seen, waiting = set(), [function for function in functions.values() if function.name == name]
-    while waiting:
-        for other in called_by(waiting.pop(), functions):
-            if other.name not in seen:
-                seen.add(other.name)
-                waiting.append(other)
-    return seen
-
-
 def faults_of(edit, functions):
     """What is wrong with an edit's header."""
     where = f"{edit.crate}/{edit.label}"
@@ -145,10 +135,8 @@ def faults_of(edit, functions):
     for name in edit.names:
         if name != "definition" and name not in functions:
             faults.append(f"{where}: {name} is no function of {edit.crate}")
-    for name in edit.names:
-        below = all_reached(name, functions) & (set(edit.names) - {name})
-        if below:
-            faults.append(f"{where}: {name} calls {', '.join(sorted(below))}, which it changes too")
+    if len(set(edit.names)) < len(edit.names):
+        faults.append(f"{where}: it names a function twice")
     return faults
 
 
@@ -166,12 +154,13 @@ def table():
                 continue
             reached = reach(function, functions, callers)
             labels = [edit.label for edit in edits if reached & set(edit.names)]
+            count = sum(len(reached & set(edit.names)) for edit in edits)
             if function.answers and not function.promises:
                 faults.append(f"{crate}::{function.name} answers and promises nothing")
-            if function.promises and len(labels) < LEAST:
-                faults.append(f"{crate}::{function.name} has {len(labels)} edits")
+            if function.promises and count < LEAST:
+                faults.append(f"{crate}::{function.name} has {count} wrong answers")
             shown = ", ".join(labels) if function.promises or labels else "answers nothing, promises nothing"
-            rows.append(f"| {crate} | `{function.name}` | {len(labels)} | {shown} |")
+            rows.append(f"| {crate} | `{function.name}` | {count} | {shown} |")
     return rows, faults
 
 
@@ -180,8 +169,8 @@ def page(rows):
     head = (
         "# Edits that must fail\n\n"
         "Written by `tools/edits.py`, which says how it counts; the gate holds this page to it. Each public function that\n"
-        "another crate or a host calls, with the edits that make a wrong answer of it and that the prover must refuse.\n\n"
-        "| crate | function | edits | labels (crates/CRATE/must-fail) |\n|---|---|---|---|\n"
+        "another crate or a host calls, with how many wrong answers the prover must refuse, and the edits that make them.\n\n"
+        "| crate | function | wrong answers | edits (crates/CRATE/must-fail) |\n|---|---|---|---|\n"
     )
     return head + "\n".join(rows) + "\n"
 
@@ -195,17 +184,22 @@ def log_faults():
             said = path.read_text() if path.exists() else ""
             if "logic=not-proved" not in said:
                 faults.append(f"{crate}/{edit.label}: no log says that it is refused")
-            for name in edit.names:
-                count += 1
-                if name != "definition" and not refused(said, name):
-                    faults.append(f"{crate}/{edit.label}: {name} is not refused for a reason of its own")
+            count += 1
+            for name in edit.names if len(edit.names) > 1 else []:
+                if not refused(said, name):
+                    faults.append(f"{crate}/{edit.label}: {name} is not refused for a fault of its own")
     return faults, count
 
 
 def refused(said, name):
-    """Whether a log has a function as not proved, and not because of one that it calls."""
-    lines = re.findall(r"^fn (?:\S*::)?%s: (.*)$" % name, said, re.M)
-    return any(line.startswith(("not proved", "no proof")) and "; it calls" not in line for line in lines)
+    """Whether a log has a fault of a function's own: in its own file of proofs, and not that another proof is missing
+    there; or in the proof that is made for it where it has no file."""
+    short = name.split("::")[-1]
+    title = "".join(word.capitalize() for word in short.split("_"))
+    own = re.compile(r"^\S*/(?:%s/Proof|Proof/%s)\.antt:\d+:\d+: error: (.*)$" % (short, title), re.M)
+    if any("was not admitted" not in fault for fault in own.findall(said)):
+        return True
+    return re.search(r"^fn (?:\S*::)?%s: no proof: .*`search` does not close" % name, said, re.M) is not None
 
 
 def main(words):
