@@ -1,5 +1,7 @@
 // Reads the script on standard input, of at most 4,096 bytes, and prints the kinds of its tokens, by
 // stepping a lexing view, and its errors, out of a slice of error records.
+#![tactic(auto)]
+
 mod errors;
 mod kinds;
 

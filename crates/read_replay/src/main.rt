@@ -1,6 +1,8 @@
 // Lists every script of a list (sif_show's entries.rt), with what a listing leaves out after it. The
 // stored output is what the Rust answers (docs/COMPARISON.md), so the two are the same where our
 // readings are the Rust's.
+#![tactic(auto)]
+
 use libc::STDIN_FILENO;
 use sif_show::{after_newline, entry_at};
 

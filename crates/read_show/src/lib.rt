@@ -1,4 +1,6 @@
 // What the programs print of readings.
+#![tactic(auto)]
+
 ghost use Rattle.std.specs.Prelude.{◌≡◌};
 ghost use Rattle.sifc_def.specs.Read.{called};
 ghost use Rattle.sifc_lent.specs.Parts.{arrays};

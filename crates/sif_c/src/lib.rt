@@ -1,4 +1,6 @@
 // The calls that hosts in other languages link, on plain slices. include/sif.h declares them.
+#![tactic(auto)]
+
 mod deepest;
 mod value;
 

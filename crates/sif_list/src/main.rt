@@ -1,5 +1,7 @@
 // The listing program: reads the script on standard input, of at most 4,096 bytes, and prints the
 // counts and the flag, the first and the second words of the nodes, and the errors.
+#![tactic(auto)]
+
 use libc::STDIN_FILENO;
 
 fn main() {

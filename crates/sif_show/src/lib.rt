@@ -1,4 +1,6 @@
 // What the programs print of tokens, and the lists of scripts that they replay.
+#![tactic(auto)]
+
 mod entries;
 
 pub use entries::{Entry, after_newline, entry_at};
@@ -8,7 +10,7 @@ use sifc_tokens::TokensAnswer;
 
 // A token a line, its spelling as it stands; or all tokens on one line with a space between, the
 // spelling in hexadecimal and none for a Val, which is how the stored answers of the Rust are written.
-#[derive(Drop)]
+#[derive(Clone, Copy)]
 pub enum Layout {
     Lines,
     List,

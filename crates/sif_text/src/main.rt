@@ -1,5 +1,7 @@
 // Writes the canonical text of the script on standard input, of at most 4,096 bytes. A refusal is one
 // line, as the listing program has it.
+#![tactic(auto)]
+
 use libc::STDIN_FILENO;
 use sif_show::print;
 use sifc_def::Texting;

@@ -18,7 +18,7 @@ const RETURN_STMT: u32 = 6;
 
 // The tokens of the names that a block binds: none, the two of a loop, or the payloads of so many nodes
 // from a number on, which are the parameters of a function.
-#[derive(Drop)]
+#[derive(Clone, Copy)]
 pub enum Names {
     Unnamed,
     Pair(usize, usize),

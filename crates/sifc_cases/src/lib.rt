@@ -1,5 +1,7 @@
 // Worked cases of canonical text, as theorems about the definition, are in specs/. This crate has no code of its own.
-#[derive(Drop)]
+#![tactic(auto)]
+
+#[derive(Clone, Copy)]
 pub struct Worked {
     pub done: bool,
 }

@@ -1,11 +1,13 @@
 // The deepest script of a length: document 02, ask 14.
+#![tactic(auto)]
+
 ghost use Rattle.std.specs.Prelude.{◌≡◌, ◌≤◌, length};
 ghost use Rattle.sifc_tokens.specs.Tokens.{padded};
 ghost use Rattle.sifc_deepest.specs.Deepest.{openings, byte_at, deepest_called, deepest_call};
 
 // What the call answers: how many counted calls are active at once, or that it gives no script of
 // that length.
-#[derive(Drop)]
+#[derive(Clone, Copy)]
 pub enum DeepestAnswer {
     Depth(usize),
     NoLength,

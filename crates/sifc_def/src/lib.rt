@@ -1,9 +1,11 @@
 // The types that the reading's definition (specs/) and its code share.
+#![tactic(auto)]
+
 use sifc_err::{ParseErr, Refusal};
 
 // Why a declaration fails, in terms of token indices: ParseErrTy, with the index of a token where that
 // has the token.
-#[derive(Drop)]
+#[derive(Clone, Copy)]
 pub enum Why {
     InvalidIdent(usize),
     InvalidTkn(usize),
@@ -20,7 +22,7 @@ pub enum Why {
 }
 
 // An error of the walk: the index of the token at whose place it stands, and why.
-#[derive(Drop)]
+#[derive(Clone, Copy)]
 pub struct Err {
     pub place: usize,
     pub why: Why,
@@ -29,7 +31,7 @@ pub struct Err {
 // What a name was declared as, as far as a reading tells symbols apart. Placeholder is what fn_decl
 // stores before its block. A function holds its number of parameters, a variable its token's index and
 // is_global. Other is a parameter, a loop name, a table or an array.
-#[derive(Drop)]
+#[derive(Clone, Copy)]
 pub enum What {
     Placeholder,
     Function(usize),
@@ -38,14 +40,14 @@ pub enum What {
 }
 
 // The error that ended a reading before its script's end.
-#[derive(Drop)]
+#[derive(Clone, Copy)]
 pub enum Early {
     Never,
     By(ParseErr),
 }
 
 // What a reading answers: how many tokens, nodes and errors, has_err, and the error that ended it.
-#[derive(Drop)]
+#[derive(Clone, Copy)]
 pub struct Summary {
     pub tokens: usize,
     pub nodes: usize,
@@ -54,14 +56,14 @@ pub struct Summary {
     pub early: Early,
 }
 
-#[derive(Drop)]
+#[derive(Clone, Copy)]
 pub enum Reading {
     Read(Summary),
     Refused(Refusal),
 }
 
 // What a text call answers: how many bytes.
-#[derive(Drop)]
+#[derive(Clone, Copy)]
 pub enum Texting {
     Wrote(usize),
     Refused(Refusal),

@@ -1,5 +1,7 @@
 // What a call says when it does not answer: the refusals of document 01 ("Where a call says no"),
 // and why a script's tokens end (lex_err.rs).
+#![tactic(auto)]
+
 mod parse_err;
 
 ghost use Rattle.std.specs.Prelude.{◌≡◌};
@@ -9,7 +11,7 @@ pub use parse_err::{ParseErr, ParseErrTy};
 
 // A token: its kind (the order of TokenTy, from 1), where its text begins in the script, and how
 // many bytes the text has. 47 is Eof, 48 a lexing panic; both have length 0.
-#[derive(Drop)]
+#[derive(Clone, Copy)]
 pub struct Token {
     pub kind: u32,
     pub off: usize,
@@ -19,7 +21,7 @@ pub struct Token {
 // Why the tokens of a script end. UnknownChar and UnterminatedString are the cases of LexErrTy.
 // Panic holds the kind of the lexing panic: 1 is `//` with no newline after it, 2 a number with a
 // point that runs to the script's end.
-#[derive(Drop)]
+#[derive(Clone, Copy)]
 pub enum Ending {
     TrueEnd,
     UnknownChar,
@@ -29,7 +31,7 @@ pub enum Ending {
 
 // The refusals, in the order of the table. NotAscii holds the first such byte's offset,
 // SourceFault the kind and the offset of the panic.
-#[derive(Drop)]
+#[derive(Clone, Copy)]
 pub enum Refusal {
     LongScript,
     NotAscii(usize),

@@ -9,7 +9,7 @@ use crate::Token;
 // expected count. The Rust's InvalidTkn carries a spelling or a fixed message, so it has two cases here:
 // message 1 is `expected either '=' or ';`, 2 `unexpected end of file`, 3 `expected identifier`.
 // A blank record has no reason.
-#[derive(Drop)]
+#[derive(Clone, Copy)]
 pub enum ParseErrTy {
     NoReason,
     InvalidIdent(Token),
@@ -27,7 +27,7 @@ pub enum ParseErrTy {
 }
 
 // A line, a column and a reason.
-#[derive(Drop)]
+#[derive(Clone, Copy)]
 pub struct ParseErr {
     pub line: usize,
     pub pos: usize,

@@ -1,5 +1,7 @@
 // What a reading does with what it is lent besides the walk: the tests of entry, clearing, the places of
 // errors, and the error that ended it.
+#![tactic(auto)]
+
 mod clear;
 mod entry;
 mod error;

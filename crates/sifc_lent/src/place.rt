@@ -8,7 +8,7 @@ use sifc_step::wide;
 use sifc_tokens::{Place, walk_place};
 
 // How many bytes of the script are passed, and the place after them.
-#[derive(Drop)]
+#[derive(Clone, Copy)]
 pub struct Spot {
     pub at: usize,
     pub place: Place,

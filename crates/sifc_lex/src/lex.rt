@@ -9,7 +9,7 @@ use sifc_word::name_kind;
 
 // What the next bytes are: bytes to skip, a token's kind and length, or the end, with how many bytes
 // on it stands.
-#[derive(Drop)]
+#[derive(Clone, Copy)]
 pub enum Step {
     Skip(usize),
     Word(u32, usize),
@@ -18,14 +18,14 @@ pub enum Step {
 
 // What lexing a script into two arrays answers: how many tokens there are, why they end and at
 // which offset, or that the arrays are too short.
-#[derive(Drop)]
+#[derive(Clone, Copy)]
 pub enum LexAnswer {
     Ended(usize, Ending, usize),
     Full,
 }
 
 // The kinds of runs that the lexer scans.
-#[derive(Drop)]
+#[derive(Clone, Copy)]
 pub enum Class {
     Ascii,
     Digit,

@@ -1,4 +1,6 @@
 // Lexing: lex.rs, one turn at a time. The layers above see the promises of these functions alone.
+#![tactic(auto)]
+
 mod lex;
 
 pub use lex::{Class, LexAnswer, Step, end_kind, run_end, step_at};

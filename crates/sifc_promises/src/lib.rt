@@ -1,5 +1,7 @@
 // What is promised of the public calls stands in specs/. This crate has no code of its own.
-#[derive(Drop)]
+#![tactic(auto)]
+
+#[derive(Clone, Copy)]
 pub struct Promised {
     pub done: bool,
 }

@@ -20,7 +20,7 @@ const BINARY_EXPR: u32 = 22;
 
 // Where the writing stands: the node before which it goes on, and the first byte that is written. Or
 // there is no room for what was to be written.
-#[derive(Drop)]
+#[derive(Clone, Copy)]
 pub enum Put {
     Done(usize, usize),
     Full,

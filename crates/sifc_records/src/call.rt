@@ -13,7 +13,7 @@ use sifc_tokens::Checked;
 
 // What the call on words says to who fills the records: the answer, how many tokens and errors there are,
 // and the first record to blank.
-#[derive(Drop)]
+#[derive(Clone, Copy)]
 pub struct Told {
     pub reading: Reading,
     pub tokens: usize,

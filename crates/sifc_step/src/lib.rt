@@ -1,4 +1,6 @@
 // The small steps of a reading.
+#![tactic(auto)]
+
 mod step;
 mod walk;
 

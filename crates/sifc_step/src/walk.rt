@@ -4,7 +4,7 @@ use sifc_err::Refusal;
 
 // What stays as it is through a reading: how many errors there is room for, and the kind of the
 // lexing panic that ends the tokens, if one does.
-#[derive(Drop)]
+#[derive(Clone, Copy)]
 pub struct Limits {
     pub errors: usize,
     pub fault: u32,
@@ -12,7 +12,7 @@ pub struct Limits {
 
 // The index of the current token, how many nodes and symbols are in use, curr_lvl, how many errors
 // are listed, should_check_sym_tab, and where a call counts, its count.
-#[derive(Drop)]
+#[derive(Clone, Copy)]
 pub struct Walk {
     pub at: usize,
     pub nodes: usize,
@@ -25,7 +25,7 @@ pub struct Walk {
 
 // What a call comes to. A failed walk has counted its error, unless that is a TknMismatch of
 // `expect`, which lists nothing.
-#[derive(Drop)]
+#[derive(Clone, Copy)]
 pub enum Parsed {
     Done(Walk),
     Failed(Walk, Err),
@@ -33,21 +33,21 @@ pub enum Parsed {
 }
 
 // The two words of a node: that of the expression that was read last.
-#[derive(Drop)]
+#[derive(Clone, Copy)]
 pub struct Target {
     pub head: u32,
     pub load: u32,
 }
 
 // The error that ended a walk before Eof.
-#[derive(Drop)]
+#[derive(Clone, Copy)]
 pub enum Last {
     Never,
     By(Err),
 }
 
 // What a walk over all declarations comes to: has_err, and the error that ended it.
-#[derive(Drop)]
+#[derive(Clone, Copy)]
 pub enum Walked {
     Finished(Walk, bool, Last),
     Refused(Refusal),

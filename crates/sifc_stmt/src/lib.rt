@@ -1,5 +1,7 @@
 // Declarations and statements that hold no block: var_decl, table_decl, item_list, array_decl, ret_stmt
 // and expr_stmt of parser.rs.
+#![tactic(auto)]
+
 mod decl;
 mod stmt;
 

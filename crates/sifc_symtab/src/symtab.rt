@@ -15,14 +15,14 @@ use sifc_word::same;
 const LINKED: usize = 65535;
 
 // What retrieve answers.
-#[derive(Drop)]
+#[derive(Clone, Copy)]
 pub enum Found {
     Nothing,
     Declared(What),
 }
 
 // What store answers: how many symbols there are now, or that a new one has no room.
-#[derive(Drop)]
+#[derive(Clone, Copy)]
 pub enum Stored {
     At(usize),
     Full,
@@ -30,7 +30,7 @@ pub enum Stored {
 
 // Where a walk along a chain has ended: the link to the symbol there, and the link before it. 0 is the
 // chain's end, and what stands before its first symbol.
-#[derive(Drop)]
+#[derive(Clone, Copy)]
 pub struct Spot {
     prev: usize,
     at: usize,

@@ -1,4 +1,6 @@
 // Canonical text of expressions.
+#![tactic(auto)]
+
 mod writer;
 
 pub use writer::{expr, exprs};

@@ -8,14 +8,14 @@ use sifc_err::{Ending, Refusal};
 use sifc_lex::{Class, LexAnswer, Step, end_kind, run_end, step_at};
 
 // What the tokens call answers.
-#[derive(Drop)]
+#[derive(Clone, Copy)]
 pub enum TokensAnswer {
     Count(usize),
     Refused(Refusal),
 }
 
 // Whether the tests on a script alone let it pass.
-#[derive(Drop)]
+#[derive(Clone, Copy)]
 pub enum Checked {
     Fine,
     Refused(Refusal),

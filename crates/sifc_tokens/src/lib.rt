@@ -1,4 +1,6 @@
 // The tokens call, its parts for the reading, and places.
+#![tactic(auto)]
+
 mod call;
 mod place;
 

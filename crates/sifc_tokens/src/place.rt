@@ -3,7 +3,7 @@ ghost use Rattle.std.specs.Prelude.{◌≡◌, ◌≤◌, ◌<◌, ◌^◌, leng
 ghost use Rattle.sifc_tokens.specs.Place.{place_of, walked_to, next_place};
 
 // A line, counted from 1, and a column, counted from 0 in bytes.
-#[derive(Drop)]
+#[derive(Clone, Copy)]
 pub struct Place {
     pub line: usize,
     pub pos: usize,

@@ -8,7 +8,7 @@ use sifc_err::ParseErrTy;
 
 // The error that ended a reading: line, column, the reason's number, the offset of the token that it
 // carries, and the first of its values. All are 0 where none ended it.
-#[derive(Drop)]
+#[derive(Clone, Copy)]
 pub struct Ending {
     pub line: usize,
     pub pos: usize,
@@ -18,7 +18,7 @@ pub struct Ending {
 }
 
 // All of an answer; what a refusal does not say is 0.
-#[derive(Drop)]
+#[derive(Clone, Copy)]
 pub struct Numbers {
     pub tokens: usize,
     pub nodes: usize,
@@ -134,7 +134,7 @@ pub fn told(said: Reading) -> Numbers
 }
 
 // All of a text call's answer; what it does not say is 0.
-#[derive(Drop)]
+#[derive(Clone, Copy)]
 pub struct TextNumbers {
     pub count: usize,
     pub number: u32,

@@ -7,7 +7,7 @@ ghost use Rattle.sifc_value.specs.Steps.{Stepped, Deeper};
 
 // A quotient by a power of five as far as it is worked out: whole * five + rest is the number times
 // 2 to the power of shift.
-#[derive(Drop)]
+#[derive(Clone, Copy)]
 struct Split {
     whole: u64,
     rest: u64,

@@ -1,4 +1,6 @@
 // Number values: a literal's bytes to the nearest f64, ties to even.
+#![tactic(auto)]
+
 mod decimal;
 
 ghost use Rattle.std.specs.Prelude.{◌≡◌, ◌-◌, ◌^◌, ◌<◌, ◌≤◌, length};
@@ -8,7 +10,7 @@ ghost use Rattle.sifc_value.specs.Scan.{Read, Capped};
 use decimal::decimal;
 
 // What a literal's bytes are: a number, or no literal.
-#[derive(Drop)]
+#[derive(Clone, Copy)]
 pub enum ValueAnswer {
     Number(f64),
     NoNumber,
@@ -16,7 +18,7 @@ pub enum ValueAnswer {
 
 // Digits that were read: the number that they make behind those before them, ten to the power of how
 // many they are, and the index behind them.
-#[derive(Drop)]
+#[derive(Clone, Copy)]
 struct Run {
     number: u64,
     scale: u64,

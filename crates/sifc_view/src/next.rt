@@ -6,7 +6,7 @@ use sifc_err::Token;
 use sifc_lex::{Step, end_kind, step_at};
 
 // A token, and the offset at which lexing goes on. The last token, of kind 47 or 48, is found again there.
-#[derive(Drop)]
+#[derive(Clone, Copy)]
 pub struct Lexed {
     pub token: Token,
     pub next: usize,

@@ -7,14 +7,14 @@ use crate::next::{Lexed, next_at};
 use sifc_err::Token;
 
 // Lexer of lex.rs: the script, and how far it is lexed.
-#[derive(Drop)]
+#[derive(Clone, Copy)]
 pub struct Lexer<'a> {
     pub script: &'a [u8],
     pub off: usize,
 }
 
 // A token, with the view moved on to where lexing goes on.
-#[derive(Drop)]
+#[derive(Clone, Copy)]
 pub struct Stepped<'a> {
     pub token: Token,
     pub view: Lexer<'a>,

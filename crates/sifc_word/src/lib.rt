@@ -1,4 +1,6 @@
 // Words: token.rs and reserved.rs, the fixed byte strings and a token's spelling.
+#![tactic(auto)]
+
 mod reserved;
 mod token;
 

@@ -1,5 +1,7 @@
 // Prints the tokens of the script on standard input, one a line: kind, line, column, spelling. A
 // script of more than 4,096 bytes is refused with 1.
+#![tactic(auto)]
+
 use libc::{STDIN_FILENO, STDOUT_FILENO};
 use sif_show::Layout;
 use sifc_err::Refusal;

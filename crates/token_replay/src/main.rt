@@ -1,6 +1,8 @@
 // Prints the tokens of every script of a list (sif_show's entries.rt), a line for each script. The
 // stored output is what the Rust answers (docs/COMPARISON.md), so the two are the same where our
 // tokens are the Rust's.
+#![tactic(auto)]
+
 use libc::{STDIN_FILENO, STDOUT_FILENO};
 use sif_show::{Layout, after_newline, entry_at};
 

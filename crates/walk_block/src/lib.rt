@@ -1,4 +1,6 @@
 // What a block binds and ends with, and the errors that are listed while a walk goes on, over lent state words.
+#![tactic(auto)]
+
 mod block;
 mod book;
 

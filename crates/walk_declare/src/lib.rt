@@ -1,5 +1,7 @@
 // The names that a declaration declares, over lent state words: of a variable, a table and an array, of a
 // function's parameters and of a loop. Nothing here reads an expression.
+#![tactic(auto)]
+
 mod declare;
 mod ident;
 

@@ -1,4 +1,6 @@
 // Expressions, over lent state words: assign_expr down to group_expr and back.
+#![tactic(auto)]
+
 mod parser;
 
 pub use parser::expr;

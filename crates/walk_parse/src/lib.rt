@@ -1,4 +1,6 @@
 // Declarations and statements that hold blocks, over lent state words.
+#![tactic(auto)]
+
 mod parser;
 
 pub use parser::decl;

@@ -1,4 +1,6 @@
 // The small steps of a reading whose state is lent in words: sifc_step's, without copies.
+#![tactic(auto)]
+
 pub mod kind;
 pub mod state;
 mod step;

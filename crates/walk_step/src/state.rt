@@ -34,7 +34,7 @@ pub const FAULT: usize = 11;
 
 // What a call comes to; the words say the rest. A failed walk has counted its error, unless that is a
 // TknMismatch of `expect`, which lists nothing.
-#[derive(Drop)]
+#[derive(Clone, Copy)]
 pub enum Parsed {
     Done,
     Failed,
