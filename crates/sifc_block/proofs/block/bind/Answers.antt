@@ -1,0 +1,24 @@
+use borrow.Author.Rules.{rules}
+use native.Mathlib.Omega.{arith}
+use mathlib.Core.Path.{◌≡◌, refl, sym, ap, ◌∙◌, subst}
+use Rattle.sifc_def.specs.Stmt.{bind as bind_all}
+use Rattle.sifc_step.specs.Steps.{begin, gives, fin, by}
+use Rattle.sifc_block.specs.declared.block.Names.{Names}
+use Rattle.sifc_block.specs.Bound.{names_of, NamesFit}
+use Rattle.sifc_block.proofs.Blocks.{names-fit, bind-none, bind-as}
+use Rattle.sifc_block.proofs.block.bind.Goals as goal
+
+pub bind_pair-requires : goal.bind_pair-requires
+bind_pair-requires c = (c.requires.0, (names-fit c.args.load.now c.in-Pair.is c.requires.1).0, (names-fit c.args.load.now c.in-Pair.is c.requires.1).1)
+
+pub bind_params-requires : goal.bind_params-requires
+bind_params-requires c = (c.requires.0, names-fit c.args.load.now c.in-Params.is c.requires.1)
+
+pub returns-in-Unnamed : goal.returns-in-Unnamed
+returns-in-Unnamed c = bind-none c.args.load.now c.requires.0 c.in-Unnamed.is
+
+pub returns-in-Pair : goal.returns-in-Pair
+returns-in-Pair c = bind-as c.args.load.now c.requires.0 c.in-Pair.is c.bind_pair.ensures
+
+pub returns-in-Params : goal.returns-in-Params
+returns-in-Params c = bind-as c.args.load.now c.requires.0 c.in-Params.is c.bind_params.ensures

@@ -1,0 +1,45 @@
+use borrow.Author.Rules.{rules}
+use native.Mathlib.Omega.{arith}
+use mathlib.Core.Path.{refl}
+use mathlib.Core.Bool.{false}
+use Rattle.sifc_def.specs.State.{push}
+use Rattle.sifc_step.specs.Steps.{kept-nodes, begin, blank, blanks, gives, go, stop, last, by}
+use Rattle.sifc_step.specs.SmallLaws.{pushed-as}
+use Rattle.sifc_declare.specs.Promise.{node_and_name, array_and_name}
+use Rattle.sifc_declare.proofs.Tags.{not_done}
+use Rattle.sifc_declare.proofs.Ends.{free, array-none, array-some}
+use Rattle.sifc_declare.proofs.declare.declare_array.Goals as goal
+
+pub returns-then-n-eq0 : goal.returns-then-n-eq0
+returns-then-n-eq0 c =
+    record {
+      does = λ l p. gives (λ E e. let p0 = begin 0 (λ x. array_and_name x c.args.i c.args.n) E e p in
+          last 0 (λ x. node_and_name x 16 c.args.i) (by p0 (array-none _ _ _ _ c.if-n-eq0.true)) refl (omega arith) (c.declare_other.ensures.does l p));
+    }
+
+pub returns-in_default : goal.returns-in_default
+returns-in_default c =
+    record {
+      does = λ l p. gives (λ E e. let p0 = begin 0 (λ x. array_and_name x c.args.i c.args.n) E e p in
+          let p1 = by p0 (array-some _ _ _ _ c.if-n-eq0.false) in
+          stop 0 (λ x. push x 17 false c.args.n 0) _ p1 refl (omega arith) (pushed-as p1.is c.head_word-word.ensures c.push_node-items.ensures) (not_done _ c.in_default.in_default-own.keys2));
+    }
+
+pub declare_other-requires-2 : goal.declare_other-requires-2
+declare_other-requires-2 c =
+    let p = c.requires.0 in
+    let E = blank c.args.w.errors in
+    let e = blanks c.args.w.errors in
+    let p0 = begin 0 (λ x. array_and_name x c.args.i c.args.n) E e p in
+    let p1 = by p0 (array-some _ _ _ _ c.if-n-eq0.false) in
+    let p2 = go 0 (λ x. push x 17 false c.args.n 0) _ p1 refl (pushed-as p1.is c.head_word-word.ensures c.push_node-items.ensures) (kept-nodes c.push_node-items.auto.0 c.push_node-items.auto.1.0) c.in-Done.is in
+    (free p2.is, c.requires.1)
+
+pub returns : goal.returns
+returns c =
+    record {
+      does = λ l p. gives (λ E e. let p0 = begin 0 (λ x. array_and_name x c.args.i c.args.n) E e p in
+          let p1 = by p0 (array-some _ _ _ _ c.if-n-eq0.false) in
+          let p2 = go 0 (λ x. push x 17 false c.args.n 0) _ p1 refl (pushed-as p1.is c.head_word-word.ensures c.push_node-items.ensures) (kept-nodes c.push_node-items.auto.0 c.push_node-items.auto.1.0) c.in-Done.is in
+          last 0 (λ x. node_and_name x 80 c.args.i) p2 refl (omega arith) (c.declare_other-2.ensures.does l p2.is));
+    }

@@ -1,0 +1,6 @@
+use borrow.Author.Rules.{rules}
+use Rattle.sifc_lent.proofs.Fronts.{front-none}
+use Rattle.sifc_lent.proofs.clear.clear.Goals as goal
+
+pub returns : goal.returns
+returns c = front-none _ _ c.clear_from.ensures

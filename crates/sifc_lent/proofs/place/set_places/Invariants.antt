@@ -1,0 +1,11 @@
+use borrow.Author.Rules.{rules}
+use native.Mathlib.Omega.{arith}
+use Prim.Native.Nat.{◌-◌}
+use Rattle.sifc_lent.proofs.Spots.{Placing, placing, placing-long, placing-more, placed, place-small}
+use Rattle.sifc_lent.proofs.place.set_places.Given as goal
+
+abbrev pub invariant-loop-i : goal.invariant-loop-i
+invariant-loop-i l = Placing l.script l.offs l.initial.places l.n l.places l.spot l.i
+
+abbrev pub decreases-loop-i : goal.decreases-loop-i
+decreases-loop-i l = l.n - l.i

@@ -1,0 +1,9 @@
+use borrow.Author.Rules.{rules}
+use mathlib.Core.Path.{sym, ◌∙◌, ap, refl}
+use Prim.Native.Nat.{ℕ}
+use Rattle.sifc_lex.specs.Lex.{doubles, double_kind}
+use Rattle.sifc_lex.proofs.Runs.{none-at}
+use Rattle.sifc_lex.proofs.lex.double_at.Goals as goal
+
+pub returns-then-s-at : goal.returns-then-s-at
+returns-then-s-at c = sym (none-at c.args.s.now c.args.at c.args.b c.if-s-at.true)

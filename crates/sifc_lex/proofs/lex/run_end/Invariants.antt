@@ -1,0 +1,17 @@
+use Prim.Native.Nat.{◌+◌, ◌-◌, ◌≤◌}
+use mathlib.Core.Path.{◌≡◌, sym, ◌∙◌, refl}
+use native.Mathlib.Omega.{arith}
+use borrow.Author.Rules.{rules}
+use borrow.Author.Tests.{not-true, not-false}
+use native.Mathlib.Numerals.{add-one}
+use lib.ListN.{length, drop}
+use Rattle.sifc_word.specs.Base.{span}
+use Rattle.sifc_word.specs.BaseLaws.{span-at-yes, span-at-no, span-at-end}
+use Rattle.sifc_lex.specs.Class.{test_of}
+use Rattle.sifc_lex.proofs.lex.run_end.Given as goal
+
+abbrev pub invariant-loop-i : goal.invariant-loop-i
+invariant-loop-i l = (l.from ≤ l.i) × (l.i ≤ length l.s) × (l.i + span (test_of l.class) (drop l.i l.s) ≡ l.from + span (test_of l.class) (drop l.from l.s))
+
+abbrev pub decreases-loop-i : goal.decreases-loop-i
+decreases-loop-i l = length l.s - l.i

@@ -1,0 +1,11 @@
+use native.Mathlib.Omega.{arith}
+use Prim.Native.Nat.{◌-◌, ◌≤◌}
+use lib.ListN.{length, length-set}
+use Rattle.sifc_name.proofs.Names.{Shifting, shifting, shifted-on, shifted}
+use Rattle.sifc_name.proofs.name.shift_down.Given as goal
+
+abbrev pub invariant-loop-i : goal.invariant-loop-i
+invariant-loop-i l = Shifting l.initial.a l.from l.to l.a l.i × (l.to ≤ length l.a)
+
+abbrev pub decreases-loop-i : goal.decreases-loop-i
+decreases-loop-i l = l.to - l.i

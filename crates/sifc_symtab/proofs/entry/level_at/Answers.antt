@@ -1,0 +1,13 @@
+use borrow.Author.Rules.{rules}
+use native.Mathlib.Omega.{arith}
+use mathlib.Core.Path.{refl}
+use Prim.Native.Nat.{◌*◌}
+use Rattle.sifc_symtab.specs.Table.{level_at}
+use Rattle.sifc_symtab.proofs.entry.level_at.Goals as goal
+
+pub overflow_cast-result : goal.overflow_cast-result
+overflow_cast-result c = omega (arith, c.shared_slice_known-1.given (4 * c.args.k))
+
+pub returns : goal.returns
+unfolding level_at
+returns c = refl

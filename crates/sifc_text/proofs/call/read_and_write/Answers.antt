@@ -1,0 +1,27 @@
+use borrow.Author.Rules.{rules}
+use mathlib.Core.Path.{◌∙◌}
+use Rattle.sifc_lent.specs.Parts.{arrays}
+use Rattle.sifc_lent.specs.EntryLaws.{entered-is}
+use Rattle.sifc_text.proofs.Calls.{left_is, texts-is, refused-is}
+use Rattle.sifc_text.proofs.call.read_and_write.Goals as goal
+
+pub after_entry-answer-requires : goal.after_entry-answer-requires
+after_entry-answer-requires c = entered-is c.args.script.now (arrays c.args.offs.now c.args.words.now c.args.heads.now c.args.loads.now c.args.symbols.now c.args.places.now c.args.reasons.now) c.requires
+
+pub write_found-requires : goal.write_found-requires
+write_found-requires c = left_is c.args.script.now (arrays c.args.offs.now c.args.words.now c.args.heads.now c.args.loads.now c.args.symbols.now c.args.places.now c.args.reasons.now) c.after_entry-answer.ensures c.requires (record { offs = c.after_entry-answer.auto.1.0; words = c.after_entry-answer.auto.1.1.0; heads = c.after_entry-answer.auto.1.1.1.0; loads = c.after_entry-answer.auto.1.1.1.1.0; symbols = c.after_entry-answer.auto.1.1.1.1.1.0; places = c.after_entry-answer.auto.1.1.1.1.1.1.0; reasons = c.after_entry-answer.auto.1.1.1.1.1.1.1.0 }) c.in-Read.is
+
+pub shape_of-offs-in-Read : goal.shape_of-offs-in-Read
+shape_of-offs-in-Read c = c.write_found.auto.1.0 ∙ c.after_entry-answer.auto.1.0
+
+pub shape_of-words-in-Read : goal.shape_of-words-in-Read
+shape_of-words-in-Read c = c.write_found.auto.1.1.0 ∙ c.after_entry-answer.auto.1.1.0
+
+pub shape_of-heads-in-Read : goal.shape_of-heads-in-Read
+shape_of-heads-in-Read c = c.write_found.auto.1.1.1.0 ∙ c.after_entry-answer.auto.1.1.1.0
+
+pub returns-in-Read : goal.returns-in-Read
+returns-in-Read c = texts-is c.args.script.now (arrays c.args.offs.now c.args.words.now c.args.heads.now c.args.loads.now c.args.symbols.now c.args.places.now c.args.reasons.now) c.after_entry-answer.ensures c.requires (record { offs = c.after_entry-answer.auto.1.0; words = c.after_entry-answer.auto.1.1.0; heads = c.after_entry-answer.auto.1.1.1.0; loads = c.after_entry-answer.auto.1.1.1.1.0; symbols = c.after_entry-answer.auto.1.1.1.1.1.0; places = c.after_entry-answer.auto.1.1.1.1.1.1.0; reasons = c.after_entry-answer.auto.1.1.1.1.1.1.1.0 }) c.in-Read.is c.write_found.ensures
+
+pub returns-in-Refused : goal.returns-in-Refused
+returns-in-Refused c = refused-is c.args.script.now (arrays c.args.offs.now c.args.words.now c.args.heads.now c.args.loads.now c.args.symbols.now c.args.places.now c.args.reasons.now) c.after_entry-answer.ensures c.args.text.now c.in-Refused.is c.clear_from.ensures

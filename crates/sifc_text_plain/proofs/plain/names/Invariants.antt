@@ -1,0 +1,16 @@
+use borrow.Author.Rules.{rules}
+use Prim.Native.Nat.{◌-◌}
+use native.Mathlib.Omega.{arith}
+use mathlib.Core.Path.{◌≡◌, ◌∙◌}
+use Rattle.sifc_put.specs.Post.{fixed, leaf_l, seq, list_l, comma}
+use Rattle.sifc_put.specs.Frame.{Part, opening, spot, stop, put, here, empty, cut-seq, fixed-low, leaf-low}
+use Rattle.sifc_put.specs.Rows.{cut_list, no-list}
+use Rattle.sifc_text_plain.specs.Kinds.{names_l}
+use Rattle.sifc_text_plain.proofs.Forms.{some_left}
+use Rattle.sifc_text_plain.proofs.plain.names.Given as goal
+
+abbrev pub invariant-loop-left : goal.invariant-loop-left
+invariant-loop-left l = Part (names_l l.script l.offs l.words l.loads l.initial.left) (names_l l.script l.offs l.words l.loads l.left) l.initial.text l.initial.h l.initial.a l.text l.h l.a
+
+abbrev pub decreases-loop-left : goal.decreases-loop-left
+decreases-loop-left l = l.left

@@ -1,0 +1,6 @@
+use borrow.Author.Rules.{rules}
+use Rattle.walk_step.specs.SmallLaws.{refuse-says}
+use Rattle.walk_step.proofs.state.refuse.Goals as goal
+
+pub returns : goal.returns
+returns c = refuse-says _ _ _ c.requires

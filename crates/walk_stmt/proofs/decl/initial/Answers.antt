@@ -1,0 +1,67 @@
+use borrow.Author.Rules.{rules}
+use native.Mathlib.Omega.{arith}
+use lib.ListN.{get_or}
+use Rattle.sifc_def.specs.Walk.{walkers}
+use Rattle.walk_step.proofs.Tags.{not_done}
+use mathlib.Core.Path.{refl, sym, ◌∙◌}
+use lib.Dec.{eqb}
+use borrow.Author.Tests.{eq-eqb, ne_eqb}
+use Rattle.sifc_def.specs.State.{expect}
+use Rattle.sifc_def.specs.Stmt.{array_decl, table_decl, initial as initial_of}
+use Rattle.sifc_step.specs.Steps.{kept, blank, blanks}
+use Rattle.walk_stmt.proofs.Ends.{in-front}
+use Rattle.walk_step.specs.Moves.{begin, gives, go, stop, last, read, yes, no, test, starts, standing-at, expected}
+use Rattle.walk_stmt.proofs.decl.initial.Goals as goal
+
+pub kind_at-k-requires : goal.kind_at-k-requires
+kind_at-k-requires c = in-front c.requires.0
+
+pub array_decl-requires : goal.array_decl-requires
+array_decl-requires c = c.requires
+
+pub returns-then-k-eq-LEFT_BRACKET : goal.returns-then-k-eq-LEFT_BRACKET
+unfolding initial_of
+returns-then-k-eq-LEFT_BRACKET c =
+    gives (λ E e. let p1 = read _ (begin 0 (λ x. initial_of x (walkers x c.args.depth) c.args.i) E e c.requires.0) in
+    last 0 (λ x. array_decl x (walkers x c.args.depth) c.args.i) (yes _ _ p1 (test (λ k. eqb k 5) p1 (eq-eqb _ _ (sym c.kind_at-k.ensures ∙ c.if-k-eq-LEFT_BRACKET.true)))) refl (omega arith) c.array_decl.ensures)
+
+pub table_decl-requires : goal.table_decl-requires
+table_decl-requires c = c.requires
+
+pub returns-then-k-eq-DOUBLE_LEFT_BRACKET : goal.returns-then-k-eq-DOUBLE_LEFT_BRACKET
+unfolding initial_of
+returns-then-k-eq-DOUBLE_LEFT_BRACKET c =
+    gives (λ E e. let p1 = read _ (begin 0 (λ x. initial_of x (walkers x c.args.depth) c.args.i) E e c.requires.0) in
+    let p2 = no _ _ p1 (test (λ k. eqb k 5) p1 (ne_eqb _ _ (λ z. c.if-k-eq-LEFT_BRACKET.false (c.kind_at-k.ensures ∙ z)))) in
+    last 0 (λ x. table_decl x (walkers x c.args.depth) c.args.i) (yes _ _ p2 (test (λ k. eqb k 29) p2 (eq-eqb _ _ (sym c.kind_at-k.ensures ∙ c.if-k-eq-DOUBLE_LEFT_BRACKET.true)))) refl (omega arith) c.table_decl.ensures)
+
+pub expr-value-requires : goal.expr-value-requires
+expr-value-requires c = c.requires.0
+
+pub returns-in_default : goal.returns-in_default
+unfolding initial_of
+returns-in_default c =
+    gives (λ E e. let p1 = read _ (begin 0 (λ x. initial_of x (walkers x c.args.depth) c.args.i) E e c.requires.0) in
+    let p2 = no _ _ p1 (test (λ k. eqb k 5) p1 (ne_eqb _ _ (λ z. c.if-k-eq-LEFT_BRACKET.false (c.kind_at-k.ensures ∙ z)))) in
+    let p3 = no _ _ p2 (test (λ k. eqb k 29) p2 (ne_eqb _ _ (λ z. c.if-k-eq-DOUBLE_LEFT_BRACKET.false (c.kind_at-k.ensures ∙ z)))) in
+    stop 1 (λ x. (walkers x c.args.depth).assign) _ p3 refl (omega arith) c.expr-value.ensures (not_done _ c.in_default.in_default-own.keys2))
+
+pub expect-requires : goal.expect-requires
+unfolding initial_of
+expect-requires c =
+    let E = blank (get_or c.args.st.now 4 0) in
+    let e = blanks (get_or c.args.st.now 4 0) in
+    let p1 = read _ (begin 0 (λ x. initial_of x (walkers x c.args.depth) c.args.i) E e c.requires.0) in
+    let p2 = no _ _ p1 (test (λ k. eqb k 5) p1 (ne_eqb _ _ (λ z. c.if-k-eq-LEFT_BRACKET.false (c.kind_at-k.ensures ∙ z)))) in
+    let p3 = no _ _ p2 (test (λ k. eqb k 29) p2 (ne_eqb _ _ (λ z. c.if-k-eq-DOUBLE_LEFT_BRACKET.false (c.kind_at-k.ensures ∙ z)))) in
+    let p4 = go 1 (λ x. (walkers x c.args.depth).assign) _ p3 refl c.expr-value.ensures (kept c.expr-value.auto) c.in-Done.is in
+    standing-at (starts p4)
+
+pub returns : goal.returns
+unfolding initial_of
+returns c =
+    gives (λ E e. let p1 = read _ (begin 0 (λ x. initial_of x (walkers x c.args.depth) c.args.i) E e c.requires.0) in
+    let p2 = no _ _ p1 (test (λ k. eqb k 5) p1 (ne_eqb _ _ (λ z. c.if-k-eq-LEFT_BRACKET.false (c.kind_at-k.ensures ∙ z)))) in
+    let p3 = no _ _ p2 (test (λ k. eqb k 29) p2 (ne_eqb _ _ (λ z. c.if-k-eq-DOUBLE_LEFT_BRACKET.false (c.kind_at-k.ensures ∙ z)))) in
+    let p4 = go 1 (λ x. (walkers x c.args.depth).assign) _ p3 refl c.expr-value.ensures (kept c.expr-value.auto) c.in-Done.is in
+    last 0 (λ x. expect x 7) p4 refl (omega arith) (expected p4 c.expect.ensures))

@@ -1,0 +1,39 @@
+use borrow.Author.Rules.{rules}
+use native.Mathlib.Omega.{arith}
+use lib.ListN.{get_or}
+use Rattle.sifc_def.specs.Walk.{walkers}
+use Rattle.walk_step.proofs.Tags.{not_done}
+use mathlib.Core.Path.{refl}
+use mathlib.Core.Bool.{false}
+use Rattle.sifc_def.specs.State.{push}
+use Rattle.sifc_def.specs.Expr.{fuel}
+use Rattle.sifc_def.specs.Stmt.{comma_list, table_item, item_list}
+use Rattle.sifc_step.specs.Steps.{kept, blank, blanks}
+use Rattle.walk_stmt.proofs.Ends.{count-few}
+use Rattle.walk_step.specs.Moves.{begin, gives, go, stop, last, starts, pushable-at, pushed-as}
+use Rattle.walk_stmt.proofs.decl.item_list.Goals as goal
+
+pub returns-in_default : goal.returns-in_default
+unfolding item_list
+returns-in_default c =
+    gives (λ E e. let p0 = begin 0 (λ x. item_list x (walkers x c.args.depth)) E e c.requires in
+    stop 0 (λ x. comma_list x 30 (table_item x (walkers x c.args.depth)) (fuel x) 0) _ p0 refl (omega arith) c.table_items-items.ensures.does (not_done _ c.in_default.in_default-own.keys2))
+
+pub head_word-word-requires : goal.head_word-word-requires
+head_word-word-requires c = (omega arith, count-few c.table_items-items.ensures c.in-Done.is)
+
+pub push_node-requires : goal.push_node-requires
+unfolding item_list
+push_node-requires c =
+    let E = blank (get_or c.args.st.now 4 0) in
+    let e = blanks (get_or c.args.st.now 4 0) in
+    let p0 = begin 0 (λ x. item_list x (walkers x c.args.depth)) E e c.requires in
+    let p1 = go 0 (λ x. comma_list x 30 (table_item x (walkers x c.args.depth)) (fuel x) 0) _ p0 refl c.table_items-items.ensures.does (kept c.table_items-items.auto) c.in-Done.is in
+    pushable-at (starts p1)
+
+pub returns : goal.returns
+unfolding item_list
+returns c =
+    gives (λ E e. let p0 = begin 0 (λ x. item_list x (walkers x c.args.depth)) E e c.requires in
+    let p1 = go 0 (λ x. comma_list x 30 (table_item x (walkers x c.args.depth)) (fuel x) 0) _ p0 refl c.table_items-items.ensures.does (kept c.table_items-items.auto) c.in-Done.is in
+    last 0 (λ x. push x 12 false _ 0) p1 refl (omega arith) (pushed-as p1 c.head_word-word.ensures c.push_node.ensures))

@@ -1,0 +1,119 @@
+use borrow.Author.Rules.{rules}
+use native.Mathlib.Omega.{arith}
+use lib.ListN.{get_or}
+use Rattle.sifc_def.specs.Walk.{walkers}
+use Rattle.walk_step.proofs.Tags.{not_done}
+use mathlib.Core.Path.{refl, ◌∙◌}
+use Rattle.sifc_def.specs.State.{expect}
+use Rattle.sifc_def.specs.Stmt.{item_list, table_decl}
+use Rattle.sifc_step.specs.Steps.{kept, same, blank, blanks}
+use Rattle.sifc_declare.specs.Promise.{node_and_name}
+use Rattle.sifc_declare.proofs.Ends.{table_step}
+use Rattle.walk_step.specs.Moves.{begin, gives, go, stop, last, by, starts, begins, called, standing-at, expected}
+use Rattle.walk_stmt.proofs.decl.table_decl.Goals as goal
+
+pub expect-opened-requires : goal.expect-opened-requires
+expect-opened-requires c = standing-at c.requires.0
+
+pub returns-in_default : goal.returns-in_default
+unfolding table_decl
+returns-in_default c =
+    gives (λ E e. let p0 = begin 0 (λ x. table_decl x (walkers x c.args.depth) c.args.i) E e c.requires.0 in
+    stop 0 (λ x. expect x 29) _ p0 refl (omega arith) (expected p0 c.expect-opened.ensures) (not_done _ c.in_default.in_default-own.keys2))
+
+pub item_list-items-requires : goal.item_list-items-requires
+unfolding table_decl
+item_list-items-requires c =
+    let E = blank (get_or c.args.st.now 4 0) in
+    let e = blanks (get_or c.args.st.now 4 0) in
+    let p0 = begin 0 (λ x. table_decl x (walkers x c.args.depth) c.args.i) E e c.requires.0 in
+    let p1 = go 0 (λ x. expect x 29) _ p0 refl (expected p0 c.expect-opened.ensures) same c.in-Done.is in
+    begins p1
+
+pub returns-in_default-items : goal.returns-in_default-items
+unfolding table_decl
+returns-in_default-items c =
+    gives (λ E e. let p0 = begin 0 (λ x. table_decl x (walkers x c.args.depth) c.args.i) E e c.requires.0 in
+    let p1 = go 0 (λ x. expect x 29) _ p0 refl (expected p0 c.expect-opened.ensures) same c.in-Done.is in
+    stop 0 (λ x. item_list x (walkers x c.args.depth)) _ p1 refl (omega arith) (called p1 c.item_list-items.ensures) (not_done _ c.in_default-items.in_default-items-own.keys2))
+
+pub expect-closed-requires : goal.expect-closed-requires
+unfolding table_decl
+expect-closed-requires c =
+    let E = blank (get_or c.args.st.now 4 0) in
+    let e = blanks (get_or c.args.st.now 4 0) in
+    let p0 = begin 0 (λ x. table_decl x (walkers x c.args.depth) c.args.i) E e c.requires.0 in
+    let p1 = go 0 (λ x. expect x 29) _ p0 refl (expected p0 c.expect-opened.ensures) same c.in-Done.is in
+    let p2 = go 0 (λ x. item_list x (walkers x c.args.depth)) _ p1 refl (called p1 c.item_list-items.ensures) (kept c.item_list-items.auto) c.in-Done-items.is in
+    standing-at (starts p2)
+
+pub returns-in_default-closed : goal.returns-in_default-closed
+unfolding table_decl
+returns-in_default-closed c =
+    gives (λ E e. let p0 = begin 0 (λ x. table_decl x (walkers x c.args.depth) c.args.i) E e c.requires.0 in
+    let p1 = go 0 (λ x. expect x 29) _ p0 refl (expected p0 c.expect-opened.ensures) same c.in-Done.is in
+    let p2 = go 0 (λ x. item_list x (walkers x c.args.depth)) _ p1 refl (called p1 c.item_list-items.ensures) (kept c.item_list-items.auto) c.in-Done-items.is in
+    stop 0 (λ x. expect x 30) _ p2 refl (omega arith) (expected p2 c.expect-closed.ensures) (not_done _ c.in_default-closed.in_default-closed-own.keys2))
+
+pub declare_other-declared-requires : goal.declare_other-declared-requires
+unfolding table_decl
+declare_other-declared-requires c =
+    let E = blank (get_or c.args.st.now 4 0) in
+    let e = blanks (get_or c.args.st.now 4 0) in
+    let p0 = begin 0 (λ x. table_decl x (walkers x c.args.depth) c.args.i) E e c.requires.0 in
+    let p1 = go 0 (λ x. expect x 29) _ p0 refl (expected p0 c.expect-opened.ensures) same c.in-Done.is in
+    let p2 = go 0 (λ x. item_list x (walkers x c.args.depth)) _ p1 refl (called p1 c.item_list-items.ensures) (kept c.item_list-items.auto) c.in-Done-items.is in
+    let p3 = go 0 (λ x. expect x 30) _ p2 refl (expected p2 c.expect-closed.ensures) same c.in-Done-closed.is in
+    (begins p3, c.requires.1)
+
+pub shape_of-symbols-in_default-declared : goal.shape_of-symbols-in_default-declared
+shape_of-symbols-in_default-declared c = c.declare_other-declared.auto.1.1.1.0 ∙ c.item_list-items.auto.1.1.1.0
+
+pub shape_of-head-in_default-declared : goal.shape_of-head-in_default-declared
+shape_of-head-in_default-declared c = c.declare_other-declared.auto.1.1.1.1.0 ∙ c.item_list-items.auto.1.1.1.1.0
+
+pub shape_of-load-in_default-declared : goal.shape_of-load-in_default-declared
+shape_of-load-in_default-declared c = c.declare_other-declared.auto.1.1.1.1.1.0 ∙ c.item_list-items.auto.1.1.1.1.1.0
+
+pub returns-in_default-declared : goal.returns-in_default-declared
+unfolding table_decl
+returns-in_default-declared c =
+    gives (λ E e. let p0 = begin 0 (λ x. table_decl x (walkers x c.args.depth) c.args.i) E e c.requires.0 in
+    let p1 = go 0 (λ x. expect x 29) _ p0 refl (expected p0 c.expect-opened.ensures) same c.in-Done.is in
+    let p2 = go 0 (λ x. item_list x (walkers x c.args.depth)) _ p1 refl (called p1 c.item_list-items.ensures) (kept c.item_list-items.auto) c.in-Done-items.is in
+    let p3 = go 0 (λ x. expect x 30) _ p2 refl (expected p2 c.expect-closed.ensures) same c.in-Done-closed.is in
+    let p4 = by p3 (table_step _ _ _ _) in
+    stop 0 (λ x. node_and_name x 78 c.args.i) _ p4 refl (omega arith) (called p3 c.declare_other-declared.ensures) (not_done _ c.in_default-declared.in_default-declared-own.keys2))
+
+pub expect-requires : goal.expect-requires
+unfolding table_decl
+expect-requires c =
+    let E = blank (get_or c.args.st.now 4 0) in
+    let e = blanks (get_or c.args.st.now 4 0) in
+    let p0 = begin 0 (λ x. table_decl x (walkers x c.args.depth) c.args.i) E e c.requires.0 in
+    let p1 = go 0 (λ x. expect x 29) _ p0 refl (expected p0 c.expect-opened.ensures) same c.in-Done.is in
+    let p2 = go 0 (λ x. item_list x (walkers x c.args.depth)) _ p1 refl (called p1 c.item_list-items.ensures) (kept c.item_list-items.auto) c.in-Done-items.is in
+    let p3 = go 0 (λ x. expect x 30) _ p2 refl (expected p2 c.expect-closed.ensures) same c.in-Done-closed.is in
+    let p4 = by p3 (table_step _ _ _ _) in
+    let p5 = go 0 (λ x. node_and_name x 78 c.args.i) _ p4 refl (called p3 c.declare_other-declared.ensures) (kept c.declare_other-declared.auto) c.in-Done-declared.is in
+    standing-at (starts p5)
+
+pub shape_of-symbols : goal.shape_of-symbols
+shape_of-symbols c = c.declare_other-declared.auto.1.1.1.0 ∙ c.item_list-items.auto.1.1.1.0
+
+pub shape_of-head : goal.shape_of-head
+shape_of-head c = c.declare_other-declared.auto.1.1.1.1.0 ∙ c.item_list-items.auto.1.1.1.1.0
+
+pub shape_of-load : goal.shape_of-load
+shape_of-load c = c.declare_other-declared.auto.1.1.1.1.1.0 ∙ c.item_list-items.auto.1.1.1.1.1.0
+
+pub returns : goal.returns
+unfolding table_decl
+returns c =
+    gives (λ E e. let p0 = begin 0 (λ x. table_decl x (walkers x c.args.depth) c.args.i) E e c.requires.0 in
+    let p1 = go 0 (λ x. expect x 29) _ p0 refl (expected p0 c.expect-opened.ensures) same c.in-Done.is in
+    let p2 = go 0 (λ x. item_list x (walkers x c.args.depth)) _ p1 refl (called p1 c.item_list-items.ensures) (kept c.item_list-items.auto) c.in-Done-items.is in
+    let p3 = go 0 (λ x. expect x 30) _ p2 refl (expected p2 c.expect-closed.ensures) same c.in-Done-closed.is in
+    let p4 = by p3 (table_step _ _ _ _) in
+    let p5 = go 0 (λ x. node_and_name x 78 c.args.i) _ p4 refl (called p3 c.declare_other-declared.ensures) (kept c.declare_other-declared.auto) c.in-Done-declared.is in
+    last 0 (λ x. expect x 7) p5 refl (omega arith) (expected p5 c.expect.ensures))
