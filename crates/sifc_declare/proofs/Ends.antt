@@ -18,8 +18,8 @@ use Rattle.sifc_def.specs.State.{Ctx, St, Out, done, fail, refuse, M, Void, go_o
 use Rattle.sifc_def.specs.Symbols.{store}
 use Rattle.sifc_def.specs.Expr.{separator}
 use Rattle.sifc_def.specs.Stmt.{ident_node, param, array_nodes, comma_list}
-use Rattle.sifc_def.specs.OutcomeLaws.{Holds, by-test, branch, is-done, is-fail, is-refused, call}
-use Rattle.sifc_def.specs.StepLaws.{clash, other}
+use Rattle.sifc_def.proofs.OutcomeLaws.{Holds, by-test, branch, is-done, is-fail, is-refused, call}
+use Rattle.sifc_def.proofs.StepLaws.{clash, other}
 use Rattle.sifc_symtab.specs.Table.{value_of, Fits}
 use Rattle.sifc_step.specs.declared.walk.Walk.{Walk}
 use Rattle.sifc_step.specs.declared.walk.Parsed.{Parsed}

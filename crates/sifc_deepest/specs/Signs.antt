@@ -13,11 +13,11 @@ use Rattle.sifc_word.specs.Kind.{LeftParen, LeftBrace, LeftBracket, Eq, Period, 
 use Rattle.sifc_word.specs.Reserved.{reserved_words, kind_among, name_kind}
 use Rattle.sifc_word.specs.Reserved as Reserved
 use Rattle.sifc_lex.specs.Lex.{white, digit, letter, alnum, in_line, in_str, Sign, doubles, singles, single_kind, double_kind, one_sign, lex_sign, hash_comment, line_end, slash_comment, next_is, lex_slash, closed, lex_str, pointed, fraction, lex_num, lex_ident, step, end_kind, Lexed, ended, on_step, lex_from, lexed, lex}
-use Rattle.sifc_lex.specs.LexLaws.{Fair, fair-step}
+use Rattle.sifc_lex.proofs.LexLaws.{Fair, fair-step}
 use Rattle.sifc_def.specs.Expr.{is_unary}
 use Rattle.sifc_def.specs.Read.{bit}
 use Rattle.sifc_def.specs.State.{token_at}
-use Rattle.sifc_def.specs.OutcomeLaws.{by-test}
+use Rattle.sifc_def.proofs.OutcomeLaws.{by-test}
 
 -- the kinds after which a counted call is made
 unfoldable pub nests : ℕ → Bool

@@ -18,7 +18,7 @@ use Rattle.sifc_def.specs.State.{token_at}
 use Rattle.sifc_def.specs.Read.{Arrays, cleared_arrays, even, entry}
 use Rattle.sifc_symtab.specs.Toks.{toks_of, toks-at}
 use Rattle.sifc_lent.specs.Parts.{arrays}
-use Rattle.sifc_lent.specs.PartLaws.{same-arrays}
+use Rattle.sifc_lent.proofs.PartLaws.{same-arrays}
 
 pub front_kept : (a a' : List ℕ) (n : ℕ) → n ≤ length a → a' ≡ take n a ++ replicate (length a - n) 0 → a' ≡ padded (take n a) (length a)
 unfolding padded

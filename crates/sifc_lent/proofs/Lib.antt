@@ -1,2 +1,5 @@
 pub mod Fronts
 pub mod Spots
+pub mod EntryLaws
+pub mod LexedLaws
+pub mod PartLaws

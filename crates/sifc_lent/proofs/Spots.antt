@@ -8,8 +8,8 @@ use lib.ListN.{length, take, drop, get_or, set, length-append, length-drop, leng
 use lib.Seq.{take-suc, drop-cons, length-take-le, set_at, get_or_at}
 use Rattle.sifc_tokens.specs.declared.place.Place.{Place}
 use Rattle.sifc_tokens.specs.Place.{place_of, place, walked_to}
-use Rattle.sifc_tokens.specs.PlaceLaws.{walked_none, walked_line, place_inside, place-even, place-ragged}
-use Rattle.sifc_def.specs.ReadLaws.{PlaceFits, place-fits}
+use Rattle.sifc_tokens.proofs.PlaceLaws.{walked_none, walked_line, place_inside, place-even, place-ragged}
+use Rattle.sifc_def.proofs.ReadLaws.{PlaceFits, place-fits}
 use Rattle.sifc_lent.specs.declared.place.Spot.{Spot}
 use Rattle.sifc_lent.specs.Parts.{Reached, SpotOf, place_word, place_word_at}
 

@@ -13,7 +13,7 @@ use Rattle.sifc_def.specs.declared.Err.{Err}
 use Rattle.sifc_def.specs.State.{Node, node, Ctx, St, Out, done, go_on, tok_at, arrive, consume, raise, expect, push}
 use Rattle.sifc_def.specs.declared.What.TheVariants.{Placeholder, Function}
 use Rattle.sifc_symtab.specs.Table.{value_of, Fits}
-use Rattle.sifc_def.specs.OutcomeLaws.{Holds, by-test, is-done, is-fail, is-refused}
+use Rattle.sifc_def.proofs.OutcomeLaws.{Holds, by-test, is-done, is-fail, is-refused}
 use Rattle.sifc_step.specs.declared.walk.Walk.{Walk}
 use Rattle.sifc_step.specs.declared.walk.Parsed.{Parsed}
 use Rattle.sifc_step.specs.declared.walk.Parsed.TheVariants.{Done, Failed, Refused}

@@ -24,12 +24,12 @@ use Rattle.sifc_def.specs.Expr.{fuel}
 use Rattle.sifc_def.specs.Stmt.{decl}
 use Rattle.sifc_def.specs.Walk.{End, end, start, walkers, give_up, settled, top_decl, end_read, program, walk}
 use Rattle.sifc_def.specs.Read.{depth_limit}
-use Rattle.sifc_def.specs.OutcomeLaws.{Holds, by-test}
-use Rattle.sifc_def.specs.GroveLaws.{Kept as Under, grows_none}
-use Rattle.sifc_def.specs.StepLaws.{Toks, Well, Each, FairErr, clash}
-use Rattle.sifc_def.specs.StmtLaws.{Broke as Failing, Decl, decl-does}
-use Rattle.sifc_def.specs.TokLaws.{worth, lexed-toks}
-use Rattle.sifc_def.specs.WalkLaws.{good-walkers, Far, FarOf, After, top-far}
+use Rattle.sifc_def.proofs.OutcomeLaws.{Holds, by-test}
+use Rattle.sifc_def.proofs.GroveLaws.{Kept as Under, grows_none}
+use Rattle.sifc_def.proofs.StepLaws.{Toks, Well, Each, FairErr, clash}
+use Rattle.sifc_def.proofs.StmtLaws.{Broke as Failing, Decl, decl-does}
+use Rattle.sifc_def.proofs.TokLaws.{worth, lexed-toks}
+use Rattle.sifc_def.proofs.WalkLaws.{good-walkers, Far, FarOf, After, top-far}
 use Rattle.sifc_symtab.specs.Table.{listed, syms_of, Holds as Held}
 use Rattle.sifc_symtab.specs.Toks.{toks_of, length-toks}
 use Rattle.sifc_step.specs.declared.walk.Limits.{Limits}

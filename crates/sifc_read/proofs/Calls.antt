@@ -19,7 +19,7 @@ use Rattle.sifc_word.specs.Base.{if◌then◌else◌}
 use Rattle.sifc_lex.specs.Lex.{lex, ending, end_at}
 use Rattle.sifc_tokens.specs.Tokens.{offs_of, words_of, padded, zeroed, LexCall, lex_called, lex_call}
 use Rattle.sifc_tokens.specs.Loaded.{Used}
-use Rattle.sifc_tokens.specs.TokensLaws.{zeroed-used}
+use Rattle.sifc_tokens.proofs.TokensLaws.{zeroed-used}
 use Rattle.sifc_def.specs.declared.Reading.{Reading}
 use Rattle.sifc_def.specs.declared.Reading.TheVariants as reading
 use Rattle.sifc_def.specs.Read.{Arrays, rooms_of, cleared_arrays, even, entry, refused, fault_of, read, Called, called, answered, reading as reading_of}
@@ -28,9 +28,9 @@ use Rattle.sifc_step.specs.Abs.{Tokens, inp, mem}
 use Rattle.sifc_step.specs.Book.{Walks}
 use Rattle.sifc_lent.specs.Parts.{arrays, Entered, Fits, finish_of}
 use Rattle.sifc_program.specs.Program.{Starts}
-use Rattle.sifc_lent.specs.EntryLaws.{entry-same}
-use Rattle.sifc_lent.specs.LexedLaws.{lexed-tokens}
-use Rattle.sifc_lent.specs.PartLaws.{Held, used-offs, used-words, used-toks, same-arrays, fits-is, finish-is}
+use Rattle.sifc_lent.proofs.EntryLaws.{entry-same}
+use Rattle.sifc_lent.proofs.LexedLaws.{lexed-tokens}
+use Rattle.sifc_lent.proofs.PartLaws.{Held, used-offs, used-words, used-toks, same-arrays, fits-is, finish-is}
 
 -- ── lexing ──
 

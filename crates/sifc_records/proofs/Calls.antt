@@ -15,10 +15,10 @@ use Rattle.sifc_def.specs.declared.Reading.{Reading}
 use Rattle.sifc_def.specs.declared.Reading.TheVariants.{Refused}
 use Rattle.sifc_def.specs.Read.{Arrays, called, rooms_of, entry, even, read, answered}
 use Rattle.sifc_lent.specs.Parts.{arrays, Entered}
-use Rattle.sifc_lent.specs.EntryLaws as words
+use Rattle.sifc_lent.proofs.EntryLaws as words
 use Rattle.sifc_records.specs.declared.call.Told.{Told}
 use Rattle.sifc_records.specs.Records.{entry_records}
-use Rattle.sifc_records.specs.RecordLaws.{entry_by, entry-by, entry_of}
+use Rattle.sifc_records.proofs.RecordLaws.{entry_by, entry-by, entry_of}
 use Rattle.sifc_records.specs.Words.{told, told_of, Kept, kept, kept_of, read_words}
 
 -- ── the tests of entry ──

@@ -17,12 +17,12 @@ use Rattle.sifc_def.specs.State.{Ctx}
 use Rattle.sifc_def.specs.Error.{parse_err, err_place, err_reason}
 use Rattle.sifc_def.specs.Read.{Arrays, rooms_of, Found, Outcome, found, refused, ctx_of, filled, read, answered}
 use Rattle.sifc_lent.specs.Parts.{arrays}
-use Rattle.sifc_lent.specs.LexedLaws.{lexed-back, length-offs, length-words, used-part}
+use Rattle.sifc_lent.proofs.LexedLaws.{lexed-back, length-offs, length-words, used-part}
 use Rattle.sifc_symtab.specs.Toks.{toks_of}
 use Rattle.sifc_records.specs.declared.call.Told.{Told}
 use Rattle.sifc_record.specs.Record.{blank_err, records_in, blank_from, filled_of, Fillable}
 use Rattle.sifc_records.specs.Records.{padded_errs, entry_records, Recorded, recorded, records_of, reading_records}
-use Rattle.sifc_records.specs.RecordLaws.{entry_of, records-back, Sounds, SoundsOf, read-sound, records_by, records-by}
+use Rattle.sifc_records.proofs.RecordLaws.{entry_of, records-back, Sounds, SoundsOf, read-sound, records_by, records-by}
 use Rattle.sifc_records.specs.Words.{Kept, kept, kept_of, read_words}
 use Rattle.sifc_records.proofs.Calls.{entry-same, read_by, read-by, entered}
 

@@ -1,4 +1,2 @@
 pub mod Records
 pub mod Words
-pub mod Listed
-pub mod RecordLaws

@@ -16,7 +16,7 @@ use Rattle.sifc_word.specs.Base.{if◌then◌else◌}
 use Rattle.sifc_lex.specs.Lex.{lex}
 use Rattle.sifc_tokens.specs.Tokens.{offs_of, words_of, padded, zeroed}
 use Rattle.sifc_tokens.specs.Loaded.{Used}
-use Rattle.sifc_tokens.specs.TokensLaws.{padded-used}
+use Rattle.sifc_tokens.proofs.TokensLaws.{padded-used}
 use Rattle.sifc_def.specs.declared.Reading.{Reading}
 use Rattle.sifc_def.specs.declared.Reading.TheVariants as reading
 use Rattle.sifc_def.specs.declared.Summary.{Summary}
@@ -25,17 +25,17 @@ use Rattle.sifc_def.specs.declared.Texting.TheVariants.{Wrote, Refused}
 use Rattle.sifc_def.specs.State.{Node}
 use Rattle.sifc_def.specs.Error.{err_place, err_reason}
 use Rattle.sifc_def.specs.Read.{Arrays, rooms_of, cleared_arrays, entry, Found, Outcome, found, refused, ctx_of, read, head_word, Called, called, summary, filled, answered, Written, written, text_found, texted, text_call}
-use Rattle.sifc_def.specs.Typed.{Stmts, OkProgram, SaidSs}
-use Rattle.sifc_def.specs.Canon.Bytes as canon
-use Rattle.sifc_def.specs.Canon.Calls.{Reads}
-use Rattle.sifc_def.specs.Canon.Demand3.{Shows, shows-text, found-same, Typed, typed}
+use Rattle.sifc_def.proofs.Typed.{Stmts, OkProgram, SaidSs}
+use Rattle.sifc_def.proofs.Canon.Bytes as canon
+use Rattle.sifc_def.proofs.Canon.Calls.{Reads}
+use Rattle.sifc_def.proofs.Canon.Demand3.{Shows, shows-text, found-same, Typed, typed}
 use Rattle.sifc_put.specs.Place.{Inp, inp}
 use Rattle.sifc_put.specs.Post.{SpotOf}
 use Rattle.sifc_put.specs.Spans.{SpansProgram}
 use Rattle.sifc_lent.specs.Parts.{arrays, UsedBy}
-use Rattle.sifc_lent.specs.EntryLaws.{entry-same}
-use Rattle.sifc_lent.specs.LexedLaws.{length-offs, length-words, used-part}
-use Rattle.sifc_lent.specs.PartLaws.{zeroed-long, same-arrays}
+use Rattle.sifc_lent.proofs.EntryLaws.{entry-same}
+use Rattle.sifc_lent.proofs.LexedLaws.{length-offs, length-words, used-part}
+use Rattle.sifc_lent.proofs.PartLaws.{zeroed-long, same-arrays}
 use Rattle.sifc_text.specs.Stands.{left}
 use Rattle.sifc_text.specs.Bridge.{bridge}
 use Rattle.sifc_text_stmt.specs.Kinds.{program_l}

@@ -9,7 +9,7 @@ use Rattle.sifc_def.specs.declared.Texting.{Texting}
 use Rattle.sifc_def.specs.Read.{Arrays, Called, called, reading, Written, written, text_call}
 use Rattle.sifc_def.specs.Canon.Demand as definition
 use Rattle.sifc_def.specs.Canon.Demand.{Fits, FitsText, FlagDown, SameTree, Writes, bytes_of, Lent, its_reading, its_text, canonical, next_reading, next_text}
-use Rattle.sifc_def.specs.Canon.Demand3.{demand3-definition}
+use Rattle.sifc_def.proofs.Canon.Demand3.{demand3-definition}
 
 -- ── calls that ran ──
 

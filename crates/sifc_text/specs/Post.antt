@@ -2,7 +2,7 @@
 use Rattle.std.specs.Prelude.{ℕ, ◌≡◌, List}
 use Rattle.sifc_def.specs.declared.Summary.{Summary}
 use Rattle.sifc_def.specs.Read.{Arrays, rooms_of, cleared_arrays, Found, found, ctx_of, summary, filled, Written, texted}
-use Rattle.sifc_def.specs.Canon.Calls.{Reads}
+use Rattle.sifc_def.proofs.Canon.Calls.{Reads}
 
 -- A reading of s with the arrays a found f, answered m and left the arrays b, which are as long as they were.
 pub record LeftBy (s : List ℕ) (b : Arrays) (m : Summary) (a : Arrays) (f : Found) : Type 0 where

@@ -12,15 +12,15 @@ use Rattle.sifc_err.specs.declared.Token.{Token}
 use Rattle.sifc_lex.specs.declared.lex.Step.TheVariants.{Word}
 use Rattle.sifc_word.specs.Base.{if◌then◌else◌, member, part}
 use Rattle.sifc_lex.specs.Lex.{token, lex, step}
-use Rattle.sifc_lex.specs.LexLaws.{Run, last, more, lex-runs}
-use Rattle.sifc_lex.specs.LexTrip.{sep, Good, spell, lex-all-words}
+use Rattle.sifc_lex.proofs.LexLaws.{Run, last, more, lex-runs}
+use Rattle.sifc_lex.proofs.LexTrip.{sep, Good, spell, lex-all-words}
 use Rattle.sifc_tokens.specs.Tokens.{token_word, offs_of, words_of}
 use Rattle.sifc_def.specs.State.{Node, node, W, token_at, word_in}
 use Rattle.sifc_def.specs.Label.{Lab, lab, has_token, scope_of, text_of, label, labels}
 use Rattle.sifc_def.specs.Read.{bit, head_word}
-use Rattle.sifc_def.specs.Canon.Bytes.{Fine}
-use Rattle.sifc_def.specs.Canon.Lexed.{good-at}
-use Rattle.sifc_def.specs.Canon.Same.{head-kind, text-is}
+use Rattle.sifc_def.proofs.Canon.Bytes.{Fine}
+use Rattle.sifc_def.proofs.Canon.Lexed.{good-at}
+use Rattle.sifc_def.proofs.Canon.Same.{head-kind, text-is}
 use Rattle.sifc_put.specs.Place as place
 use Rattle.sifc_put.specs.Place.{Inp, inp, Spells, Carries}
 

@@ -22,7 +22,7 @@ use Rattle.sifc_word.specs.Base.{if◌then◌else◌, span}
 use Rattle.sifc_lex.specs.Lex.{ascii, lex, ending, end_at}
 use Rattle.sifc_tokens.specs.Loaded.{Loaded, used_by, Used}
 use Rattle.sifc_tokens.specs.Tokens.{offs_of, words_of, token_word, padded, zeroed, LexCall, lex_called, lex_call, check_of, Answer, answer_of, TokensCall, tokens_called, refusal, counted, by_ending, after_entry, tokens_call}
-use Rattle.sifc_tokens.specs.TokensLaws.{padded-used}
+use Rattle.sifc_tokens.proofs.TokensLaws.{padded-used}
 
 length-offs : (ts : List Token) → length (offs_of ts) ≡ length ts
 unfolding offs_of

@@ -13,7 +13,7 @@ use Rattle.sifc_lex.specs.declared.lex.Step.{Step}
 use Rattle.sifc_lex.specs.declared.lex.Step.TheVariants.{Skip, Word, Stop}
 use Rattle.sifc_lex.specs.declared.lex.LexAnswer.TheVariants.{Ended, Full}
 use Rattle.sifc_lex.specs.Lex.{token, Lexed, before, ended, end_kind, end_len, on_step, step, lexed, lex, ending, end_at}
-use Rattle.sifc_lex.specs.LexLaws.{Fair, fair-step, lex_at, lex_at-turn}
+use Rattle.sifc_lex.proofs.LexLaws.{Fair, fair-step, lex_at, lex_at-turn}
 use Rattle.sifc_tokens.specs.Tokens.{token_word, offs_of, words_of}
 use Rattle.sifc_tokens.specs.Loaded.{Held, Loaded}
 

@@ -1,3 +1,4 @@
 pub mod Scanned
 pub mod Worked
 pub mod Literal
+pub mod Cases

@@ -4,4 +4,3 @@ pub mod Decimal
 pub mod Steps
 pub mod Value
 pub mod Scan
-pub mod Cases

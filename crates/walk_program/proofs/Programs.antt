@@ -15,7 +15,7 @@ use Rattle.sifc_def.specs.State.{err}
 use Rattle.sifc_def.specs.Stmt.{decl}
 use Rattle.sifc_def.specs.Walk.{walkers}
 use Rattle.sifc_def.specs.Read.{depth_limit}
-use Rattle.sifc_def.specs.StepLaws.{clash}
+use Rattle.sifc_def.proofs.StepLaws.{clash}
 use Rattle.sifc_symtab.specs.Table.{Holds}
 use Rattle.sifc_step.specs.declared.walk.Limits.{Limits}
 use Rattle.sifc_step.specs.declared.walk.Walk.{Walk}

@@ -6,7 +6,7 @@ use Rattle.sifc_err.specs.declared.Refusal.{Refusal}
 use Rattle.sifc_tokens.specs.declared.call.TokensAnswer.{TokensAnswer}
 use Rattle.sifc_tokens.specs.declared.call.TokensAnswer.TheVariants.{Count, Refused}
 use Rattle.sifc_tokens.specs.Tokens.{Answer, answer_of, TokensCall, tokens_called, tokens_call}
-use Rattle.sifc_tokens.specs.TokensLaws.{tokens-small}
+use Rattle.sifc_tokens.proofs.TokensLaws.{tokens-small}
 use Rattle.sif_c.proofs.Said.{said-count, said-refused}
 use Rattle.sif_c.proofs.sif_tokens.Goals as goal
 

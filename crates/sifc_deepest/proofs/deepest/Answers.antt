@@ -3,7 +3,7 @@ use borrow.Author.Rules.{rules}
 use mathlib.Core.Path.{sym, ap, ◌∙◌}
 use Rattle.sifc_deepest.specs.declared.DeepestAnswer.TheVariants.{Depth}
 use Rattle.sifc_deepest.specs.Deepest.{depth_of, deepest_called}
-use Rattle.sifc_deepest.specs.DeepestLaws.{call-zero, call_long, call-small, call-given}
+use Rattle.sifc_deepest.proofs.DeepestLaws.{call-zero, call_long, call-small, call-given}
 use Rattle.sifc_deepest.proofs.deepest.Goals as goal
 
 pub returns-then-n-eq0 : goal.returns-then-n-eq0

@@ -1,5 +1,5 @@
 use borrow.Author.Rules.{rules}
-use Rattle.sifc_deepest.specs.DeepestLaws.{told-depth, told_none}
+use Rattle.sifc_deepest.proofs.DeepestLaws.{told-depth, told_none}
 use Rattle.sif_c.proofs.deepest.sif_deepest.Goals as goal
 
 pub returns-in-Depth : goal.returns-in-Depth

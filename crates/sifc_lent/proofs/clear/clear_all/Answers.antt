@@ -1,5 +1,5 @@
 use borrow.Author.Rules.{rules}
-use Rattle.sifc_lent.specs.PartLaws.{same-arrays}
+use Rattle.sifc_lent.proofs.PartLaws.{same-arrays}
 use Rattle.sifc_lent.proofs.clear.clear_all.Goals as goal
 
 pub clear_front-requires : goal.clear_front-requires

@@ -1,7 +1,7 @@
 use borrow.Author.Rules.{rules}
 use native.Mathlib.Omega.{arith}
 use mathlib.Core.Path.{sym}
-use Rattle.sifc_tokens.specs.PlaceLaws.{walked_none}
+use Rattle.sifc_tokens.proofs.PlaceLaws.{walked_none}
 use Rattle.sifc_lent.proofs.place.spot_at.Goals as goal
 
 pub walk_place-requires : goal.walk_place-requires

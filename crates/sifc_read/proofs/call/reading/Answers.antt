@@ -1,5 +1,5 @@
 use borrow.Author.Rules.{rules}
-use Rattle.sifc_lent.specs.EntryLaws.{entered}
+use Rattle.sifc_lent.proofs.EntryLaws.{entered}
 use Rattle.sifc_read.proofs.Calls.{read-on, read-not}
 use Rattle.sifc_read.proofs.call.reading.Goals as goal
 

@@ -1,7 +1,7 @@
 use borrow.Author.Rules.{rules}
 use mathlib.Core.Path.{refl}
 use Rattle.sifc_lent.specs.Parts.{settled_of}
-use Rattle.sifc_lent.specs.PartLaws.{same-arrays}
+use Rattle.sifc_lent.proofs.PartLaws.{same-arrays}
 use Rattle.sifc_lent.proofs.Fronts.{front-mapped}
 use Rattle.sifc_read.proofs.finish.settle.Goals as goal
 

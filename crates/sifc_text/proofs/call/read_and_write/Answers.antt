@@ -1,7 +1,7 @@
 use borrow.Author.Rules.{rules}
 use mathlib.Core.Path.{◌∙◌}
 use Rattle.sifc_lent.specs.Parts.{arrays}
-use Rattle.sifc_lent.specs.EntryLaws.{entered-is}
+use Rattle.sifc_lent.proofs.EntryLaws.{entered-is}
 use Rattle.sifc_text.proofs.Calls.{left_is, texts-is, refused-is}
 use Rattle.sifc_text.proofs.call.read_and_write.Goals as goal
 

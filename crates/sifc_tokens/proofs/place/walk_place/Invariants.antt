@@ -5,7 +5,7 @@ use mathlib.Core.Path.{◌≡◌, ap, ◌∙◌, sym, subst}
 use lib.ListN.{length, get_or}
 use Rattle.sifc_tokens.specs.declared.place.Place.{Place}
 use Rattle.sifc_tokens.specs.Place.{walked_to, next_place}
-use Rattle.sifc_tokens.specs.PlaceLaws.{walked_more, walked_line, walked-pos}
+use Rattle.sifc_tokens.proofs.PlaceLaws.{walked_more, walked_line, walked-pos}
 use Rattle.sifc_tokens.proofs.place.walk_place.Given as goal
 
 abbrev pub invariant-loop-i : goal.invariant-loop-i

@@ -1,0 +1,4 @@
+pub mod DeepestLaws
+pub mod Depth
+pub mod Reached
+pub mod Shallow

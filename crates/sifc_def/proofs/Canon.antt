@@ -1,0 +1,14 @@
+pub mod Bytes
+pub mod Calls
+pub mod Demand3
+pub mod Demand3Cases
+pub mod Kinded
+pub mod Kinds
+pub mod Laws
+pub mod Lexed
+pub mod Operators
+pub mod Print
+pub mod Rooms
+pub mod Same
+pub mod Trees
+pub mod Words

@@ -1,0 +1,16 @@
+pub mod Case
+pub mod Cases
+pub mod Corners
+pub mod ExprLaws
+pub mod FuelLaws
+pub mod GroveLaws
+pub mod OutcomeLaws
+pub mod ReadLaws
+pub mod StepLaws
+pub mod StmtLaws
+pub mod TokLaws
+pub mod TreeLaws
+pub mod Typed
+pub mod WalkLaws
+pub mod Round
+pub mod Canon
