@@ -38,7 +38,7 @@ returns-then-offs-n c = full-word c.args.script.now c.args.offs.now c.args.words
 pub put-requires : goal.put-requires
 put-requires c =
     let b = word-bounds c.args.script.now c.loop-k.at _ _ c.loop-k.invariant.in-script (sym c.step_at-st.ensures ∙ c.in-Word.is) in
-    ((c.if-offs-n.false, omega (arith, c.if-offs-n.false, c.loop-k.invariant.even)), (omega arith, omega (arith, c.requires.0), omega (arith, c.requires.0)))
+    record { n_in_bounds = (c.if-offs-n.false, omega (arith, c.if-offs-n.false, c.loop-k.invariant.even)); kind_bound = (omega arith, omega (arith, c.requires.0), omega (arith, c.requires.0)) }
 
 pub overflow_add-n : goal.overflow_add-n
 overflow_add-n c = omega (arith, c.if-offs-n.false, c.loop-k.invariant.long-offs)
@@ -54,7 +54,7 @@ loop-k-smaller c =
     omega arith
 
 pub loop-k-preserved : goal.loop-k-preserved
-loop-k-preserved c = loading-word c.args.script.now c.args.offs.now c.args.words.now c.loop-k.offs c.loop-k.words c.loop-k.at c.loop-k.n c.loop-k.invariant _ _ (sym c.step_at-st.ensures ∙ c.in-Word.is) c.if-offs-n.false _ _ c.put.ensures.0 c.put.ensures.1
+loop-k-preserved c = loading-word c.args.script.now c.args.offs.now c.args.words.now c.loop-k.offs c.loop-k.words c.loop-k.at c.loop-k.n c.loop-k.invariant _ _ (sym c.step_at-st.ensures ∙ c.in-Word.is) c.if-offs-n.false _ _ c.put.ensures.offs_after c.put.ensures.words_after
 
 pub overflow_add-at-then-n-offs : goal.overflow_add-at-then-n-offs
 overflow_add-at-then-n-offs c =
@@ -64,7 +64,7 @@ overflow_add-at-then-n-offs c =
 pub put-requires-then-n-offs : goal.put-requires-then-n-offs
 put-requires-then-n-offs c =
     let b = stop-bounds c.args.script.now c.loop-k.at _ _ c.loop-k.invariant.in-script (sym c.step_at-st.ensures ∙ c.in-Stop.is) in
-    ((c.if-n-offs.true, omega (arith, c.if-n-offs.true, c.loop-k.invariant.even)), (rw c.end_kind.ensures (end-small _), omega (arith, c.requires.0), omega arith))
+    record { n_in_bounds = (c.if-n-offs.true, omega (arith, c.if-n-offs.true, c.loop-k.invariant.even)); kind_bound = (rw c.end_kind.ensures (end-small _), omega (arith, c.requires.0), omega arith) }
 
 pub overflow_add-result : goal.overflow_add-result
 overflow_add-result c = omega (arith, c.if-n-offs.true, c.loop-k.invariant.long-offs)
@@ -75,13 +75,13 @@ overflow_add-result-then-n-offs c =
     omega (arith, c.requires.0)
 
 pub shape_of-offs-then-n-offs : goal.shape_of-offs-then-n-offs
-shape_of-offs-then-n-offs c = (loading-stop c.args.script.now c.args.offs.now c.args.words.now c.loop-k.offs c.loop-k.words c.loop-k.at c.loop-k.n c.loop-k.invariant _ _ _ (sym c.step_at-st.ensures ∙ c.in-Stop.is) c.if-n-offs.true c.end_kind.ensures _ _ c.put-then-n-offs.ensures.0 c.put-then-n-offs.ensures.1).long-offs
+shape_of-offs-then-n-offs c = (loading-stop c.args.script.now c.args.offs.now c.args.words.now c.loop-k.offs c.loop-k.words c.loop-k.at c.loop-k.n c.loop-k.invariant _ _ _ (sym c.step_at-st.ensures ∙ c.in-Stop.is) c.if-n-offs.true c.end_kind.ensures _ _ c.put-then-n-offs.ensures.offs_after c.put-then-n-offs.ensures.words_after).long-offs
 
 pub shape_of-words-then-n-offs : goal.shape_of-words-then-n-offs
-shape_of-words-then-n-offs c = (loading-stop c.args.script.now c.args.offs.now c.args.words.now c.loop-k.offs c.loop-k.words c.loop-k.at c.loop-k.n c.loop-k.invariant _ _ _ (sym c.step_at-st.ensures ∙ c.in-Stop.is) c.if-n-offs.true c.end_kind.ensures _ _ c.put-then-n-offs.ensures.0 c.put-then-n-offs.ensures.1).long-words
+shape_of-words-then-n-offs c = (loading-stop c.args.script.now c.args.offs.now c.args.words.now c.loop-k.offs c.loop-k.words c.loop-k.at c.loop-k.n c.loop-k.invariant _ _ _ (sym c.step_at-st.ensures ∙ c.in-Stop.is) c.if-n-offs.true c.end_kind.ensures _ _ c.put-then-n-offs.ensures.offs_after c.put-then-n-offs.ensures.words_after).long-words
 
 pub returns-then-n-offs : goal.returns-then-n-offs
-returns-then-n-offs c = loading-stop c.args.script.now c.args.offs.now c.args.words.now c.loop-k.offs c.loop-k.words c.loop-k.at c.loop-k.n c.loop-k.invariant _ _ _ (sym c.step_at-st.ensures ∙ c.in-Stop.is) c.if-n-offs.true c.end_kind.ensures _ _ c.put-then-n-offs.ensures.0 c.put-then-n-offs.ensures.1
+returns-then-n-offs c = loading-stop c.args.script.now c.args.offs.now c.args.words.now c.loop-k.offs c.loop-k.words c.loop-k.at c.loop-k.n c.loop-k.invariant _ _ _ (sym c.step_at-st.ensures ∙ c.in-Stop.is) c.if-n-offs.true c.end_kind.ensures _ _ c.put-then-n-offs.ensures.offs_after c.put-then-n-offs.ensures.words_after
 
 pub shape_of-offs-in-Stop : goal.shape_of-offs-in-Stop
 shape_of-offs-in-Stop c = c.loop-k.invariant.long-offs
