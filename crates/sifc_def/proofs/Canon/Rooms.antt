@@ -18,7 +18,8 @@ use Rattle.sifc_def.specs.State.{Node, Ctx, St, Out, done, fail, refuse, M, Void
 use Rattle.sifc_def.specs.Symbols.{put_at, retrieve, store, set_level, init_scope, close_scope, set_check}
 use Rattle.sifc_def.specs.Expr.{Rec, fuel, operators, levels, assign_var, assign_token, assign_array, assign_nothing, assign_to, separator, param_list, single, call_counted, call_declared, call_name, is_named, call_named, literal, known, check_name, ident_expr, assign_expr, unary_expr, group_expr, at_expr, primary_expr, call_part, dot, index, postfix, fn_call_expr}
 use Rattle.sifc_def.specs.Stmt.{bind, with_return, ident_node, param, ident_pair, declare_var, array_nodes, end_if, comma_list, array_decl, table_item, item_list, table_decl, initial, var_decl, fn_decl, elif_stmt, else_block, branches, if_stmt, for_stmt, ret_stmt, expr_stmt, stmt, decl, decls, block}
-use Rattle.sifc_def.specs.Walk.{start, walkers, give_up, settled, top_decl, end_read, program, walk}
+use Rattle.sifc_def.specs.Error.{continuable}
+use Rattle.sifc_def.specs.Walk.{End, start, walkers, give_up, settled, top_decl, end_read, program, walk}
 
 -- a refusal for room: NodesFull, SymbolsFull, ErrorsFull
 unfoldable pub for_room : Refusal → Bool
@@ -506,7 +507,14 @@ module _ (script : List ℕ) (ts : List Token) (w n y e n' y' e' : ℕ) where
       onward (like _)
       (λ k.
       either _ (l-end_read m flag none)
-      (onward (l-top_decl d d' h) (λ x. elim x [ none ↦ l-program f d d' (suc m) flag h | some x ↦ either _ (l-program f d d' m true h) (l-end_read m true (some x)) ])))
+      (onward (l-top_decl d d' h)
+      (λ x. elim x as (λ k.
+      Likes
+      (elim k as (λ z. M End) [ none ↦ program c f d (suc m) flag | some e ↦ if continuable c e.why then program c f d m true else end_read c m true (some e) ])
+      (elim k as (λ z. M End) [ none ↦ program c' f d' (suc m) flag | some e ↦ if continuable c' e.why then program c' f d' m true else end_read c' m true (some e) ])) [
+        | none ↦ l-program f d d' (suc m) flag h
+        | some e ↦ either _ (l-program f d d' m true h) (l-end_read m true (some e))
+      ])))
 
   -- Two walks of one script with rooms of their own come to the same, or one is refused for room.
   pub walk-alike : (depth : ℕ) → Alike (walk c depth) (walk c' depth)

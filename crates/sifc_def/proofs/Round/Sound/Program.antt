@@ -54,7 +54,8 @@ module _ (c : Ctx) (Good : W → Type 0) (good : (i : ℕ) → Good (word_at c i
       let Q : End → St → Type 0 = λ v s₁. v.flag ≡ true in
       win-if (eqb (tok_at c s.at).kind Eof) _ _ s Q (λ t. end-flag n true none s)
       (λ t. win-then (top_decl c d s) _ (λ o s₁. Unit {0}) Q (win-any (top_decl c d s))
-      (λ o s₁ k. elim o [
+      (λ o s₁ k. elim o as (λ v.
+      Win ((elim v as (λ z. M End) [ none ↦ program c f d (suc n) true | some e ↦ if continuable c e.why then program c f d n true else end_read c n true (some e) ]) s₁) Q) [
         | none ↦ flag_up f d (suc n) s₁
         | some e ↦ win-if (continuable c e.why) _ _ s₁ Q (λ t₁. flag_up f d n s₁) (λ t₁. end-flag n true (some e) s₁)
       ]))
