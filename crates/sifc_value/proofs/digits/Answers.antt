@@ -5,9 +5,6 @@ use Rattle.sifc_value.proofs.digits.Goals as goal
 pub loop-next-init : goal.loop-next-init
 loop-next-init c = scanned-none c.args.s.now c.args.from c.args.end c.args.before c.requires.from_le_end c.requires.before_bound
 
-pub bounds-s-next : goal.bounds-s-next
-bounds-s-next c = lt_of_lt_of_le c.loop-next-test.true c.requires.end_in_bounds
-
 pub returns-then-b-lt48 : goal.returns-then-b-lt48
 returns-then-b-lt48 c =
     let l = c.loop-next in
@@ -24,9 +21,6 @@ overflow_mul-number c =
     let h = room c.args.s.now c.args.from c.args.end c.args.before l.number l.scale l.next l.invariant c.loop-next-test.true c.requires.from_bound in
     omega arith
 
-pub overflow_cast-number : goal.overflow_cast-number
-overflow_cast-number c = omega arith
-
 pub overflow_add-number : goal.overflow_add-number
 overflow_add-number c =
     let l = c.loop-next in
@@ -38,12 +32,6 @@ overflow_mul-scale c =
     let l = c.loop-next in
     let h = scale-room c.args.s.now c.args.from c.args.end c.args.before l.number l.scale l.next l.invariant c.loop-next-test.true c.requires.from_bound in
     omega arith
-
-pub overflow_add-next : goal.overflow_add-next
-overflow_add-next c = omega arith
-
-pub loop-next-smaller : goal.loop-next-smaller
-loop-next-smaller c = omega arith
 
 pub loop-next-preserved : goal.loop-next-preserved
 loop-next-preserved c =
