@@ -263,13 +263,13 @@ NoVar (Declared Other) = Unit {0}
 pub none-var : {f : Found} → f ≡ Nothing → NoVar f
 none-var e = subst (λ (g : Found). NoVar g) (sym e) tt
 
-pub no-var : {f : Found} {what : What} → f ≡ Declared what → OneOf (0 ∷ 1 ∷ 3 ∷ []) (tag_of what-type.the_type what) → NoVar f
+pub no-var : {f : Found} {what : What} → f ≡ Declared what → ((t : ℕ) (g : Bool) → what ≡ Variable t g → ⊥) → NoVar f
 no-var {f} {what} e h = subst (λ (g : Found). NoVar g) (sym e) (pick what h)
   where
-    pick : (x : What) → OneOf (0 ∷ 1 ∷ 3 ∷ []) (tag_of what-type.the_type x) → NoVar (Declared x)
+    pick : (x : What) → ((t : ℕ) (g : Bool) → x ≡ Variable t g → ⊥) → NoVar (Declared x)
     pick Placeholder q = tt
     pick (Function n) q = tt
-    pick (Variable t g) q = absurd (⊎_elim (λ z. omega arith) (λ y. ⊎_elim (λ z. omega arith) (λ z. omega arith) y) q)
+    pick (Variable t g) q = absurd (q t g refl)
     pick Other q = tt
 
 pub small_at : {f : Found} {what : What} {t b : ℕ} {g : Bool} → value_in f < b → f ≡ Declared what → what ≡ Variable t g → t < b

@@ -8,7 +8,7 @@ pub returns-in_default : goal.returns-in_default
 returns-in_default c = assign-not (none-var c.in_default.is) c.add_error.ensures
 
 pub returns-in_default-what : goal.returns-in_default-what
-returns-in_default-what c = assign-not (no-var c.in-Declared.is c.in_default-what.in_default-what-own.keys2) c.add_error-in_default-what.ensures
+returns-in_default-what c = assign-not (no-var c.in-Declared.is c.in_default-what.not-Variable) c.add_error-in_default-what.ensures
 
 pub overflow_cast-token : goal.overflow_cast-token
 overflow_cast-token c = omega (arith, small_at c.requires.2 c.in-Declared.is c.in-Variable.is)
