@@ -1,6 +1,4 @@
-use borrow.Author.Rules.{rules}
 use native.Mathlib.Omega.{arith}
-use mathlib.Core.Path.{◌≡◌, refl, sym, ap, ◌∙◌}
 use Rattle.sifc_name.proofs.Names.{assign-not, assign-global, assign_local, no-var, none-var, small_at}
 use Rattle.sifc_name.proofs.name.assign_var.Goals as goal
 
