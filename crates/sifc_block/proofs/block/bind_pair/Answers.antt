@@ -1,15 +1,13 @@
-use borrow.Author.Rules.{rules}
 use native.Mathlib.Omega.{arith}
-use mathlib.Core.Path.{◌≡◌, refl, sym, ap, ◌∙◌}
+use mathlib.Core.Path.{refl}
 use mathlib.Core.List.{[], ◌∷◌}
 use Rattle.sifc_def.specs.declared.What.TheVariants.{Other}
-use Rattle.sifc_def.specs.State.{Out}
 use Rattle.sifc_def.specs.Symbols.{store}
 use Rattle.sifc_def.specs.Stmt.{bind as bind_all}
 use Rattle.sifc_step.specs.Steps.{begin, gives, go, halt, last, by, blank, blanks}
 use Rattle.sifc_step.specs.SmallLaws.{put}
 use Rattle.sifc_block.proofs.Tags.{not_done}
-use Rattle.sifc_block.proofs.Blocks.{fits-other, kept-symbols, and_ok, bind-first}
+use Rattle.sifc_block.proofs.Blocks.{fits-other, kept-symbols, and_ok}
 use Rattle.sifc_block.proofs.block.bind_pair.Goals as goal
 
 pub store_name-one-requires : goal.store_name-one-requires

@@ -1,14 +1,10 @@
-use borrow.Author.Rules.{rules}
 use native.Mathlib.Omega.{arith}
-use Prim.Native.Nat.{ℕ, suc}
-use native.Mathlib.Numerals.{add-one}
-use mathlib.Core.Path.{◌≡◌, refl, sym, ap, ◌∙◌}
+use mathlib.Core.Path.{refl, sym, ap, ◌∙◌}
 use mathlib.Core.Bool.{true, false}
-use borrow.Author.Tests.{not-true, not-false}
 use Rattle.sifc_def.specs.State.{push}
 use Rattle.sifc_def.specs.Stmt.{with_return}
 use Rattle.sifc_step.specs.declared.walk.Walk.{Walk}
-use Rattle.sifc_step.specs.Steps.{begin, gives, kept-nodes, go, halt, last, yes, no, read, aimed, counted, none_is}
+use Rattle.sifc_step.specs.Steps.{begin, gives, kept-nodes, go, halt, yes, no, aimed, counted}
 use Rattle.sifc_step.specs.SmallLaws.{pushed}
 use Rattle.sifc_block.proofs.Tags.{not_done}
 use Rattle.sifc_block.proofs.Blocks.{body_is, none-few, counted-more}

@@ -1,8 +1,7 @@
-use borrow.Author.Rules.{rules}
 use native.Mathlib.Omega.{arith}
-use mathlib.Core.Path.{◌≡◌, refl, sym, ap, ◌∙◌, subst}
+use mathlib.Core.Path.{refl}
 use mathlib.Core.Bool.{false}
-use Prim.Native.Nat.{ℕ, ◌+◌}
+use Prim.Native.Nat.{◌+◌}
 use Rattle.sifc_def.specs.State.{push}
 use Rattle.sifc_def.specs.Stmt.{end_if}
 use Rattle.sifc_step.specs.Steps.{begin, same, last}
