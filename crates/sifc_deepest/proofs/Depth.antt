@@ -1,6 +1,6 @@
 -- The theorem of ask 14: 3 * n + 3 is the greatest number of counted calls active in a walk over n bytes, flagged ones included, whatever the rooms. The definition
 -- has a limit and no counter, so the number is the least limit at which the walk is not refusal 6.
-use Rattle.std.specs.Prelude.{ℕ, ◌+◌, ◌*◌, ◌≤◌, ◌<◌, List, [], ◌∷◌, ◌++◌, map, Bool, true, false, ◌≡◌, refl, eqb, ltb, length, take, replicate}
+use Rattle.std.specs.Prelude.{ℕ, ◌≤◌, ◌<◌, List, [], ◌∷◌, ◌++◌, map, Bool, true, false, ◌≡◌, refl, eqb, ltb, length, take, replicate}
 use Rattle.std.proofs.Common.{subst, arith, take_at, ltb-true, ltb-false, le-ltb, eqb-true}
 use Rattle.std.proofs.lemmas.List.{length-replicate}
 use Rattle.std.proofs.lemmas.Bool.{eqb-false}
@@ -16,7 +16,8 @@ use Rattle.sifc_def.proofs.TokLaws.{worth, lexed-toks}
 use Rattle.sifc_deepest.specs.declared.DeepestAnswer.TheVariants.{Depth, NoLength}
 use Rattle.sifc_deepest.specs.Deepest.{opening, longest, depth_of, openings, deepest_called, deepest_call}
 use Rattle.sifc_deepest.proofs.DeepestLaws.{call-zero, call_long, call-small, call-given}
-use Rattle.sifc_deepest.specs.Signs.{signs, signs-few, lexed-signs}
+use Rattle.sifc_deepest.specs.Signs.{signs}
+use Rattle.sifc_deepest.proofs.SignsLaws.{signs-few, lexed-signs}
 use Rattle.sifc_deepest.proofs.Shallow.{Shallow, On, walk-shallow}
 use Rattle.sifc_deepest.proofs.Reached.{opening-deep}
 

@@ -1,3 +1,4 @@
+pub mod SignsLaws
 pub mod DeepestLaws
 pub mod Depth
 pub mod Reached

@@ -2,7 +2,7 @@
 -- tokens that nest it has passed at least. With j passed, `assign_expr` needs three calls for each one that is left and three more, `unary_expr` one less, `fn_call_expr` and
 -- `block` two less: `assign_expr` calls `unary_expr` and that calls `fn_call_expr` at the same token, every other call comes after a token that nests. The steps stand in the
 -- order of the definition: State.antt, Symbols.antt, Expr.antt, Stmt.antt and Walk.antt of sifc_def.
-use Prim.Native.Nat.{ℕ, zero, suc, ◌+◌, ◌-◌, ◌*◌, ◌≤◌, ◌<◌}
+use Prim.Native.Nat.{ℕ, zero, suc, ◌+◌, ◌*◌, ◌≤◌, ◌<◌}
 use mathlib.Core.List.{List, [], ◌∷◌}
 use Rattle.std.proofs.Math.Option.{Option, none, some}
 use Rattle.std.specs.Prelude.{Bool, ◌≡◌, length}
@@ -26,7 +26,8 @@ use Rattle.sifc_def.specs.Stmt.{bind, with_return, ident_node, param, ident_pair
 use Rattle.sifc_def.specs.Walk.{End, start, walkers, give_up, settled, top_decl, end_read, program, walk}
 use Rattle.sifc_def.proofs.OutcomeLaws.{by-test}
 use Rattle.sifc_def.proofs.StepLaws.{Toks, clash, kind_at, moved, not-eof}
-use Rattle.sifc_deepest.specs.Signs.{nests, nesting, opened, opened-more, opened-next, opened-all, nests-as, nests-unary}
+use Rattle.sifc_deepest.specs.Signs.{nests, nesting, opened}
+use Rattle.sifc_deepest.proofs.SignsLaws.{opened-more, opened-next, opened-all, nests-as, nests-unary}
 
 -- any refusal but 6
 abbrev pub NotDeep : Refusal → Type 0

@@ -1,11 +1,11 @@
 -- What stores of bytes before a place leave.
-use Prim.Native.Nat.{ℕ, zero, suc, ◌+◌, ◌-◌, ◌*◌, ◌≤◌, ◌<◌}
+use Prim.Native.Nat.{ℕ, suc, ◌+◌, ◌-◌, ◌≤◌, ◌<◌}
 use native.Mathlib.Numerals.{add-one}
 use native.Mathlib.Omega.{arith}
-use mathlib.Core.Path.{◌≡◌, refl, sym, ap, ◌∙◌}
-use mathlib.Core.List.{List, [], ◌∷◌, ◌++◌, append_assoc, append-nil}
-use lib.ListN.{length, get_or, take, drop, set, length-append, length-take, length-drop, length-set, take-append-drop}
-use lib.Seq.{drop-cons, set_at, length-take-le, sets, sets-eq, paste, paste-suc, get_or-drop, take-set-le, set_split, drop_at, length-paste}
+use mathlib.Core.Path.{◌≡◌, sym, ap, ◌∙◌}
+use mathlib.Core.List.{List, [], ◌∷◌, ◌++◌, append_assoc}
+use lib.ListN.{length, get_or, take, drop, set, length-append, length-drop, length-set}
+use lib.Seq.{length-take-le, sets-eq, paste, paste-suc, get_or-drop, take-set-le, set_split, drop_at, length-paste}
 
 pub signed : (t : List ℕ) (a b at : ℕ) → 2 ≤ at → at ≤ length t → set (set t (at - 2) a) (at - 1) b ≡ take (at - 2) t ++ (a ∷ b ∷ drop at t)
 signed t a b at h k =

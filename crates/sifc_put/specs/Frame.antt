@@ -1,9 +1,8 @@
 -- A thing that is written from its last piece to its first: what is left of it, and what each call adds. The proofs of the writer go on by these steps alone.
-use Rattle.std.specs.Prelude.{ℕ, ◌+◌, ◌-◌, ◌≤◌, ◌<◌, ◌≡◌, refl, List, [], ◌∷◌, ◌++◌, length}
+use Rattle.std.specs.Prelude.{ℕ, ◌-◌, ◌≤◌, ◌≡◌, refl, List, [], ◌++◌, length}
 use Rattle.std.proofs.Common.{arith, sym, ap, ◌∙◌, subst, append_assoc, append-nil}
 use Rattle.sifc_put.specs.declared.write.Put.{Put}
 use Rattle.sifc_put.specs.declared.write.Put.TheVariants.{Done, Full}
-use Rattle.sifc_put.specs.Place.{Carries}
 use Rattle.sifc_put.specs.Post.{Placed, Wrote, Lang, SpotOf, WritesOf, fixed, token_l, leaf_l, seq}
 use Rattle.sifc_put.specs.Steps.{begin, gone, goes, stops, ends, renode, less}
 

@@ -1,6 +1,6 @@
 -- Where things stand in the lent arrays: "Tokens: offset; kind + 64 × length"; "Tree: nodes children first; word one is kind + 32 × flag + 64 × children, word
 -- two the payload." A thing stands from the node lo up to the node before hi, its root.
-use Rattle.std.specs.Prelude.{ℕ, suc, ◌+◌, ◌-◌, ◌/◌, ◌%◌, ◌≤◌, ◌<◌, ◌≡◌, List, [], ◌∷◌, length, get_or}
+use Rattle.std.specs.Prelude.{ℕ, ◌+◌, ◌-◌, ◌/◌, ◌%◌, ◌≤◌, ◌<◌, ◌≡◌, List, [], ◌∷◌, length, get_or}
 use Rattle.sifc_word.specs.Base.{part}
 use Rattle.sifc_def.specs.State.{W}
 

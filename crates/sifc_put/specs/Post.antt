@@ -1,6 +1,6 @@
 -- What the writer's contracts cite. It writes backwards, from the end of the buffer and from the last node: a call is handed the node before which its thing
 -- ends and the place before which it writes.
-use Rattle.std.specs.Prelude.{ℕ, zero, suc, ◌+◌, ◌-◌, ◌%◌, ◌≤◌, ◌<◌, ◌≡◌, List, [], ◌∷◌, ◌++◌, Bool, eqb, length, get_or, take, drop}
+use Rattle.std.specs.Prelude.{ℕ, zero, suc, ◌+◌, ◌-◌, ◌%◌, ◌≤◌, ◌<◌, ◌≡◌, List, [], ◌∷◌, ◌++◌, eqb, length, get_or, take, drop}
 use Rattle.sifc_word.specs.Base.{if◌then◌else◌, member}
 use Rattle.sifc_def.specs.Ast.{TableAccess, ArrayMutExpr, VarAssignExpr, BinaryExpr}
 use Rattle.sifc_def.specs.Expr.{looseness}

@@ -1,11 +1,11 @@
 -- Rows of things, from the last to the first.
-use Rattle.std.specs.Prelude.{ℕ, zero, suc, ◌+◌, ◌-◌, ◌≤◌, ◌<◌, ◌≡◌, length}
+use Rattle.std.specs.Prelude.{ℕ, ◌-◌, ◌≤◌, ◌≡◌, length}
 use Rattle.std.proofs.Common.{arith, ◌∙◌, subst, length-append}
 use Rattle.std.proofs.Math.Path.{refl, sym, ap}
 use mathlib.Core.List.{List, [], ◌∷◌, ◌++◌, append_assoc, append-nil}
-use Rattle.sifc_put.specs.Place.{Then, Along}
+use Rattle.sifc_put.specs.Place.{Along}
 use Rattle.sifc_put.specs.Post.{Lang, fixed, seq, comma, cat, commas, row_l, list_l}
-use Rattle.sifc_put.specs.Frame.{Cut, Cuts, Low}
+use Rattle.sifc_put.specs.Frame.{Cuts, Low}
 
 -- a row as its front and its last thing
 pub record Last {A : Type 0} (S : A → ℕ → ℕ → Type 0) (xs : List A) (lo h : ℕ) : Type 0 where

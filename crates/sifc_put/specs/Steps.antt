@@ -1,5 +1,5 @@
 -- Bytes that are placed one piece after the other, towards the front.
-use Rattle.std.specs.Prelude.{ℕ, ◌+◌, ◌≤◌, ◌<◌, ◌≡◌, refl, List, [], ◌∷◌, ◌++◌, length, take, drop}
+use Rattle.std.specs.Prelude.{ℕ, ◌≤◌, ◌<◌, ◌≡◌, refl, List, [], ◌++◌, length, take, drop}
 use Rattle.std.proofs.Common.{arith, sym, ap, ◌∙◌, subst, append_assoc, length-append, take-append-drop, length-take-le, drop_at, take-take}
 use Rattle.std.proofs.lemmas.List.{take-append-le}
 use Rattle.sifc_put.specs.declared.write.Put.{Put}

@@ -2,9 +2,8 @@
 use Rattle.std.specs.Prelude.{ℕ, List, [], ◌∷◌}
 use Rattle.std.proofs.Math.Option.{Option, none, some}
 use Rattle.sifc_err.specs.declared.Token.{Token}
-use Rattle.sifc_err.specs.declared.parse_err.ParseErr.{ParseErr}
 use Rattle.sifc_err.specs.declared.parse_err.ParseErrTy.{ParseErrTy}
-use Rattle.sifc_err.specs.ParseErr.{Values, values_of}
+use Rattle.sifc_err.specs.ParseErr.{values_of}
 use Rattle.sifc_tokens.specs.Tokens.{Answer}
 use Rattle.sifc_def.specs.declared.Early.{Early}
 use Rattle.sifc_def.specs.declared.Early.TheVariants.{Never, By}

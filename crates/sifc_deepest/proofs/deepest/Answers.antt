@@ -1,5 +1,4 @@
 use native.Mathlib.Omega.{arith}
-use borrow.Author.Rules.{rules}
 use mathlib.Core.Path.{sym, ap, ◌∙◌}
 use Rattle.sifc_deepest.specs.declared.DeepestAnswer.TheVariants.{Depth}
 use Rattle.sifc_deepest.specs.Deepest.{depth_of, deepest_called}

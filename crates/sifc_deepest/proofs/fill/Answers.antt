@@ -1,9 +1,9 @@
-use Prim.Native.Nat.{◌-◌, ◌≤◌, ◌<◌}
+use Prim.Native.Nat.{◌<◌}
 use native.Mathlib.Omega.{arith}
 use borrow.Author.Rules.{rules}
 use mathlib.Core.Path.{◌≡◌, ◌∙◌}
 use lib.ListN.{length}
-use Rattle.sifc_deepest.proofs.DeepestLaws.{filled, filled_none, filled_more, filled-all}
+use Rattle.sifc_deepest.proofs.DeepestLaws.{filled_none, filled_more, filled-all}
 use Rattle.sifc_deepest.proofs.fill.Goals as goal
 
 pub loop-i-init : goal.loop-i-init

@@ -1,9 +1,7 @@
-use Prim.Native.Nat.{◌-◌, ◌≤◌, ◌<◌}
-use native.Mathlib.Omega.{arith}
-use borrow.Author.Rules.{rules}
-use mathlib.Core.Path.{◌≡◌, ◌∙◌}
+use Prim.Native.Nat.{◌-◌, ◌≤◌}
+use mathlib.Core.Path.{◌≡◌}
 use lib.ListN.{length}
-use Rattle.sifc_deepest.proofs.DeepestLaws.{filled, filled_none, filled_more, filled-all}
+use Rattle.sifc_deepest.proofs.DeepestLaws.{filled}
 use Rattle.sifc_deepest.proofs.fill.Given as goal
 
 abbrev pub invariant-loop-i : goal.invariant-loop-i

@@ -1,8 +1,6 @@
-use borrow.Author.Rules.{rules}
 use native.Mathlib.Omega.{arith}
 use Rattle.sifc_put.proofs.Heights.{of-binary, of-eight, of_none}
-use mathlib.Core.Path.{◌≡◌, refl}
-use mathlib.Core.Logic.{◌⊎◌, inl, inr}
+use mathlib.Core.Logic.{inl, inr}
 use Rattle.sifc_put.proofs.write.height.Goals as goal
 
 pub offset_bounds-words-tok : goal.offset_bounds-words-tok

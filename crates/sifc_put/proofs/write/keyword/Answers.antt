@@ -1,4 +1,3 @@
-use borrow.Author.Rules.{rules}
 use Rattle.sifc_put.proofs.Commas.{whole-writes}
 use Rattle.sifc_put.proofs.write.keyword.Goals as goal
 

@@ -1,4 +1,3 @@
-use borrow.Author.Rules.{rules}
 use native.Mathlib.Omega.{arith}
 use Rattle.sifc_put.specs.Post.{leaf_l}
 use Rattle.sifc_put.specs.Frame.{opening, narrowed, here, end, is-token}

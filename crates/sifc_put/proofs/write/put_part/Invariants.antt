@@ -1,11 +1,7 @@
-use borrow.Author.Rules.{rules}
-use Prim.Native.Nat.{ℕ, ◌+◌, ◌-◌, ◌≤◌, ◌<◌}
-use native.Mathlib.Omega.{arith}
-use mathlib.Core.Path.{◌≡◌, refl, ap, ◌∙◌, sym}
-use mathlib.Core.List.{List}
-use lib.ListN.{length, length-set, drop, set}
-use lib.Seq.{paste, paste-zero}
-use Rattle.sifc_put.proofs.Stores.{copied, parted, part_length, paste-kept}
+use Prim.Native.Nat.{◌-◌, ◌≤◌}
+use mathlib.Core.Path.{◌≡◌}
+use lib.ListN.{drop}
+use lib.Seq.{paste}
 use Rattle.sifc_put.proofs.write.put_part.Given as goal
 
 abbrev pub invariant-loop-i : goal.invariant-loop-i

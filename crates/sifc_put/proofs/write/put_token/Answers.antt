@@ -1,5 +1,3 @@
-use borrow.Author.Rules.{rules}
-use native.Mathlib.Omega.{arith}
 use Rattle.sifc_put.proofs.Commas.{token-part, token-within}
 use Rattle.sifc_put.proofs.write.put_token.Goals as goal
 

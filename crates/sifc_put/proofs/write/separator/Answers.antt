@@ -1,5 +1,3 @@
-use borrow.Author.Rules.{rules}
-use native.Mathlib.Omega.{arith}
 use Rattle.sifc_put.specs.Steps.{begin}
 use Rattle.sifc_put.specs.Frame.{fixed-writes}
 use Rattle.sifc_put.proofs.Commas.{comma-none, comma-writes}

@@ -1,4 +1,3 @@
-use borrow.Author.Rules.{rules}
 use Rattle.sifc_told.proofs.Said.{ended-never, ended_by}
 use Rattle.sifc_told.proofs.answer.ended.Goals as goal
 

@@ -1,4 +1,3 @@
-use borrow.Author.Rules.{rules}
 use Rattle.sifc_told.proofs.Said.{told-read, told-refused}
 use Rattle.sifc_told.proofs.answer.told.Goals as goal
 

@@ -1,4 +1,3 @@
-use borrow.Author.Rules.{rules}
 use Rattle.sifc_told.proofs.Said.{text-wrote, text-refused}
 use Rattle.sifc_told.proofs.answer.told_text.Goals as goal
 
