@@ -1,11 +1,6 @@
-use native.Mathlib.Omega.{arith}
-use Prim.Native.Nat.{ℕ, ◌+◌, ◌-◌, ◌<◌, min}
-use mathlib.Core.Path.{◌≡◌, refl, sym, subst, ◌∙◌}
-use mathlib.Core.Logic.{⊎_elim}
+use Prim.Native.Nat.{◌-◌, min}
 use Rattle.sifc_symtab.specs.Table.{sym_at}
 use Rattle.sifc_symtab.specs.Seek.{Best}
-use Rattle.sifc_symtab.proofs.Seek.{best-take, best-keep}
-use Rattle.sifc_symtab.proofs.Walk.{spot-room, look-start, rest-hashed}
 use Rattle.sifc_symtab.proofs.symtab.look.Given as goal
 
 abbrev pub invariant-loop-k : goal.invariant-loop-k

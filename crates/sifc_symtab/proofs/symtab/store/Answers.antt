@@ -3,13 +3,13 @@ use native.Mathlib.Omega.{arith}
 use Prim.Native.Nat.{ℕ, ◌+◌}
 use mathlib.Core.Path.{sym, ◌∙◌, ap, subst}
 use mathlib.Core.List.{List}
-use mathlib.Core.Logic.{⊎_elim}
 use lib.ListN.{length}
 use Rattle.sifc_symtab.specs.declared.symtab.Stored.TheVariants.{At}
 use Rattle.sifc_symtab.specs.Table.{Stores}
 use Rattle.sifc_symtab.specs.Seek.{InsertAt, Inserts}
 use Rattle.sifc_symtab.proofs.Hash.{hash-small}
 use Rattle.sifc_symtab.proofs.Entries.{stored-old, stored-full, stored_past, insert-fits, stored-linked}
+use Rattle.sifc_symtab.proofs.symtab.store.Goals.{then-n-lt-LINKED, else-n-lt-LINKED}
 use Rattle.sifc_symtab.proofs.symtab.store.Goals as goal
 
 pub put-requires : goal.put-requires
@@ -27,8 +27,9 @@ put-requires-2 c = (omega (arith, c.room.ensures, c.if-room-n.false), c.requires
 pub insert-requires : goal.insert-requires
 insert-requires c = subst (λ (x : List ℕ). InsertAt x c.args.n c.seek-spot.result.prev c.seek-spot.result.at) (sym c.put-2.ensures) (insert-fits c.args.script.now c.args.offs.now c.args.words.now c.args.symbols.now c.args.n c.args.level c.args.i c.look-k.result c.args.what c.hash_of-hash.result c.name-sought.result.now c.requires c.name-sought.ensures c.hash_of-hash.ensures c.look-k.ensures c.if-k-n.false (rw c.room.ensures at c.if-room-n.false) c.if-n-lt-LINKED.true c.seek-spot.result c.seek-spot.ensures)
 
-pub shape_of-symbols : goal.shape_of-symbols
-shape_of-symbols c = ⊎_elim (λ w. ap length w.5 ∙ w.2.kept.1.0 ∙ c.put-2.auto.0) (λ w. ap length w.1 ∙ c.put-2.auto.0) c.if-n-lt-LINKED.branch
-
 pub returns : goal.returns
-returns c = ⊎_elim (λ w. subst (Stores c.args.script.now c.args.offs.now c.args.words.now c.args.symbols.now c.args.n c.args.level c.args.i c.args.what (At (c.args.n + 1))) (sym w.5) (stored-linked c.args.script.now c.args.offs.now c.args.words.now c.args.symbols.now c.args.n c.args.level c.args.i c.look-k.result c.args.what c.hash_of-hash.result c.name-sought.result.now c.requires c.name-sought.ensures c.hash_of-hash.ensures c.look-k.ensures c.if-k-n.false (rw c.room.ensures at c.if-room-n.false) w.0.taken c.seek-spot.result c.seek-spot.ensures _ (subst (λ (x : List ℕ). Inserts c.args.words.now x c.args.n c.hash_of-hash.result c.seek-spot.result.prev c.seek-spot.result.at w.2.last.1.0) c.put-2.ensures w.2.ensures))) (λ w. subst (Stores c.args.script.now c.args.offs.now c.args.words.now c.args.symbols.now c.args.n c.args.level c.args.i c.args.what (At (c.args.n + 1))) (sym (w.1 ∙ c.put-2.ensures)) (stored_past c.args.script.now c.args.offs.now c.args.words.now c.args.symbols.now c.args.n c.args.level c.args.i c.look-k.result c.args.what c.hash_of-hash.result c.name-sought.result.now c.requires c.name-sought.ensures c.hash_of-hash.ensures c.look-k.ensures c.if-k-n.false (rw c.room.ensures at c.if-room-n.false) w.0.left)) c.if-n-lt-LINKED.branch
+returns c =
+    elim c.if-n-lt-LINKED.branch [
+        then-n-lt-LINKED w ↦ subst (Stores c.args.script.now c.args.offs.now c.args.words.now c.args.symbols.now c.args.n c.args.level c.args.i c.args.what (At (c.args.n + 1))) (sym w.symbols-is) (stored-linked c.args.script.now c.args.offs.now c.args.words.now c.args.symbols.now c.args.n c.args.level c.args.i c.look-k.result c.args.what c.hash_of-hash.result c.name-sought.result.now c.requires c.name-sought.ensures c.hash_of-hash.ensures c.look-k.ensures c.if-k-n.false (rw c.room.ensures at c.if-room-n.false) w.if-n-lt-LINKED.true c.seek-spot.result c.seek-spot.ensures _ (subst (λ (x : List ℕ). Inserts c.args.words.now x c.args.n c.hash_of-hash.result c.seek-spot.result.prev c.seek-spot.result.at w.insert.new.symbols) c.put-2.ensures w.insert.ensures))
+        | else-n-lt-LINKED w ↦ subst (Stores c.args.script.now c.args.offs.now c.args.words.now c.args.symbols.now c.args.n c.args.level c.args.i c.args.what (At (c.args.n + 1))) (sym (w.symbols-is ∙ c.put-2.ensures)) (stored_past c.args.script.now c.args.offs.now c.args.words.now c.args.symbols.now c.args.n c.args.level c.args.i c.look-k.result c.args.what c.hash_of-hash.result c.name-sought.result.now c.requires c.name-sought.ensures c.hash_of-hash.ensures c.look-k.ensures c.if-k-n.false (rw c.room.ensures at c.if-room-n.false) w.if-n-lt-LINKED.false)
+    ]
