@@ -18,7 +18,7 @@ unfolding literal_of
 returns-in_default c =
     record {
       does = λ s ys p ne. gives (λ E e. let p0 = begin 1 (λ x. literal_of x c.args.w.at) E e p in
-          halt 0 (λ x. push x 24 false 0 c.args.w.at) _ p0 refl (pushed p0.is c.push_node-pushed.ensures) c.push_node-pushed.ensures.sure (not_done _ c.in_default.in_default-own.keys2));
+          halt 0 (λ x. push x 24 false 0 c.args.w.at) _ p0 refl (pushed p0.is c.push_node-pushed.ensures) c.push_node-pushed.ensures.sure (not_done _ c.in_default.not-Done));
     }
 
 pub consume-requires : goal.consume-requires
@@ -29,6 +29,6 @@ unfolding literal_of
 returns c =
     record {
       does = λ s ys p ne. gives (λ E e. let p0 = begin 1 (λ x. literal_of x c.args.w.at) E e p in
-          let p1 = go 0 (λ x. push x 24 false 0 c.args.w.at) _ p0 refl (pushed p0.is c.push_node-pushed.ensures) (kept-nodes c.push_node-pushed.auto.0 c.push_node-pushed.auto.1.0) c.in-Done.is in
+          let p1 = go 0 (λ x. push x 24 false 0 c.args.w.at) _ p0 refl (pushed p0.is c.push_node-pushed.ensures) (kept-nodes c.push_node-pushed.auto.head c.push_node-pushed.auto.load) c.in-Done.is in
           last 1 (λ x. consume x) p1 refl (omega arith) (pass p1.is c.consume.ensures (λ z. ne (ap (kind_at c.args.words.now) (sym (there-at c.push_node-pushed.ensures.there c.in-Done.is)) ∙ z))));
     }
