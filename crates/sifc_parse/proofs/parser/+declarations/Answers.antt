@@ -33,46 +33,46 @@ pub block-overflow_sub-below : goal.block-overflow_sub-below
 block-overflow_sub-below t c = omega (arith, c.if-depth-eq0.false)
 
 pub block-expect-begun-requires : goal.block-expect-begun-requires
-block-expect-begun-requires t c = c.requires.1.0.stands
+block-expect-begun-requires t c = c.requires.0.stands
 
 pub block-returns-in_default : goal.block-returns-in_default
 unfolding block_of
 block-returns-in_default t c =
     record {
       does = λ j jl jn. record {
-        tells = λ E e t. let p0 = by (begin j (λ x. (walkers x c.args.depth).block c.args.body (names_of c.args.names c.args.load.now)) E e c.requires.1.0) (block-step _ _ _ _ _ c.if-depth-eq0.false) in
+        tells = λ E e t. let p0 = by (begin j (λ x. (walkers x c.args.depth).block c.args.body (names_of c.args.names c.args.load.now)) E e c.requires.0) (block-step _ _ _ _ _ c.if-depth-eq0.false) in
             told t (stop j (λ x. expect x 3) _ p0 refl (omega arith) (c.expect-begun.ensures.does j _ _ jl jn (λ z. absurd (let v : ⊥ = omega arith in
             v)) p0.is) (not_done _ c.in_default.in_default-own.keys2));
       };
     }
 
 pub block-init_scope-inside-requires : goal.block-init_scope-inside-requires
-block-init_scope-inside-requires t c = omega (arith, (expect-level 3 (λ z. omega arith) c.requires.1.0 (expected c.requires.1.0 c.expect-begun.ensures) c.in-Done.is c.requires.1.0.level), here-at (expected c.requires.1.0 c.expect-begun.ensures) c.in-Done.is, c.requires.1.0.stands.toks.few)
+block-init_scope-inside-requires t c = omega (arith, (expect-level 3 (λ z. omega arith) c.requires.0 (expected c.requires.0 c.expect-begun.ensures) c.in-Done.is c.requires.0.level), here-at (expected c.requires.0 c.expect-begun.ensures) c.in-Done.is, c.requires.0.stands.toks.few)
 
 pub block-bind-bound-requires : goal.block-bind-bound-requires
 unfolding block_of
 block-bind-bound-requires t c =
-    let E = c.requires.1.1.errs in
-    let e = c.requires.1.1.count in
-    let t = c.requires.1.1.notes in
+    let E = c.requires.1.errs in
+    let e = c.requires.1.count in
+    let t = c.requires.1.notes in
     let j : ℕ = 0 in
     let jl : j ≤ 1 = omega arith in
     let jn : (kind_at c.args.words.now c.args.w.at ≡ 3 → ⊥) → j ≡ 0 = λ z. refl in
-    let p0 = by (begin j (λ x. (walkers x c.args.depth).block c.args.body (names_of c.args.names c.args.load.now)) E e c.requires.1.0) (block-step _ _ _ _ _ c.if-depth-eq0.false) in
+    let p0 = by (begin j (λ x. (walkers x c.args.depth).block c.args.body (names_of c.args.names c.args.load.now)) E e c.requires.0) (block-step _ _ _ _ _ c.if-depth-eq0.false) in
     let p1 = go j (λ x. expect x 3) _ p0 refl (c.expect-begun.ensures.does j _ _ jl jn (λ z. absurd (let v : ⊥ = omega arith in
     v)) p0.is) same c.in-Done.is in
-    let p2 = scoped _ p1 (expect-level 3 (λ z. omega arith) c.requires.1.0 (expected c.requires.1.0 c.expect-begun.ensures) c.in-Done.is c.requires.1.0.level) c.init_scope-inside.ensures in
-    (p2.is, c.requires.1.2)
+    let p2 = scoped _ p1 (expect-level 3 (λ z. omega arith) c.requires.0 (expected c.requires.0 c.expect-begun.ensures) c.in-Done.is c.requires.0.level) c.init_scope-inside.ensures in
+    (p2.is, c.requires.2)
 
 pub block-returns-in_default-bound : goal.block-returns-in_default-bound
 unfolding block_of
 block-returns-in_default-bound t c =
     record {
       does = λ j jl jn. record {
-        tells = λ E e t. let p0 = by (begin j (λ x. (walkers x c.args.depth).block c.args.body (names_of c.args.names c.args.load.now)) E e c.requires.1.0) (block-step _ _ _ _ _ c.if-depth-eq0.false) in
+        tells = λ E e t. let p0 = by (begin j (λ x. (walkers x c.args.depth).block c.args.body (names_of c.args.names c.args.load.now)) E e c.requires.0) (block-step _ _ _ _ _ c.if-depth-eq0.false) in
             let p1 = go j (λ x. expect x 3) _ p0 refl (c.expect-begun.ensures.does j _ _ jl jn (λ z. absurd (let v : ⊥ = omega arith in
             v)) p0.is) same c.in-Done.is in
-            let p2 = scoped _ p1 (expect-level 3 (λ z. omega arith) c.requires.1.0 (expected c.requires.1.0 c.expect-begun.ensures) c.in-Done.is c.requires.1.0.level) c.init_scope-inside.ensures in
+            let p2 = scoped _ p1 (expect-level 3 (λ z. omega arith) c.requires.0 (expected c.requires.0 c.expect-begun.ensures) c.in-Done.is c.requires.0.level) c.init_scope-inside.ensures in
             told t (stop 0 (λ x. bind_of x (names_of c.args.names c.args.load.now)) _ p2 refl (omega arith) c.bind-bound.ensures (not_done _ c.in_default-bound.in_default-bound-own.keys2));
       };
     }
@@ -80,28 +80,28 @@ block-returns-in_default-bound t c =
 pub block-decls-all-requires : goal.block-decls-all-requires
 unfolding block_of
 block-decls-all-requires t c =
-    let E = c.requires.1.1.errs in
-    let e = c.requires.1.1.count in
-    let t = c.requires.1.1.notes in
+    let E = c.requires.1.errs in
+    let e = c.requires.1.count in
+    let t = c.requires.1.notes in
     let j : ℕ = 0 in
     let jl : j ≤ 1 = omega arith in
     let jn : (kind_at c.args.words.now c.args.w.at ≡ 3 → ⊥) → j ≡ 0 = λ z. refl in
-    let p0 = by (begin j (λ x. (walkers x c.args.depth).block c.args.body (names_of c.args.names c.args.load.now)) E e c.requires.1.0) (block-step _ _ _ _ _ c.if-depth-eq0.false) in
+    let p0 = by (begin j (λ x. (walkers x c.args.depth).block c.args.body (names_of c.args.names c.args.load.now)) E e c.requires.0) (block-step _ _ _ _ _ c.if-depth-eq0.false) in
     let p1 = go j (λ x. expect x 3) _ p0 refl (c.expect-begun.ensures.does j _ _ jl jn (λ z. absurd (let v : ⊥ = omega arith in
     v)) p0.is) same c.in-Done.is in
-    let p2 = scoped _ p1 (expect-level 3 (λ z. omega arith) c.requires.1.0 (expected c.requires.1.0 c.expect-begun.ensures) c.in-Done.is c.requires.1.0.level) c.init_scope-inside.ensures in
+    let p2 = scoped _ p1 (expect-level 3 (λ z. omega arith) c.requires.0 (expected c.requires.0 c.expect-begun.ensures) c.in-Done.is c.requires.0.level) c.init_scope-inside.ensures in
     let p3 = go 0 (λ x. bind_of x (names_of c.args.names c.args.load.now)) _ p2 refl c.bind-bound.ensures (kept-symbols c.bind-bound.auto.1.1.1.0) c.in-Done-bound.is in
-    (omega (arith, c.requires.0, c.if-depth-eq0.false), (p3.is, book c.requires.1.1 t p3))
+    (omega (arith, c.decreases, c.if-depth-eq0.false), (p3.is, book c.requires.1 t p3))
 
 pub block-returns-in_default-all : goal.block-returns-in_default-all
 unfolding block_of
 block-returns-in_default-all t c =
     record {
       does = λ j jl jn. record {
-        tells = λ E e t. let p0 = by (begin j (λ x. (walkers x c.args.depth).block c.args.body (names_of c.args.names c.args.load.now)) E e c.requires.1.0) (block-step _ _ _ _ _ c.if-depth-eq0.false) in
+        tells = λ E e t. let p0 = by (begin j (λ x. (walkers x c.args.depth).block c.args.body (names_of c.args.names c.args.load.now)) E e c.requires.0) (block-step _ _ _ _ _ c.if-depth-eq0.false) in
             let p1 = go j (λ x. expect x 3) _ p0 refl (c.expect-begun.ensures.does j _ _ jl jn (λ z. absurd (let v : ⊥ = omega arith in
             v)) p0.is) same c.in-Done.is in
-            let p2 = scoped _ p1 (expect-level 3 (λ z. omega arith) c.requires.1.0 (expected c.requires.1.0 c.expect-begun.ensures) c.in-Done.is c.requires.1.0.level) c.init_scope-inside.ensures in
+            let p2 = scoped _ p1 (expect-level 3 (λ z. omega arith) c.requires.0 (expected c.requires.0 c.expect-begun.ensures) c.in-Done.is c.requires.0.level) c.init_scope-inside.ensures in
             let p3 = go 0 (λ x. bind_of x (names_of c.args.names c.args.load.now)) _ p2 refl c.bind-bound.ensures (kept-symbols c.bind-bound.auto.1.1.1.0) c.in-Done-bound.is in
             stops 0 (λ x. decls_of x (walkers x (c.args.depth - 1)) (fuel x) 0) _ p3 refl (omega arith) t c.decls-all.ensures.0 (not_done _ c.in_default-all.in_default-all-own.keys2);
       };
@@ -110,16 +110,16 @@ block-returns-in_default-all t c =
 pub block-end_block-requires : goal.block-end_block-requires
 unfolding block_of
 block-end_block-requires t c =
-    let E = c.requires.1.1.errs in
-    let e = c.requires.1.1.count in
-    let t = c.requires.1.1.notes in
+    let E = c.requires.1.errs in
+    let e = c.requires.1.count in
+    let t = c.requires.1.notes in
     let j : ℕ = 0 in
     let jl : j ≤ 1 = omega arith in
     let jn : (kind_at c.args.words.now c.args.w.at ≡ 3 → ⊥) → j ≡ 0 = λ z. refl in
-    let p0 = by (begin j (λ x. (walkers x c.args.depth).block c.args.body (names_of c.args.names c.args.load.now)) E e c.requires.1.0) (block-step _ _ _ _ _ c.if-depth-eq0.false) in
+    let p0 = by (begin j (λ x. (walkers x c.args.depth).block c.args.body (names_of c.args.names c.args.load.now)) E e c.requires.0) (block-step _ _ _ _ _ c.if-depth-eq0.false) in
     let p1 = go j (λ x. expect x 3) _ p0 refl (c.expect-begun.ensures.does j _ _ jl jn (λ z. absurd (let v : ⊥ = omega arith in
     v)) p0.is) same c.in-Done.is in
-    let p2 = scoped _ p1 (expect-level 3 (λ z. omega arith) c.requires.1.0 (expected c.requires.1.0 c.expect-begun.ensures) c.in-Done.is c.requires.1.0.level) c.init_scope-inside.ensures in
+    let p2 = scoped _ p1 (expect-level 3 (λ z. omega arith) c.requires.0 (expected c.requires.0 c.expect-begun.ensures) c.in-Done.is c.requires.0.level) c.init_scope-inside.ensures in
     let p3 = go 0 (λ x. bind_of x (names_of c.args.names c.args.load.now)) _ p2 refl c.bind-bound.ensures (kept-symbols c.bind-bound.auto.1.1.1.0) c.in-Done-bound.is in
     let g4 = goes 0 (λ x. decls_of x (walkers x (c.args.depth - 1)) (fuel x) 0) _ p3 refl t c.decls-all.ensures.0 (kept c.decls-all.auto) c.in-Done-all.is in
     (g4.at.is, count-below c.decls-all.ensures.1 c.in-Done-all.is)
@@ -129,10 +129,10 @@ unfolding block_of
 block-returns t c =
     record {
       does = λ j jl jn. record {
-        tells = λ E e t. let p0 = by (begin j (λ x. (walkers x c.args.depth).block c.args.body (names_of c.args.names c.args.load.now)) E e c.requires.1.0) (block-step _ _ _ _ _ c.if-depth-eq0.false) in
+        tells = λ E e t. let p0 = by (begin j (λ x. (walkers x c.args.depth).block c.args.body (names_of c.args.names c.args.load.now)) E e c.requires.0) (block-step _ _ _ _ _ c.if-depth-eq0.false) in
             let p1 = go j (λ x. expect x 3) _ p0 refl (c.expect-begun.ensures.does j _ _ jl jn (λ z. absurd (let v : ⊥ = omega arith in
             v)) p0.is) same c.in-Done.is in
-            let p2 = scoped _ p1 (expect-level 3 (λ z. omega arith) c.requires.1.0 (expected c.requires.1.0 c.expect-begun.ensures) c.in-Done.is c.requires.1.0.level) c.init_scope-inside.ensures in
+            let p2 = scoped _ p1 (expect-level 3 (λ z. omega arith) c.requires.0 (expected c.requires.0 c.expect-begun.ensures) c.in-Done.is c.requires.0.level) c.init_scope-inside.ensures in
             let p3 = go 0 (λ x. bind_of x (names_of c.args.names c.args.load.now)) _ p2 refl c.bind-bound.ensures (kept-symbols c.bind-bound.auto.1.1.1.0) c.in-Done-bound.is in
             let g4 = goes 0 (λ x. decls_of x (walkers x (c.args.depth - 1)) (fuel x) 0) _ p3 refl t c.decls-all.ensures.0 (kept c.decls-all.auto) c.in-Done-all.is in
             told g4.notes (last 0 (λ x. end_block x c.args.body c.in-Done-all.z.count) g4.at refl (omega arith) c.end_block.ensures);
@@ -140,19 +140,19 @@ block-returns t c =
     }
 
 pub branches-loop-symbols-init : goal.branches-loop-symbols-init
-branches-loop-symbols-init t c = (turning (λ x f. branches_of x (walkers x c.args.depth) f 0 0) c.requires.1.0 c.requires.1.1, omega (arith, c.requires.1.2), omega arith)
+branches-loop-symbols-init t c = (turning (λ x f. branches_of x (walkers x c.args.depth) f 0 0) c.requires.0 c.requires.1, omega (arith, c.requires.2), omega arith)
 
 pub branches-kind_at-k-requires : goal.branches-kind_at-k-requires
 branches-kind_at-k-requires t c = c.loop-symbols.invariant.0.is.stands.here
 
 pub branches-elif_stmt-one-requires : goal.branches-elif_stmt-one-requires
-branches-elif_stmt-one-requires t c = (omega (arith, c.requires.0), (c.loop-symbols.invariant.0.is, c.loop-symbols.invariant.0.book, sym c.kind_at-k.ensures ∙ c.if-k-eq-ELIF.true))
+branches-elif_stmt-one-requires t c = (omega (arith, c.decreases), (c.loop-symbols.invariant.0.is, c.loop-symbols.invariant.0.book, sym c.kind_at-k.ensures ∙ c.if-k-eq-ELIF.true))
 
 pub branches-returns-in_default : goal.branches-returns-in_default
 unfolding branches_of
 branches-returns-in_default t c =
     record {
-      tells = λ E e t. let g0 = turns c.loop-symbols.invariant.0 (begin 0 (λ x. branches_of x (walkers x c.args.depth) (fuel x) 0 0) E e c.requires.1.0) t in
+      tells = λ E e t. let g0 = turns c.loop-symbols.invariant.0 (begin 0 (λ x. branches_of x (walkers x c.args.depth) (fuel x) 0 0) E e c.requires.0) t in
           let p1 = read _ g0.at in
           let y1 = yes _ _ p1 (test (λ k. eqb k 40) p1 (eq-eqb _ _ (sym c.kind_at-k.ensures ∙ c.if-k-eq-ELIF.true))) in
           stops 1 (λ x. elif_stmt x (walkers x c.args.depth)) _ y1 refl (omega arith) g0.notes c.elif_stmt-one.ensures (not_done _ c.in_default.in_default-own.keys2);
@@ -183,7 +183,7 @@ pub branches-returns-then-k-ne-ELSE : goal.branches-returns-then-k-ne-ELSE
 unfolding branches_of
 branches-returns-then-k-ne-ELSE t c =
     record {
-      tells = λ E e t. let g0 = turns c.loop-symbols.invariant.0 (begin 0 (λ x. branches_of x (walkers x c.args.depth) (fuel x) 0 0) E e c.requires.1.0) t in
+      tells = λ E e t. let g0 = turns c.loop-symbols.invariant.0 (begin 0 (λ x. branches_of x (walkers x c.args.depth) (fuel x) 0 0) E e c.requires.0) t in
           let p1 = read _ g0.at in
           let n1 = no _ _ p1 (test (λ k. eqb k 40) p1 (ne_eqb _ _ (λ z. c.if-k-eq-ELIF.false (c.kind_at-k.ensures ∙ z)))) in
           let n2 = no _ _ n1 (test (λ k. eqb k 41) n1 (ne_eqb _ _ (λ z. c.if-k-ne-ELSE.true (c.kind_at-k.ensures ∙ z)))) in
@@ -191,13 +191,13 @@ branches-returns-then-k-ne-ELSE t c =
     }
 
 pub branches-else_block-other-requires : goal.branches-else_block-other-requires
-branches-else_block-other-requires t c = (omega (arith, c.requires.0), (c.loop-symbols.invariant.0.is, c.loop-symbols.invariant.0.book, sym c.kind_at-k.ensures ∙ c.if-k-ne-ELSE.false))
+branches-else_block-other-requires t c = (omega (arith, c.decreases), (c.loop-symbols.invariant.0.is, c.loop-symbols.invariant.0.book, sym c.kind_at-k.ensures ∙ c.if-k-ne-ELSE.false))
 
 pub branches-returns-in_default-other : goal.branches-returns-in_default-other
 unfolding branches_of
 branches-returns-in_default-other t c =
     record {
-      tells = λ E e t. let g0 = turns c.loop-symbols.invariant.0 (begin 0 (λ x. branches_of x (walkers x c.args.depth) (fuel x) 0 0) E e c.requires.1.0) t in
+      tells = λ E e t. let g0 = turns c.loop-symbols.invariant.0 (begin 0 (λ x. branches_of x (walkers x c.args.depth) (fuel x) 0 0) E e c.requires.0) t in
           let p1 = read _ g0.at in
           let n1 = no _ _ p1 (test (λ k. eqb k 40) p1 (ne_eqb _ _ (λ z. c.if-k-eq-ELIF.false (c.kind_at-k.ensures ∙ z)))) in
           let e1 = yes _ _ n1 (test (λ k. eqb k 41) n1 (eq-eqb _ _ (sym c.kind_at-k.ensures ∙ c.if-k-ne-ELSE.false))) in
@@ -227,41 +227,41 @@ branches-loop-symbols-preserved t c = (
 )
 
 pub decl-kind_at-k-requires : goal.decl-kind_at-k-requires
-decl-kind_at-k-requires t c = c.requires.1.0.stands.here
+decl-kind_at-k-requires t c = c.requires.0.stands.here
 
 pub decl-var_decl-requires : goal.decl-var_decl-requires
-decl-var_decl-requires t c = (c.requires.1.0, sym c.kind_at-k.ensures ∙ c.if-k-eq-VAR.true)
+decl-var_decl-requires t c = (c.requires.0, sym c.kind_at-k.ensures ∙ c.if-k-eq-VAR.true)
 
 pub decl-returns-then-k-eq-VAR : goal.decl-returns-then-k-eq-VAR
 unfolding decl_of
 decl-returns-then-k-eq-VAR t c =
     record {
-      tells = λ E e t. let p0 = begin 1 (λ x. decl_of x (walkers x c.args.depth)) E e c.requires.1.0 in
+      tells = λ E e t. let p0 = begin 1 (λ x. decl_of x (walkers x c.args.depth)) E e c.requires.0 in
           let p1 = read _ p0 in
           told t (last 1 (λ x. var_decl x (walkers x c.args.depth)) (yes _ _ p1 (test (λ k. eqb k 34) p1 (eq-eqb _ _ (sym c.kind_at-k.ensures ∙ c.if-k-eq-VAR.true)))) refl (omega arith) c.var_decl.ensures);
     }
 
 pub decl-fn_decl-requires : goal.decl-fn_decl-requires
-decl-fn_decl-requires t c = (omega (arith, c.requires.0), (c.requires.1.0, c.requires.1.1, sym c.kind_at-k.ensures ∙ c.if-k-eq-FN.true))
+decl-fn_decl-requires t c = (omega (arith, c.decreases), (c.requires.0, c.requires.1, sym c.kind_at-k.ensures ∙ c.if-k-eq-FN.true))
 
 pub decl-returns-then-k-eq-FN : goal.decl-returns-then-k-eq-FN
 unfolding decl_of
 decl-returns-then-k-eq-FN t c =
     record {
-      tells = λ E e t. let p0 = begin 1 (λ x. decl_of x (walkers x c.args.depth)) E e c.requires.1.0 in
+      tells = λ E e t. let p0 = begin 1 (λ x. decl_of x (walkers x c.args.depth)) E e c.requires.0 in
           let p1 = read _ p0 in
           let n1 = no _ _ p1 (test (λ k. eqb k 34) p1 (ne_eqb _ _ (λ z. c.if-k-eq-VAR.false (c.kind_at-k.ensures ∙ z)))) in
           lasts 1 (λ x. fn_decl x (walkers x c.args.depth)) (yes _ _ n1 (test (λ k. eqb k 35) n1 (eq-eqb _ _ (sym c.kind_at-k.ensures ∙ c.if-k-eq-FN.true)))) refl (omega arith) t c.fn_decl.ensures;
     }
 
 pub decl-stmt-requires : goal.decl-stmt-requires
-decl-stmt-requires t c = (omega (arith, c.requires.0), (c.requires.1.0, c.requires.1.1))
+decl-stmt-requires t c = (omega (arith, c.decreases), (c.requires.0, c.requires.1))
 
 pub decl-returns : goal.decl-returns
 unfolding decl_of
 decl-returns t c =
     record {
-      tells = λ E e t. let p0 = begin 1 (λ x. decl_of x (walkers x c.args.depth)) E e c.requires.1.0 in
+      tells = λ E e t. let p0 = begin 1 (λ x. decl_of x (walkers x c.args.depth)) E e c.requires.0 in
           let p1 = read _ p0 in
           let n1 = no _ _ p1 (test (λ k. eqb k 34) p1 (ne_eqb _ _ (λ z. c.if-k-eq-VAR.false (c.kind_at-k.ensures ∙ z)))) in
           let n2 = no _ _ n1 (test (λ k. eqb k 35) n1 (ne_eqb _ _ (λ z. c.if-k-eq-FN.false (c.kind_at-k.ensures ∙ z)))) in
@@ -269,7 +269,7 @@ decl-returns t c =
     }
 
 pub decls-loop-lim-init : goal.decls-loop-lim-init
-decls-loop-lim-init t c = (turning (λ x f. decls_of x (walkers x c.args.depth) f 0) c.requires.1.0 c.requires.1.1, omega arith)
+decls-loop-lim-init t c = (turning (λ x f. decls_of x (walkers x c.args.depth) f 0) c.requires.0 c.requires.1, omega arith)
 
 pub decls-kind_at-requires : goal.decls-kind_at-requires
 decls-kind_at-requires t c = c.loop-lim.invariant.0.is.stands.here
@@ -278,7 +278,7 @@ pub decls-returns-then-ends_decls : goal.decls-returns-then-ends_decls
 unfolding decls_of
 decls-returns-then-ends_decls t c = (
   record {
-    tells = λ E e t. let g0 = turns c.loop-lim.invariant.0 (begin 0 (λ x. decls_of x (walkers x c.args.depth) (fuel x) 0) E e c.requires.1.0) t in
+    tells = λ E e t. let g0 = turns c.loop-lim.invariant.0 (begin 0 (λ x. decls_of x (walkers x c.args.depth) (fuel x) 0) E e c.requires.0) t in
         let p1 = read _ g0.at in
         told g0.notes (counted (yes _ _ p1 (test (λ k. eqb k 4 || eqb k 47) p1 (ap (λ k. eqb k 4 || eqb k 47) (sym c.kind_at.ensures) ∙ sym c.ends_decls.ensures ∙ c.if-ends_decls.true))) c.with_count.ensures);
   },
@@ -286,13 +286,13 @@ decls-returns-then-ends_decls t c = (
 )
 
 pub decls-decl-one-requires : goal.decls-decl-one-requires
-decls-decl-one-requires t c = (omega (arith, c.requires.0), (c.loop-lim.invariant.0.is, c.loop-lim.invariant.0.book))
+decls-decl-one-requires t c = (omega (arith, c.decreases), (c.loop-lim.invariant.0.is, c.loop-lim.invariant.0.book))
 
 pub decls-returns-in_default : goal.decls-returns-in_default
 unfolding decls_of
 decls-returns-in_default t c = (
   record {
-    tells = λ E e t. let g0 = turns c.loop-lim.invariant.0 (begin 0 (λ x. decls_of x (walkers x c.args.depth) (fuel x) 0) E e c.requires.1.0) t in
+    tells = λ E e t. let g0 = turns c.loop-lim.invariant.0 (begin 0 (λ x. decls_of x (walkers x c.args.depth) (fuel x) 0) E e c.requires.0) t in
         let p1 = read _ g0.at in
         let p2 = no _ _ p1 (test (λ k. eqb k 4 || eqb k 47) p1 (ap (λ k. eqb k 4 || eqb k 47) (sym c.kind_at.ensures) ∙ sym c.ends_decls.ensures ∙ c.if-ends_decls.false)) in
         stops 1 (λ x. decl_of x (walkers x c.args.depth)) _ p2 refl (omega arith) g0.notes c.decl-one.ensures (not_done _ c.in_default.in_default-own.keys2);
@@ -318,25 +318,25 @@ decls-loop-lim-preserved t c = (
 )
 
 pub elif_stmt-consume-passed-requires : goal.elif_stmt-consume-passed-requires
-elif_stmt-consume-passed-requires t c = c.requires.1.0.stands
+elif_stmt-consume-passed-requires t c = c.requires.0.stands
 
 pub elif_stmt-returns-in_default : goal.elif_stmt-returns-in_default
 unfolding elif_stmt
 elif_stmt-returns-in_default t c =
     record {
-      tells = λ E e t. let p0 = begin 1 (λ x. elif_stmt x (walkers x c.args.depth)) E e c.requires.1.0 in
-          told t (stop 1 (λ x. consume x) _ p0 refl (omega arith) (pass p0.is c.consume-passed.ensures (λ z. let v : ⊥ = omega (arith, c.requires.1.2, z) in
+      tells = λ E e t. let p0 = begin 1 (λ x. elif_stmt x (walkers x c.args.depth)) E e c.requires.0 in
+          told t (stop 1 (λ x. consume x) _ p0 refl (omega arith) (pass p0.is c.consume-passed.ensures (λ z. let v : ⊥ = omega (arith, c.requires.2, z) in
           v)) (not_done _ c.in_default.in_default-own.keys2));
     }
 
 pub elif_stmt-expr-test-requires : goal.elif_stmt-expr-test-requires
 unfolding elif_stmt
 elif_stmt-expr-test-requires t c =
-    let E = c.requires.1.1.errs in
-    let e = c.requires.1.1.count in
-    let t = c.requires.1.1.notes in
-    let p0 = begin 1 (λ x. elif_stmt x (walkers x c.args.depth)) E e c.requires.1.0 in
-    let p1 = go 1 (λ x. consume x) _ p0 refl (pass p0.is c.consume-passed.ensures (λ z. let v : ⊥ = omega (arith, c.requires.1.2, z) in
+    let E = c.requires.1.errs in
+    let e = c.requires.1.count in
+    let t = c.requires.1.notes in
+    let p0 = begin 1 (λ x. elif_stmt x (walkers x c.args.depth)) E e c.requires.0 in
+    let p1 = go 1 (λ x. consume x) _ p0 refl (pass p0.is c.consume-passed.ensures (λ z. let v : ⊥ = omega (arith, c.requires.2, z) in
     v)) same c.in-Done.is in
     p1.is
 
@@ -344,8 +344,8 @@ pub elif_stmt-returns-in_default-test : goal.elif_stmt-returns-in_default-test
 unfolding elif_stmt
 elif_stmt-returns-in_default-test t c =
     record {
-      tells = λ E e t. let p0 = begin 1 (λ x. elif_stmt x (walkers x c.args.depth)) E e c.requires.1.0 in
-          let p1 = go 1 (λ x. consume x) _ p0 refl (pass p0.is c.consume-passed.ensures (λ z. let v : ⊥ = omega (arith, c.requires.1.2, z) in
+      tells = λ E e t. let p0 = begin 1 (λ x. elif_stmt x (walkers x c.args.depth)) E e c.requires.0 in
+          let p1 = go 1 (λ x. consume x) _ p0 refl (pass p0.is c.consume-passed.ensures (λ z. let v : ⊥ = omega (arith, c.requires.2, z) in
           v)) same c.in-Done.is in
           told t (stop 1 (λ x. (walkers x c.args.depth).assign) _ p1 refl (omega arith) c.expr-test.ensures (not_done _ c.in_default-test.in_default-test-own.keys2));
     }
@@ -353,21 +353,21 @@ elif_stmt-returns-in_default-test t c =
 pub elif_stmt-block-body-requires : goal.elif_stmt-block-body-requires
 unfolding elif_stmt
 elif_stmt-block-body-requires t c =
-    let E = c.requires.1.1.errs in
-    let e = c.requires.1.1.count in
-    let t = c.requires.1.1.notes in
-    let p0 = begin 1 (λ x. elif_stmt x (walkers x c.args.depth)) E e c.requires.1.0 in
-    let p1 = go 1 (λ x. consume x) _ p0 refl (pass p0.is c.consume-passed.ensures (λ z. let v : ⊥ = omega (arith, c.requires.1.2, z) in
+    let E = c.requires.1.errs in
+    let e = c.requires.1.count in
+    let t = c.requires.1.notes in
+    let p0 = begin 1 (λ x. elif_stmt x (walkers x c.args.depth)) E e c.requires.0 in
+    let p1 = go 1 (λ x. consume x) _ p0 refl (pass p0.is c.consume-passed.ensures (λ z. let v : ⊥ = omega (arith, c.requires.2, z) in
     v)) same c.in-Done.is in
     let p2 = go 1 (λ x. (walkers x c.args.depth).assign) _ p1 refl c.expr-test.ensures (kept c.expr-test.auto) c.in-Done-test.is in
-    (omega (arith, c.requires.0), (p2.is, book c.requires.1.1 t p2, tt))
+    (omega (arith, c.decreases), (p2.is, book c.requires.1 t p2, tt))
 
 pub elif_stmt-returns-in_default-body : goal.elif_stmt-returns-in_default-body
 unfolding elif_stmt
 elif_stmt-returns-in_default-body t c =
     record {
-      tells = λ E e t. let p0 = begin 1 (λ x. elif_stmt x (walkers x c.args.depth)) E e c.requires.1.0 in
-          let p1 = go 1 (λ x. consume x) _ p0 refl (pass p0.is c.consume-passed.ensures (λ z. let v : ⊥ = omega (arith, c.requires.1.2, z) in
+      tells = λ E e t. let p0 = begin 1 (λ x. elif_stmt x (walkers x c.args.depth)) E e c.requires.0 in
+          let p1 = go 1 (λ x. consume x) _ p0 refl (pass p0.is c.consume-passed.ensures (λ z. let v : ⊥ = omega (arith, c.requires.2, z) in
           v)) same c.in-Done.is in
           let p2 = go 1 (λ x. (walkers x c.args.depth).assign) _ p1 refl c.expr-test.ensures (kept c.expr-test.auto) c.in-Done-test.is in
           stops 0 (λ x. (walkers x c.args.depth).block false []) _ p2 refl (omega arith) t (c.block-body.ensures.does 0 (omega arith) (λ z. refl)) (not_done _ c.in_default-body.in_default-body-own.keys2);
@@ -376,11 +376,11 @@ elif_stmt-returns-in_default-body t c =
 pub elif_stmt-push_node-requires : goal.elif_stmt-push_node-requires
 unfolding elif_stmt
 elif_stmt-push_node-requires t c =
-    let E = c.requires.1.1.errs in
-    let e = c.requires.1.1.count in
-    let t = c.requires.1.1.notes in
-    let p0 = begin 1 (λ x. elif_stmt x (walkers x c.args.depth)) E e c.requires.1.0 in
-    let p1 = go 1 (λ x. consume x) _ p0 refl (pass p0.is c.consume-passed.ensures (λ z. let v : ⊥ = omega (arith, c.requires.1.2, z) in
+    let E = c.requires.1.errs in
+    let e = c.requires.1.count in
+    let t = c.requires.1.notes in
+    let p0 = begin 1 (λ x. elif_stmt x (walkers x c.args.depth)) E e c.requires.0 in
+    let p1 = go 1 (λ x. consume x) _ p0 refl (pass p0.is c.consume-passed.ensures (λ z. let v : ⊥ = omega (arith, c.requires.2, z) in
     v)) same c.in-Done.is in
     let p2 = go 1 (λ x. (walkers x c.args.depth).assign) _ p1 refl c.expr-test.ensures (kept c.expr-test.auto) c.in-Done-test.is in
     let g3 = goes 0 (λ x. (walkers x c.args.depth).block false []) _ p2 refl t (c.block-body.ensures.does 0 (omega arith) (λ z. refl)) (kept c.block-body.auto) c.in-Done-body.is in
@@ -390,8 +390,8 @@ pub elif_stmt-returns : goal.elif_stmt-returns
 unfolding elif_stmt
 elif_stmt-returns t c =
     record {
-      tells = λ E e t. let p0 = begin 1 (λ x. elif_stmt x (walkers x c.args.depth)) E e c.requires.1.0 in
-          let p1 = go 1 (λ x. consume x) _ p0 refl (pass p0.is c.consume-passed.ensures (λ z. let v : ⊥ = omega (arith, c.requires.1.2, z) in
+      tells = λ E e t. let p0 = begin 1 (λ x. elif_stmt x (walkers x c.args.depth)) E e c.requires.0 in
+          let p1 = go 1 (λ x. consume x) _ p0 refl (pass p0.is c.consume-passed.ensures (λ z. let v : ⊥ = omega (arith, c.requires.2, z) in
           v)) same c.in-Done.is in
           let p2 = go 1 (λ x. (walkers x c.args.depth).assign) _ p1 refl c.expr-test.ensures (kept c.expr-test.auto) c.in-Done-test.is in
           let g3 = goes 0 (λ x. (walkers x c.args.depth).block false []) _ p2 refl t (c.block-body.ensures.does 0 (omega arith) (λ z. refl)) (kept c.block-body.auto) c.in-Done-body.is in
@@ -399,76 +399,76 @@ elif_stmt-returns t c =
     }
 
 pub else_block-consume-passed-requires : goal.else_block-consume-passed-requires
-else_block-consume-passed-requires t c = c.requires.1.0.stands
+else_block-consume-passed-requires t c = c.requires.0.stands
 
 pub else_block-returns-in_default : goal.else_block-returns-in_default
 unfolding else_block
 else_block-returns-in_default t c =
     record {
-      tells = λ E e t. let p0 = begin 1 (λ x. else_block x (walkers x c.args.depth)) E e c.requires.1.0 in
-          told t (stop 1 (λ x. consume x) _ p0 refl (omega arith) (pass p0.is c.consume-passed.ensures (λ z. let v : ⊥ = omega (arith, c.requires.1.2, z) in
+      tells = λ E e t. let p0 = begin 1 (λ x. else_block x (walkers x c.args.depth)) E e c.requires.0 in
+          told t (stop 1 (λ x. consume x) _ p0 refl (omega arith) (pass p0.is c.consume-passed.ensures (λ z. let v : ⊥ = omega (arith, c.requires.2, z) in
           v)) (not_done _ c.in_default.in_default-own.keys2));
     }
 
 pub else_block-block-requires : goal.else_block-block-requires
 unfolding else_block
 else_block-block-requires t c =
-    let E = c.requires.1.1.errs in
-    let e = c.requires.1.1.count in
-    let t = c.requires.1.1.notes in
-    let p0 = begin 1 (λ x. else_block x (walkers x c.args.depth)) E e c.requires.1.0 in
-    let p1 = go 1 (λ x. consume x) _ p0 refl (pass p0.is c.consume-passed.ensures (λ z. let v : ⊥ = omega (arith, c.requires.1.2, z) in
+    let E = c.requires.1.errs in
+    let e = c.requires.1.count in
+    let t = c.requires.1.notes in
+    let p0 = begin 1 (λ x. else_block x (walkers x c.args.depth)) E e c.requires.0 in
+    let p1 = go 1 (λ x. consume x) _ p0 refl (pass p0.is c.consume-passed.ensures (λ z. let v : ⊥ = omega (arith, c.requires.2, z) in
     v)) same c.in-Done.is in
-    (omega (arith, c.requires.0), (p1.is, book c.requires.1.1 t p1, tt))
+    (omega (arith, c.decreases), (p1.is, book c.requires.1 t p1, tt))
 
 pub else_block-returns : goal.else_block-returns
 unfolding else_block
 else_block-returns t c =
     record {
-      tells = λ E e t. let p0 = begin 1 (λ x. else_block x (walkers x c.args.depth)) E e c.requires.1.0 in
-          let p1 = go 1 (λ x. consume x) _ p0 refl (pass p0.is c.consume-passed.ensures (λ z. let v : ⊥ = omega (arith, c.requires.1.2, z) in
+      tells = λ E e t. let p0 = begin 1 (λ x. else_block x (walkers x c.args.depth)) E e c.requires.0 in
+          let p1 = go 1 (λ x. consume x) _ p0 refl (pass p0.is c.consume-passed.ensures (λ z. let v : ⊥ = omega (arith, c.requires.2, z) in
           v)) same c.in-Done.is in
           lasts 0 (λ x. (walkers x c.args.depth).block false []) p1 refl (omega arith) t (c.block.ensures.does 0 (omega arith) (λ z. refl));
     }
 
 pub fn_decl-expect-begun-requires : goal.fn_decl-expect-begun-requires
-fn_decl-expect-begun-requires t c = c.requires.1.0.stands
+fn_decl-expect-begun-requires t c = c.requires.0.stands
 
 pub fn_decl-returns-in_default : goal.fn_decl-returns-in_default
 unfolding fn_decl
 fn_decl-returns-in_default t c =
     record {
-      tells = λ E e t. let p0 = begin 1 (λ x. fn_decl x (walkers x c.args.depth)) E e c.requires.1.0 in
-          told t (stop 1 (λ x. expect x 35) _ p0 refl (omega arith) (taken p0.is c.expect-begun.ensures c.requires.1.2 (λ z. omega arith)) (not_done _ c.in_default.in_default-own.keys2));
+      tells = λ E e t. let p0 = begin 1 (λ x. fn_decl x (walkers x c.args.depth)) E e c.requires.0 in
+          told t (stop 1 (λ x. expect x 35) _ p0 refl (omega arith) (taken p0.is c.expect-begun.ensures c.requires.2 (λ z. omega arith)) (not_done _ c.in_default.in_default-own.keys2));
     }
 
 pub fn_decl-match_ident-named-requires : goal.fn_decl-match_ident-named-requires
 unfolding fn_decl
 fn_decl-match_ident-named-requires t c =
-    let E = c.requires.1.1.errs in
-    let e = c.requires.1.1.count in
-    let t = c.requires.1.1.notes in
-    let p0 = begin 1 (λ x. fn_decl x (walkers x c.args.depth)) E e c.requires.1.0 in
-    let p1 = go 1 (λ x. expect x 35) _ p0 refl (taken p0.is c.expect-begun.ensures c.requires.1.2 (λ z. omega arith)) same c.in-Done.is in
+    let E = c.requires.1.errs in
+    let e = c.requires.1.count in
+    let t = c.requires.1.notes in
+    let p0 = begin 1 (λ x. fn_decl x (walkers x c.args.depth)) E e c.requires.0 in
+    let p1 = go 1 (λ x. expect x 35) _ p0 refl (taken p0.is c.expect-begun.ensures c.requires.2 (λ z. omega arith)) same c.in-Done.is in
     (p1.is.stands, refl)
 
 pub fn_decl-returns-in_default-named : goal.fn_decl-returns-in_default-named
 unfolding fn_decl
 fn_decl-returns-in_default-named t c =
     record {
-      tells = λ E e t. let p0 = begin 1 (λ x. fn_decl x (walkers x c.args.depth)) E e c.requires.1.0 in
-          let p1 = go 1 (λ x. expect x 35) _ p0 refl (taken p0.is c.expect-begun.ensures c.requires.1.2 (λ z. omega arith)) same c.in-Done.is in
+      tells = λ E e t. let p0 = begin 1 (λ x. fn_decl x (walkers x c.args.depth)) E e c.requires.0 in
+          let p1 = go 1 (λ x. expect x 35) _ p0 refl (taken p0.is c.expect-begun.ensures c.requires.2 (λ z. omega arith)) same c.in-Done.is in
           told t (stop 0 (λ x. ident x ExpectedIdent) _ p1 refl (omega arith) (named ExpectedIdent p1.is c.match_ident-named.ensures refl) (not_done _ c.in_default-named.in_default-named-own.keys2));
     }
 
 pub fn_decl-store_name-stored-requires : goal.fn_decl-store_name-stored-requires
 unfolding fn_decl
 fn_decl-store_name-stored-requires t c =
-    let E = c.requires.1.1.errs in
-    let e = c.requires.1.1.count in
-    let t = c.requires.1.1.notes in
-    let p0 = begin 1 (λ x. fn_decl x (walkers x c.args.depth)) E e c.requires.1.0 in
-    let p1 = go 1 (λ x. expect x 35) _ p0 refl (taken p0.is c.expect-begun.ensures c.requires.1.2 (λ z. omega arith)) same c.in-Done.is in
+    let E = c.requires.1.errs in
+    let e = c.requires.1.count in
+    let t = c.requires.1.notes in
+    let p0 = begin 1 (λ x. fn_decl x (walkers x c.args.depth)) E e c.requires.0 in
+    let p1 = go 1 (λ x. expect x 35) _ p0 refl (taken p0.is c.expect-begun.ensures c.requires.2 (λ z. omega arith)) same c.in-Done.is in
     let p2 = go 0 (λ x. ident x ExpectedIdent) _ p1 refl (named ExpectedIdent p1.is c.match_ident-named.ensures refl) same c.in-Done-named.is in
     fits-holder p2.is (omega (arith, p1.is.stands.here, p1.is.stands.toks.few))
 
@@ -476,8 +476,8 @@ pub fn_decl-returns-in_default-stored : goal.fn_decl-returns-in_default-stored
 unfolding fn_decl
 fn_decl-returns-in_default-stored t c =
     record {
-      tells = λ E e t. let p0 = begin 1 (λ x. fn_decl x (walkers x c.args.depth)) E e c.requires.1.0 in
-          let p1 = go 1 (λ x. expect x 35) _ p0 refl (taken p0.is c.expect-begun.ensures c.requires.1.2 (λ z. omega arith)) same c.in-Done.is in
+      tells = λ E e t. let p0 = begin 1 (λ x. fn_decl x (walkers x c.args.depth)) E e c.requires.0 in
+          let p1 = go 1 (λ x. expect x 35) _ p0 refl (taken p0.is c.expect-begun.ensures c.requires.2 (λ z. omega arith)) same c.in-Done.is in
           let p2 = go 0 (λ x. ident x ExpectedIdent) _ p1 refl (named ExpectedIdent p1.is c.match_ident-named.ensures refl) same c.in-Done-named.is in
           told t (stop 0 (λ x. store x c.in-Done.x.at Placeholder) _ p2 refl (omega arith) (put p2.is c.store_name-stored.ensures) (not_done _ c.in_default-stored.in_default-stored-own.keys2));
     }
@@ -485,11 +485,11 @@ fn_decl-returns-in_default-stored t c =
 pub fn_decl-expect-paren-requires : goal.fn_decl-expect-paren-requires
 unfolding fn_decl
 fn_decl-expect-paren-requires t c =
-    let E = c.requires.1.1.errs in
-    let e = c.requires.1.1.count in
-    let t = c.requires.1.1.notes in
-    let p0 = begin 1 (λ x. fn_decl x (walkers x c.args.depth)) E e c.requires.1.0 in
-    let p1 = go 1 (λ x. expect x 35) _ p0 refl (taken p0.is c.expect-begun.ensures c.requires.1.2 (λ z. omega arith)) same c.in-Done.is in
+    let E = c.requires.1.errs in
+    let e = c.requires.1.count in
+    let t = c.requires.1.notes in
+    let p0 = begin 1 (λ x. fn_decl x (walkers x c.args.depth)) E e c.requires.0 in
+    let p1 = go 1 (λ x. expect x 35) _ p0 refl (taken p0.is c.expect-begun.ensures c.requires.2 (λ z. omega arith)) same c.in-Done.is in
     let p2 = go 0 (λ x. ident x ExpectedIdent) _ p1 refl (named ExpectedIdent p1.is c.match_ident-named.ensures refl) same c.in-Done-named.is in
     let p3 = go 0 (λ x. store x c.in-Done.x.at Placeholder) _ p2 refl (put p2.is c.store_name-stored.ensures) (kept-symbols c.store_name-stored.auto.1.1.1.0) c.in-Done-stored.is in
     p3.is.stands
@@ -498,8 +498,8 @@ pub fn_decl-returns-in_default-paren : goal.fn_decl-returns-in_default-paren
 unfolding fn_decl
 fn_decl-returns-in_default-paren t c =
     record {
-      tells = λ E e t. let p0 = begin 1 (λ x. fn_decl x (walkers x c.args.depth)) E e c.requires.1.0 in
-          let p1 = go 1 (λ x. expect x 35) _ p0 refl (taken p0.is c.expect-begun.ensures c.requires.1.2 (λ z. omega arith)) same c.in-Done.is in
+      tells = λ E e t. let p0 = begin 1 (λ x. fn_decl x (walkers x c.args.depth)) E e c.requires.0 in
+          let p1 = go 1 (λ x. expect x 35) _ p0 refl (taken p0.is c.expect-begun.ensures c.requires.2 (λ z. omega arith)) same c.in-Done.is in
           let p2 = go 0 (λ x. ident x ExpectedIdent) _ p1 refl (named ExpectedIdent p1.is c.match_ident-named.ensures refl) same c.in-Done-named.is in
           let p3 = go 0 (λ x. store x c.in-Done.x.at Placeholder) _ p2 refl (put p2.is c.store_name-stored.ensures) (kept-symbols c.store_name-stored.auto.1.1.1.0) c.in-Done-stored.is in
           told t (stop 0 (λ x. expect x 1) _ p3 refl (omega arith) (expected p3.is c.expect-paren.ensures) (not_done _ c.in_default-paren.in_default-paren-own.keys2));
@@ -508,11 +508,11 @@ fn_decl-returns-in_default-paren t c =
 pub fn_decl-param_list-params-requires : goal.fn_decl-param_list-params-requires
 unfolding fn_decl
 fn_decl-param_list-params-requires t c =
-    let E = c.requires.1.1.errs in
-    let e = c.requires.1.1.count in
-    let t = c.requires.1.1.notes in
-    let p0 = begin 1 (λ x. fn_decl x (walkers x c.args.depth)) E e c.requires.1.0 in
-    let p1 = go 1 (λ x. expect x 35) _ p0 refl (taken p0.is c.expect-begun.ensures c.requires.1.2 (λ z. omega arith)) same c.in-Done.is in
+    let E = c.requires.1.errs in
+    let e = c.requires.1.count in
+    let t = c.requires.1.notes in
+    let p0 = begin 1 (λ x. fn_decl x (walkers x c.args.depth)) E e c.requires.0 in
+    let p1 = go 1 (λ x. expect x 35) _ p0 refl (taken p0.is c.expect-begun.ensures c.requires.2 (λ z. omega arith)) same c.in-Done.is in
     let p2 = go 0 (λ x. ident x ExpectedIdent) _ p1 refl (named ExpectedIdent p1.is c.match_ident-named.ensures refl) same c.in-Done-named.is in
     let p3 = go 0 (λ x. store x c.in-Done.x.at Placeholder) _ p2 refl (put p2.is c.store_name-stored.ensures) (kept-symbols c.store_name-stored.auto.1.1.1.0) c.in-Done-stored.is in
     let p4 = go 0 (λ x. expect x 1) _ p3 refl (expected p3.is c.expect-paren.ensures) same c.in-Done-paren.is in
@@ -522,8 +522,8 @@ pub fn_decl-returns-in_default-params : goal.fn_decl-returns-in_default-params
 unfolding fn_decl
 fn_decl-returns-in_default-params t c =
     record {
-      tells = λ E e t. let p0 = begin 1 (λ x. fn_decl x (walkers x c.args.depth)) E e c.requires.1.0 in
-          let p1 = go 1 (λ x. expect x 35) _ p0 refl (taken p0.is c.expect-begun.ensures c.requires.1.2 (λ z. omega arith)) same c.in-Done.is in
+      tells = λ E e t. let p0 = begin 1 (λ x. fn_decl x (walkers x c.args.depth)) E e c.requires.0 in
+          let p1 = go 1 (λ x. expect x 35) _ p0 refl (taken p0.is c.expect-begun.ensures c.requires.2 (λ z. omega arith)) same c.in-Done.is in
           let p2 = go 0 (λ x. ident x ExpectedIdent) _ p1 refl (named ExpectedIdent p1.is c.match_ident-named.ensures refl) same c.in-Done-named.is in
           let p3 = go 0 (λ x. store x c.in-Done.x.at Placeholder) _ p2 refl (put p2.is c.store_name-stored.ensures) (kept-symbols c.store_name-stored.auto.1.1.1.0) c.in-Done-stored.is in
           let p4 = go 0 (λ x. expect x 1) _ p3 refl (expected p3.is c.expect-paren.ensures) same c.in-Done-paren.is in
@@ -533,23 +533,23 @@ fn_decl-returns-in_default-params t c =
 pub fn_decl-fn_rest-requires : goal.fn_decl-fn_rest-requires
 unfolding fn_decl
 fn_decl-fn_rest-requires t c =
-    let E = c.requires.1.1.errs in
-    let e = c.requires.1.1.count in
-    let t = c.requires.1.1.notes in
-    let p0 = begin 1 (λ x. fn_decl x (walkers x c.args.depth)) E e c.requires.1.0 in
-    let p1 = go 1 (λ x. expect x 35) _ p0 refl (taken p0.is c.expect-begun.ensures c.requires.1.2 (λ z. omega arith)) same c.in-Done.is in
+    let E = c.requires.1.errs in
+    let e = c.requires.1.count in
+    let t = c.requires.1.notes in
+    let p0 = begin 1 (λ x. fn_decl x (walkers x c.args.depth)) E e c.requires.0 in
+    let p1 = go 1 (λ x. expect x 35) _ p0 refl (taken p0.is c.expect-begun.ensures c.requires.2 (λ z. omega arith)) same c.in-Done.is in
     let p2 = go 0 (λ x. ident x ExpectedIdent) _ p1 refl (named ExpectedIdent p1.is c.match_ident-named.ensures refl) same c.in-Done-named.is in
     let p3 = go 0 (λ x. store x c.in-Done.x.at Placeholder) _ p2 refl (put p2.is c.store_name-stored.ensures) (kept-symbols c.store_name-stored.auto.1.1.1.0) c.in-Done-stored.is in
     let p4 = go 0 (λ x. expect x 1) _ p3 refl (expected p3.is c.expect-paren.ensures) same c.in-Done-paren.is in
     let p5 = go 0 (λ x. param_list x (param x) (fuel x) 0) _ p4 refl c.param_list-params.ensures.0 (kept c.param_list-params.auto) c.in-Done-params.is in
-    (omega (arith, c.requires.0), (p5.is, book c.requires.1.1 t p5, omega (arith, p1.is.stands.here, p1.is.stands.toks.few), count_at c.param_list-params.ensures.1 c.in-Done-params.is, count-used c.param_list-params.ensures.2 c.in-Done-params.is))
+    (omega (arith, c.decreases), (p5.is, book c.requires.1 t p5, omega (arith, p1.is.stands.here, p1.is.stands.toks.few), count_at c.param_list-params.ensures.1 c.in-Done-params.is, count-used c.param_list-params.ensures.2 c.in-Done-params.is))
 
 pub fn_decl-returns : goal.fn_decl-returns
 unfolding fn_decl
 fn_decl-returns t c =
     record {
-      tells = λ E e t. let p0 = begin 1 (λ x. fn_decl x (walkers x c.args.depth)) E e c.requires.1.0 in
-          let p1 = go 1 (λ x. expect x 35) _ p0 refl (taken p0.is c.expect-begun.ensures c.requires.1.2 (λ z. omega arith)) same c.in-Done.is in
+      tells = λ E e t. let p0 = begin 1 (λ x. fn_decl x (walkers x c.args.depth)) E e c.requires.0 in
+          let p1 = go 1 (λ x. expect x 35) _ p0 refl (taken p0.is c.expect-begun.ensures c.requires.2 (λ z. omega arith)) same c.in-Done.is in
           let p2 = go 0 (λ x. ident x ExpectedIdent) _ p1 refl (named ExpectedIdent p1.is c.match_ident-named.ensures refl) same c.in-Done-named.is in
           let p3 = go 0 (λ x. store x c.in-Done.x.at Placeholder) _ p2 refl (put p2.is c.store_name-stored.ensures) (kept-symbols c.store_name-stored.auto.1.1.1.0) c.in-Done-stored.is in
           let p4 = go 0 (λ x. expect x 1) _ p3 refl (expected p3.is c.expect-paren.ensures) same c.in-Done-paren.is in
@@ -558,28 +558,28 @@ fn_decl-returns t c =
     }
 
 pub fn_rest-overflow_sub-first : goal.fn_rest-overflow_sub-first
-fn_rest-overflow_sub-first t c = omega (arith, c.requires.1.4)
+fn_rest-overflow_sub-first t c = omega (arith, c.requires.4)
 
 pub fn_rest-head_word-requires : goal.fn_rest-head_word-requires
-fn_rest-head_word-requires t c = (omega arith, omega (arith, c.requires.1.3))
+fn_rest-head_word-requires t c = (omega arith, omega (arith, c.requires.3))
 
 pub fn_rest-push_node-made-requires : goal.fn_rest-push_node-made-requires
-fn_rest-push_node-made-requires t c = (c.requires.1.0.even, c.requires.1.0.used)
+fn_rest-push_node-made-requires t c = (c.requires.0.even, c.requires.0.used)
 
 pub fn_rest-returns-in_default : goal.fn_rest-returns-in_default
 fn_rest-returns-in_default t c =
     record {
-      tells = λ E e t. let p0 = begin 0 (λ x. fn_rest x (walkers x c.args.depth) c.args.i c.args.n) E e c.requires.1.0 in
+      tells = λ E e t. let p0 = begin 0 (λ x. fn_rest x (walkers x c.args.depth) c.args.i c.args.n) E e c.requires.0 in
           let p1 = read _ p0 in
           told t (stop 0 (λ x. push x 10 false c.args.n 0) _ p1 refl (omega arith) (pushed-as p1.is c.head_word.ensures c.push_node-made.ensures) (not_done _ c.in_default.in_default-own.keys2));
     }
 
 pub fn_rest-expect-paren-requires : goal.fn_rest-expect-paren-requires
 fn_rest-expect-paren-requires t c =
-    let E = c.requires.1.1.errs in
-    let e = c.requires.1.1.count in
-    let t = c.requires.1.1.notes in
-    let p0 = begin 0 (λ x. fn_rest x (walkers x c.args.depth) c.args.i c.args.n) E e c.requires.1.0 in
+    let E = c.requires.1.errs in
+    let e = c.requires.1.count in
+    let t = c.requires.1.notes in
+    let p0 = begin 0 (λ x. fn_rest x (walkers x c.args.depth) c.args.i c.args.n) E e c.requires.0 in
     let p1 = read _ p0 in
     let p2 = go 0 (λ x. push x 10 false c.args.n 0) _ p1 refl (pushed-as p1.is c.head_word.ensures c.push_node-made.ensures) (kept-nodes c.push_node-made.auto.0 c.push_node-made.auto.1.0) c.in-Done.is in
     p2.is.stands
@@ -587,7 +587,7 @@ fn_rest-expect-paren-requires t c =
 pub fn_rest-returns-in_default-paren : goal.fn_rest-returns-in_default-paren
 fn_rest-returns-in_default-paren t c =
     record {
-      tells = λ E e t. let p0 = begin 0 (λ x. fn_rest x (walkers x c.args.depth) c.args.i c.args.n) E e c.requires.1.0 in
+      tells = λ E e t. let p0 = begin 0 (λ x. fn_rest x (walkers x c.args.depth) c.args.i c.args.n) E e c.requires.0 in
           let p1 = read _ p0 in
           let p2 = go 0 (λ x. push x 10 false c.args.n 0) _ p1 refl (pushed-as p1.is c.head_word.ensures c.push_node-made.ensures) (kept-nodes c.push_node-made.auto.0 c.push_node-made.auto.1.0) c.in-Done.is in
           told t (stop 0 (λ x. expect x 2) _ p2 refl (omega arith) (expected p2.is c.expect-paren.ensures) (not_done _ c.in_default-paren.in_default-paren-own.keys2));
@@ -595,114 +595,114 @@ fn_rest-returns-in_default-paren t c =
 
 pub fn_rest-block-body-requires : goal.fn_rest-block-body-requires
 fn_rest-block-body-requires t c =
-    let E = c.requires.1.1.errs in
-    let e = c.requires.1.1.count in
-    let t = c.requires.1.1.notes in
-    let p0 = begin 0 (λ x. fn_rest x (walkers x c.args.depth) c.args.i c.args.n) E e c.requires.1.0 in
+    let E = c.requires.1.errs in
+    let e = c.requires.1.count in
+    let t = c.requires.1.notes in
+    let p0 = begin 0 (λ x. fn_rest x (walkers x c.args.depth) c.args.i c.args.n) E e c.requires.0 in
     let p1 = read _ p0 in
     let p2 = go 0 (λ x. push x 10 false c.args.n 0) _ p1 refl (pushed-as p1.is c.head_word.ensures c.push_node-made.ensures) (kept-nodes c.push_node-made.auto.0 c.push_node-made.auto.1.0) c.in-Done.is in
     let p3 = go 0 (λ x. expect x 2) _ p2 refl (expected p2.is c.expect-paren.ensures) same c.in-Done-paren.is in
-    (omega (arith, c.requires.0), (p3.is, book c.requires.1.1 t p3, omega (arith, c.requires.1.0.used, c.push_node-made.auto.1.0, c.requires.1.0.even, c.requires.1.4)))
+    (omega (arith, c.decreases), (p3.is, book c.requires.1 t p3, omega (arith, c.requires.0.used, c.push_node-made.auto.1.0, c.requires.0.even, c.requires.4)))
 
 pub fn_rest-returns-in_default-body : goal.fn_rest-returns-in_default-body
 fn_rest-returns-in_default-body t c =
     record {
-      tells = λ E e t. let p0 = begin 0 (λ x. fn_rest x (walkers x c.args.depth) c.args.i c.args.n) E e c.requires.1.0 in
+      tells = λ E e t. let p0 = begin 0 (λ x. fn_rest x (walkers x c.args.depth) c.args.i c.args.n) E e c.requires.0 in
           let p1 = read _ p0 in
           let p2 = go 0 (λ x. push x 10 false c.args.n 0) _ p1 refl (pushed-as p1.is c.head_word.ensures c.push_node-made.ensures) (kept-nodes c.push_node-made.auto.0 c.push_node-made.auto.1.0) c.in-Done.is in
           let p3 = go 0 (λ x. expect x 2) _ p2 refl (expected p2.is c.expect-paren.ensures) same c.in-Done-paren.is in
-          let p4 = block-named c.args.depth true _ _ p3 (names-kept 10 c.args.n 0 false c.args.n c.requires.1.0 (pushed-as c.requires.1.0 c.head_word.ensures c.push_node-made.ensures) c.in-Done.is c.requires.1.4) in
+          let p4 = block-named c.args.depth true _ _ p3 (names-kept 10 c.args.n 0 false c.args.n c.requires.0 (pushed-as c.requires.0 c.head_word.ensures c.push_node-made.ensures) c.in-Done.is c.requires.4) in
           stops 0 _ _ p4 refl (omega arith) t (c.block-body.ensures.does 0 (omega arith) (λ z. refl)) (not_done _ c.in_default-body.in_default-body-own.keys2);
     }
 
 pub fn_rest-overflow_cast-i : goal.fn_rest-overflow_cast-i
-fn_rest-overflow_cast-i t c = omega (arith, c.requires.1.2)
+fn_rest-overflow_cast-i t c = omega (arith, c.requires.2)
 
 pub fn_rest-push_node-done-requires : goal.fn_rest-push_node-done-requires
 fn_rest-push_node-done-requires t c =
-    let E = c.requires.1.1.errs in
-    let e = c.requires.1.1.count in
-    let t = c.requires.1.1.notes in
-    let p0 = begin 0 (λ x. fn_rest x (walkers x c.args.depth) c.args.i c.args.n) E e c.requires.1.0 in
+    let E = c.requires.1.errs in
+    let e = c.requires.1.count in
+    let t = c.requires.1.notes in
+    let p0 = begin 0 (λ x. fn_rest x (walkers x c.args.depth) c.args.i c.args.n) E e c.requires.0 in
     let p1 = read _ p0 in
     let p2 = go 0 (λ x. push x 10 false c.args.n 0) _ p1 refl (pushed-as p1.is c.head_word.ensures c.push_node-made.ensures) (kept-nodes c.push_node-made.auto.0 c.push_node-made.auto.1.0) c.in-Done.is in
     let p3 = go 0 (λ x. expect x 2) _ p2 refl (expected p2.is c.expect-paren.ensures) same c.in-Done-paren.is in
-    let p4 = block-named c.args.depth true _ _ p3 (names-kept 10 c.args.n 0 false c.args.n c.requires.1.0 (pushed-as c.requires.1.0 c.head_word.ensures c.push_node-made.ensures) c.in-Done.is c.requires.1.4) in
+    let p4 = block-named c.args.depth true _ _ p3 (names-kept 10 c.args.n 0 false c.args.n c.requires.0 (pushed-as c.requires.0 c.head_word.ensures c.push_node-made.ensures) c.in-Done.is c.requires.4) in
     let g5 = goes 0 _ _ p4 refl t (c.block-body.ensures.does 0 (omega arith) (λ z. refl)) (kept c.block-body.auto) c.in-Done-body.is in
     (g5.at.is.even, g5.at.is.used)
 
 pub fn_rest-returns-in_default-done : goal.fn_rest-returns-in_default-done
 fn_rest-returns-in_default-done t c =
     record {
-      tells = λ E e t. let p0 = begin 0 (λ x. fn_rest x (walkers x c.args.depth) c.args.i c.args.n) E e c.requires.1.0 in
+      tells = λ E e t. let p0 = begin 0 (λ x. fn_rest x (walkers x c.args.depth) c.args.i c.args.n) E e c.requires.0 in
           let p1 = read _ p0 in
           let p2 = go 0 (λ x. push x 10 false c.args.n 0) _ p1 refl (pushed-as p1.is c.head_word.ensures c.push_node-made.ensures) (kept-nodes c.push_node-made.auto.0 c.push_node-made.auto.1.0) c.in-Done.is in
           let p3 = go 0 (λ x. expect x 2) _ p2 refl (expected p2.is c.expect-paren.ensures) same c.in-Done-paren.is in
-          let p4 = block-named c.args.depth true _ _ p3 (names-kept 10 c.args.n 0 false c.args.n c.requires.1.0 (pushed-as c.requires.1.0 c.head_word.ensures c.push_node-made.ensures) c.in-Done.is c.requires.1.4) in
+          let p4 = block-named c.args.depth true _ _ p3 (names-kept 10 c.args.n 0 false c.args.n c.requires.0 (pushed-as c.requires.0 c.head_word.ensures c.push_node-made.ensures) c.in-Done.is c.requires.4) in
           let g5 = goes 0 _ _ p4 refl t (c.block-body.ensures.does 0 (omega arith) (λ z. refl)) (kept c.block-body.auto) c.in-Done-body.is in
           told g5.notes (stop 0 (λ x. push x 9 false 2 c.args.i) _ g5.at refl (omega arith) (pushed g5.at.is c.push_node-done.ensures) (not_done _ c.in_default-done.in_default-done-own.keys2));
     }
 
 pub fn_rest-store_name-requires : goal.fn_rest-store_name-requires
 fn_rest-store_name-requires t c =
-    let E = c.requires.1.1.errs in
-    let e = c.requires.1.1.count in
-    let t = c.requires.1.1.notes in
-    let p0 = begin 0 (λ x. fn_rest x (walkers x c.args.depth) c.args.i c.args.n) E e c.requires.1.0 in
+    let E = c.requires.1.errs in
+    let e = c.requires.1.count in
+    let t = c.requires.1.notes in
+    let p0 = begin 0 (λ x. fn_rest x (walkers x c.args.depth) c.args.i c.args.n) E e c.requires.0 in
     let p1 = read _ p0 in
     let p2 = go 0 (λ x. push x 10 false c.args.n 0) _ p1 refl (pushed-as p1.is c.head_word.ensures c.push_node-made.ensures) (kept-nodes c.push_node-made.auto.0 c.push_node-made.auto.1.0) c.in-Done.is in
     let p3 = go 0 (λ x. expect x 2) _ p2 refl (expected p2.is c.expect-paren.ensures) same c.in-Done-paren.is in
-    let p4 = block-named c.args.depth true _ _ p3 (names-kept 10 c.args.n 0 false c.args.n c.requires.1.0 (pushed-as c.requires.1.0 c.head_word.ensures c.push_node-made.ensures) c.in-Done.is c.requires.1.4) in
+    let p4 = block-named c.args.depth true _ _ p3 (names-kept 10 c.args.n 0 false c.args.n c.requires.0 (pushed-as c.requires.0 c.head_word.ensures c.push_node-made.ensures) c.in-Done.is c.requires.4) in
     let g5 = goes 0 _ _ p4 refl t (c.block-body.ensures.does 0 (omega arith) (λ z. refl)) (kept c.block-body.auto) c.in-Done-body.is in
     let p6 = go 0 (λ x. push x 9 false 2 c.args.i) _ g5.at refl (pushed g5.at.is c.push_node-done.ensures) (kept-nodes c.push_node-done.auto.0 c.push_node-done.auto.1.0) c.in-Done-done.is in
-    fits-function p6.is c.requires.1.2 c.requires.1.3
+    fits-function p6.is c.requires.2 c.requires.3
 
 pub fn_rest-returns : goal.fn_rest-returns
 fn_rest-returns t c =
     record {
-      tells = λ E e t. let p0 = begin 0 (λ x. fn_rest x (walkers x c.args.depth) c.args.i c.args.n) E e c.requires.1.0 in
+      tells = λ E e t. let p0 = begin 0 (λ x. fn_rest x (walkers x c.args.depth) c.args.i c.args.n) E e c.requires.0 in
           let p1 = read _ p0 in
           let p2 = go 0 (λ x. push x 10 false c.args.n 0) _ p1 refl (pushed-as p1.is c.head_word.ensures c.push_node-made.ensures) (kept-nodes c.push_node-made.auto.0 c.push_node-made.auto.1.0) c.in-Done.is in
           let p3 = go 0 (λ x. expect x 2) _ p2 refl (expected p2.is c.expect-paren.ensures) same c.in-Done-paren.is in
-          let p4 = block-named c.args.depth true _ _ p3 (names-kept 10 c.args.n 0 false c.args.n c.requires.1.0 (pushed-as c.requires.1.0 c.head_word.ensures c.push_node-made.ensures) c.in-Done.is c.requires.1.4) in
+          let p4 = block-named c.args.depth true _ _ p3 (names-kept 10 c.args.n 0 false c.args.n c.requires.0 (pushed-as c.requires.0 c.head_word.ensures c.push_node-made.ensures) c.in-Done.is c.requires.4) in
           let g5 = goes 0 _ _ p4 refl t (c.block-body.ensures.does 0 (omega arith) (λ z. refl)) (kept c.block-body.auto) c.in-Done-body.is in
           let p6 = go 0 (λ x. push x 9 false 2 c.args.i) _ g5.at refl (pushed g5.at.is c.push_node-done.ensures) (kept-nodes c.push_node-done.auto.0 c.push_node-done.auto.1.0) c.in-Done-done.is in
           told g5.notes (last 0 (λ x. store x c.args.i (Function c.args.n)) p6 refl (omega arith) (put p6.is c.store_name.ensures));
     }
 
 pub for_rest-expr-range-requires : goal.for_rest-expr-range-requires
-for_rest-expr-range-requires t c = c.requires.1.0
+for_rest-expr-range-requires t c = c.requires.0
 
 pub for_rest-returns-in_default : goal.for_rest-returns-in_default
 for_rest-returns-in_default t c =
     record {
-      tells = λ E e t. let p0 = begin 0 (λ x. for_rest x (walkers x c.args.depth) c.args.i c.args.j) E e c.requires.1.0 in
+      tells = λ E e t. let p0 = begin 0 (λ x. for_rest x (walkers x c.args.depth) c.args.i c.args.j) E e c.requires.0 in
           told t (stop 1 (λ x. (walkers x c.args.depth).assign) _ p0 refl (omega arith) c.expr-range.ensures (not_done _ c.in_default.in_default-own.keys2));
     }
 
 pub for_rest-block-body-requires : goal.for_rest-block-body-requires
 for_rest-block-body-requires t c =
-    let E = c.requires.1.1.errs in
-    let e = c.requires.1.1.count in
-    let t = c.requires.1.1.notes in
-    let p0 = begin 0 (λ x. for_rest x (walkers x c.args.depth) c.args.i c.args.j) E e c.requires.1.0 in
+    let E = c.requires.1.errs in
+    let e = c.requires.1.count in
+    let t = c.requires.1.notes in
+    let p0 = begin 0 (λ x. for_rest x (walkers x c.args.depth) c.args.i c.args.j) E e c.requires.0 in
     let p1 = go 1 (λ x. (walkers x c.args.depth).assign) _ p0 refl c.expr-range.ensures (kept c.expr-range.auto) c.in-Done.is in
-    (omega (arith, c.requires.0), (p1.is, book c.requires.1.1 t p1, (c.requires.1.2, c.requires.1.3)))
+    (omega (arith, c.decreases), (p1.is, book c.requires.1 t p1, (c.requires.2, c.requires.3)))
 
 pub for_rest-returns-in_default-body : goal.for_rest-returns-in_default-body
 for_rest-returns-in_default-body t c =
     record {
-      tells = λ E e t. let p0 = begin 0 (λ x. for_rest x (walkers x c.args.depth) c.args.i c.args.j) E e c.requires.1.0 in
+      tells = λ E e t. let p0 = begin 0 (λ x. for_rest x (walkers x c.args.depth) c.args.i c.args.j) E e c.requires.0 in
           let p1 = go 1 (λ x. (walkers x c.args.depth).assign) _ p0 refl c.expr-range.ensures (kept c.expr-range.auto) c.in-Done.is in
           stops 0 (λ x. (walkers x c.args.depth).block false (c.args.i ∷ c.args.j ∷ [])) _ p1 refl (omega arith) t (c.block-body.ensures.does 0 (omega arith) (λ z. refl)) (not_done _ c.in_default-body.in_default-body-own.keys2);
     }
 
 pub for_rest-push_node-requires : goal.for_rest-push_node-requires
 for_rest-push_node-requires t c =
-    let E = c.requires.1.1.errs in
-    let e = c.requires.1.1.count in
-    let t = c.requires.1.1.notes in
-    let p0 = begin 0 (λ x. for_rest x (walkers x c.args.depth) c.args.i c.args.j) E e c.requires.1.0 in
+    let E = c.requires.1.errs in
+    let e = c.requires.1.count in
+    let t = c.requires.1.notes in
+    let p0 = begin 0 (λ x. for_rest x (walkers x c.args.depth) c.args.i c.args.j) E e c.requires.0 in
     let p1 = go 1 (λ x. (walkers x c.args.depth).assign) _ p0 refl c.expr-range.ensures (kept c.expr-range.auto) c.in-Done.is in
     let g2 = goes 0 (λ x. (walkers x c.args.depth).block false (c.args.i ∷ c.args.j ∷ [])) _ p1 refl t (c.block-body.ensures.does 0 (omega arith) (λ z. refl)) (kept c.block-body.auto) c.in-Done-body.is in
     (g2.at.is.even, g2.at.is.used)
@@ -710,50 +710,50 @@ for_rest-push_node-requires t c =
 pub for_rest-returns : goal.for_rest-returns
 for_rest-returns t c =
     record {
-      tells = λ E e t. let p0 = begin 0 (λ x. for_rest x (walkers x c.args.depth) c.args.i c.args.j) E e c.requires.1.0 in
+      tells = λ E e t. let p0 = begin 0 (λ x. for_rest x (walkers x c.args.depth) c.args.i c.args.j) E e c.requires.0 in
           let p1 = go 1 (λ x. (walkers x c.args.depth).assign) _ p0 refl c.expr-range.ensures (kept c.expr-range.auto) c.in-Done.is in
           let g2 = goes 0 (λ x. (walkers x c.args.depth).block false (c.args.i ∷ c.args.j ∷ [])) _ p1 refl t (c.block-body.ensures.does 0 (omega arith) (λ z. refl)) (kept c.block-body.auto) c.in-Done-body.is in
           told g2.notes (last 0 (λ x. push x 5 false 3 0) g2.at refl (omega arith) (pushed g2.at.is c.push_node.ensures));
     }
 
 pub for_stmt-expect-begun-requires : goal.for_stmt-expect-begun-requires
-for_stmt-expect-begun-requires t c = c.requires.1.0.stands
+for_stmt-expect-begun-requires t c = c.requires.0.stands
 
 pub for_stmt-returns-in_default : goal.for_stmt-returns-in_default
 unfolding for_stmt
 for_stmt-returns-in_default t c =
     record {
-      tells = λ E e t. let p0 = begin 1 (λ x. for_stmt x (walkers x c.args.depth)) E e c.requires.1.0 in
-          told t (stop 1 (λ x. expect x 42) _ p0 refl (omega arith) (taken p0.is c.expect-begun.ensures c.requires.1.2 (λ z. omega arith)) (not_done _ c.in_default.in_default-own.keys2));
+      tells = λ E e t. let p0 = begin 1 (λ x. for_stmt x (walkers x c.args.depth)) E e c.requires.0 in
+          told t (stop 1 (λ x. expect x 42) _ p0 refl (omega arith) (taken p0.is c.expect-begun.ensures c.requires.2 (λ z. omega arith)) (not_done _ c.in_default.in_default-own.keys2));
     }
 
 pub for_stmt-ident_pair-pair-requires : goal.for_stmt-ident_pair-pair-requires
 unfolding for_stmt
 for_stmt-ident_pair-pair-requires t c =
-    let E = c.requires.1.1.errs in
-    let e = c.requires.1.1.count in
-    let t = c.requires.1.1.notes in
-    let p0 = begin 1 (λ x. for_stmt x (walkers x c.args.depth)) E e c.requires.1.0 in
-    let p1 = go 1 (λ x. expect x 42) _ p0 refl (taken p0.is c.expect-begun.ensures c.requires.1.2 (λ z. omega arith)) same c.in-Done.is in
+    let E = c.requires.1.errs in
+    let e = c.requires.1.count in
+    let t = c.requires.1.notes in
+    let p0 = begin 1 (λ x. for_stmt x (walkers x c.args.depth)) E e c.requires.0 in
+    let p1 = go 1 (λ x. expect x 42) _ p0 refl (taken p0.is c.expect-begun.ensures c.requires.2 (λ z. omega arith)) same c.in-Done.is in
     p1.is
 
 pub for_stmt-returns-in_default-pair : goal.for_stmt-returns-in_default-pair
 unfolding for_stmt
 for_stmt-returns-in_default-pair t c =
     record {
-      tells = λ E e t. let p0 = begin 1 (λ x. for_stmt x (walkers x c.args.depth)) E e c.requires.1.0 in
-          let p1 = go 1 (λ x. expect x 42) _ p0 refl (taken p0.is c.expect-begun.ensures c.requires.1.2 (λ z. omega arith)) same c.in-Done.is in
+      tells = λ E e t. let p0 = begin 1 (λ x. for_stmt x (walkers x c.args.depth)) E e c.requires.0 in
+          let p1 = go 1 (λ x. expect x 42) _ p0 refl (taken p0.is c.expect-begun.ensures c.requires.2 (λ z. omega arith)) same c.in-Done.is in
           told t (stop 0 (λ x. ident_pair x) _ p1 refl (omega arith) c.ident_pair-pair.ensures.0 (not_done _ c.in_default-pair.in_default-pair-own.keys2));
     }
 
 pub for_stmt-expect-over-requires : goal.for_stmt-expect-over-requires
 unfolding for_stmt
 for_stmt-expect-over-requires t c =
-    let E = c.requires.1.1.errs in
-    let e = c.requires.1.1.count in
-    let t = c.requires.1.1.notes in
-    let p0 = begin 1 (λ x. for_stmt x (walkers x c.args.depth)) E e c.requires.1.0 in
-    let p1 = go 1 (λ x. expect x 42) _ p0 refl (taken p0.is c.expect-begun.ensures c.requires.1.2 (λ z. omega arith)) same c.in-Done.is in
+    let E = c.requires.1.errs in
+    let e = c.requires.1.count in
+    let t = c.requires.1.notes in
+    let p0 = begin 1 (λ x. for_stmt x (walkers x c.args.depth)) E e c.requires.0 in
+    let p1 = go 1 (λ x. expect x 42) _ p0 refl (taken p0.is c.expect-begun.ensures c.requires.2 (λ z. omega arith)) same c.in-Done.is in
     let p2 = go 0 (λ x. ident_pair x) _ p1 refl c.ident_pair-pair.ensures.0 (kept c.ident_pair-pair.auto) c.in-Done-pair.is in
     p2.is.stands
 
@@ -761,8 +761,8 @@ pub for_stmt-returns-in_default-over : goal.for_stmt-returns-in_default-over
 unfolding for_stmt
 for_stmt-returns-in_default-over t c =
     record {
-      tells = λ E e t. let p0 = begin 1 (λ x. for_stmt x (walkers x c.args.depth)) E e c.requires.1.0 in
-          let p1 = go 1 (λ x. expect x 42) _ p0 refl (taken p0.is c.expect-begun.ensures c.requires.1.2 (λ z. omega arith)) same c.in-Done.is in
+      tells = λ E e t. let p0 = begin 1 (λ x. for_stmt x (walkers x c.args.depth)) E e c.requires.0 in
+          let p1 = go 1 (λ x. expect x 42) _ p0 refl (taken p0.is c.expect-begun.ensures c.requires.2 (λ z. omega arith)) same c.in-Done.is in
           let p2 = go 0 (λ x. ident_pair x) _ p1 refl c.ident_pair-pair.ensures.0 (kept c.ident_pair-pair.auto) c.in-Done-pair.is in
           told t (stop 0 (λ x. expect x 43) _ p2 refl (omega arith) (expected p2.is c.expect-over.ensures) (not_done _ c.in_default-over.in_default-over-own.keys2));
     }
@@ -770,73 +770,73 @@ for_stmt-returns-in_default-over t c =
 pub for_stmt-for_rest-requires : goal.for_stmt-for_rest-requires
 unfolding for_stmt
 for_stmt-for_rest-requires t c =
-    let E = c.requires.1.1.errs in
-    let e = c.requires.1.1.count in
-    let t = c.requires.1.1.notes in
-    let p0 = begin 1 (λ x. for_stmt x (walkers x c.args.depth)) E e c.requires.1.0 in
-    let p1 = go 1 (λ x. expect x 42) _ p0 refl (taken p0.is c.expect-begun.ensures c.requires.1.2 (λ z. omega arith)) same c.in-Done.is in
+    let E = c.requires.1.errs in
+    let e = c.requires.1.count in
+    let t = c.requires.1.notes in
+    let p0 = begin 1 (λ x. for_stmt x (walkers x c.args.depth)) E e c.requires.0 in
+    let p1 = go 1 (λ x. expect x 42) _ p0 refl (taken p0.is c.expect-begun.ensures c.requires.2 (λ z. omega arith)) same c.in-Done.is in
     let p2 = go 0 (λ x. ident_pair x) _ p1 refl c.ident_pair-pair.ensures.0 (kept c.ident_pair-pair.auto) c.in-Done-pair.is in
     let p3 = go 0 (λ x. expect x 43) _ p2 refl (expected p2.is c.expect-over.ensures) same c.in-Done-over.is in
-    (omega (arith, c.requires.0), (p3.is, book c.requires.1.1 t p3, omega (arith, p1.is.stands.here, p1.is.stands.toks.few), count-below c.ident_pair-pair.ensures.1 c.in-Done-pair.is))
+    (omega (arith, c.decreases), (p3.is, book c.requires.1 t p3, omega (arith, p1.is.stands.here, p1.is.stands.toks.few), count-below c.ident_pair-pair.ensures.1 c.in-Done-pair.is))
 
 pub for_stmt-returns : goal.for_stmt-returns
 unfolding for_stmt
 for_stmt-returns t c =
     record {
-      tells = λ E e t. let p0 = begin 1 (λ x. for_stmt x (walkers x c.args.depth)) E e c.requires.1.0 in
-          let p1 = go 1 (λ x. expect x 42) _ p0 refl (taken p0.is c.expect-begun.ensures c.requires.1.2 (λ z. omega arith)) same c.in-Done.is in
+      tells = λ E e t. let p0 = begin 1 (λ x. for_stmt x (walkers x c.args.depth)) E e c.requires.0 in
+          let p1 = go 1 (λ x. expect x 42) _ p0 refl (taken p0.is c.expect-begun.ensures c.requires.2 (λ z. omega arith)) same c.in-Done.is in
           let p2 = go 0 (λ x. ident_pair x) _ p1 refl c.ident_pair-pair.ensures.0 (kept c.ident_pair-pair.auto) c.in-Done-pair.is in
           let p3 = go 0 (λ x. expect x 43) _ p2 refl (expected p2.is c.expect-over.ensures) same c.in-Done-over.is in
           lasts 0 (λ x. for_rest x (walkers x c.args.depth) c.in-Done.x.at c.in-Done-pair.y.count) p3 refl (omega arith) t c.for_rest.ensures;
     }
 
 pub if_stmt-expect-begun-requires : goal.if_stmt-expect-begun-requires
-if_stmt-expect-begun-requires t c = c.requires.1.0.stands
+if_stmt-expect-begun-requires t c = c.requires.0.stands
 
 pub if_stmt-returns-in_default : goal.if_stmt-returns-in_default
 unfolding if_stmt
 if_stmt-returns-in_default t c =
     record {
-      tells = λ E e t. let p0 = begin 1 (λ x. if_stmt x (walkers x c.args.depth)) E e c.requires.1.0 in
-          told t (stop 1 (λ x. expect x 39) _ p0 refl (omega arith) (taken p0.is c.expect-begun.ensures c.requires.1.2 (λ z. omega arith)) (not_done _ c.in_default.in_default-own.keys2));
+      tells = λ E e t. let p0 = begin 1 (λ x. if_stmt x (walkers x c.args.depth)) E e c.requires.0 in
+          told t (stop 1 (λ x. expect x 39) _ p0 refl (omega arith) (taken p0.is c.expect-begun.ensures c.requires.2 (λ z. omega arith)) (not_done _ c.in_default.in_default-own.keys2));
     }
 
 pub if_stmt-expr-test-requires : goal.if_stmt-expr-test-requires
 unfolding if_stmt
 if_stmt-expr-test-requires t c =
-    let E = c.requires.1.1.errs in
-    let e = c.requires.1.1.count in
-    let t = c.requires.1.1.notes in
-    let p0 = begin 1 (λ x. if_stmt x (walkers x c.args.depth)) E e c.requires.1.0 in
-    let p1 = go 1 (λ x. expect x 39) _ p0 refl (taken p0.is c.expect-begun.ensures c.requires.1.2 (λ z. omega arith)) same c.in-Done.is in
+    let E = c.requires.1.errs in
+    let e = c.requires.1.count in
+    let t = c.requires.1.notes in
+    let p0 = begin 1 (λ x. if_stmt x (walkers x c.args.depth)) E e c.requires.0 in
+    let p1 = go 1 (λ x. expect x 39) _ p0 refl (taken p0.is c.expect-begun.ensures c.requires.2 (λ z. omega arith)) same c.in-Done.is in
     p1.is
 
 pub if_stmt-returns-in_default-test : goal.if_stmt-returns-in_default-test
 unfolding if_stmt
 if_stmt-returns-in_default-test t c =
     record {
-      tells = λ E e t. let p0 = begin 1 (λ x. if_stmt x (walkers x c.args.depth)) E e c.requires.1.0 in
-          let p1 = go 1 (λ x. expect x 39) _ p0 refl (taken p0.is c.expect-begun.ensures c.requires.1.2 (λ z. omega arith)) same c.in-Done.is in
+      tells = λ E e t. let p0 = begin 1 (λ x. if_stmt x (walkers x c.args.depth)) E e c.requires.0 in
+          let p1 = go 1 (λ x. expect x 39) _ p0 refl (taken p0.is c.expect-begun.ensures c.requires.2 (λ z. omega arith)) same c.in-Done.is in
           told t (stop 1 (λ x. (walkers x c.args.depth).assign) _ p1 refl (omega arith) c.expr-test.ensures (not_done _ c.in_default-test.in_default-test-own.keys2));
     }
 
 pub if_stmt-block-body-requires : goal.if_stmt-block-body-requires
 unfolding if_stmt
 if_stmt-block-body-requires t c =
-    let E = c.requires.1.1.errs in
-    let e = c.requires.1.1.count in
-    let t = c.requires.1.1.notes in
-    let p0 = begin 1 (λ x. if_stmt x (walkers x c.args.depth)) E e c.requires.1.0 in
-    let p1 = go 1 (λ x. expect x 39) _ p0 refl (taken p0.is c.expect-begun.ensures c.requires.1.2 (λ z. omega arith)) same c.in-Done.is in
+    let E = c.requires.1.errs in
+    let e = c.requires.1.count in
+    let t = c.requires.1.notes in
+    let p0 = begin 1 (λ x. if_stmt x (walkers x c.args.depth)) E e c.requires.0 in
+    let p1 = go 1 (λ x. expect x 39) _ p0 refl (taken p0.is c.expect-begun.ensures c.requires.2 (λ z. omega arith)) same c.in-Done.is in
     let p2 = go 1 (λ x. (walkers x c.args.depth).assign) _ p1 refl c.expr-test.ensures (kept c.expr-test.auto) c.in-Done-test.is in
-    (omega (arith, c.requires.0), (p2.is, book c.requires.1.1 t p2, tt))
+    (omega (arith, c.decreases), (p2.is, book c.requires.1 t p2, tt))
 
 pub if_stmt-returns-in_default-body : goal.if_stmt-returns-in_default-body
 unfolding if_stmt
 if_stmt-returns-in_default-body t c =
     record {
-      tells = λ E e t. let p0 = begin 1 (λ x. if_stmt x (walkers x c.args.depth)) E e c.requires.1.0 in
-          let p1 = go 1 (λ x. expect x 39) _ p0 refl (taken p0.is c.expect-begun.ensures c.requires.1.2 (λ z. omega arith)) same c.in-Done.is in
+      tells = λ E e t. let p0 = begin 1 (λ x. if_stmt x (walkers x c.args.depth)) E e c.requires.0 in
+          let p1 = go 1 (λ x. expect x 39) _ p0 refl (taken p0.is c.expect-begun.ensures c.requires.2 (λ z. omega arith)) same c.in-Done.is in
           let p2 = go 1 (λ x. (walkers x c.args.depth).assign) _ p1 refl c.expr-test.ensures (kept c.expr-test.auto) c.in-Done-test.is in
           stops 0 (λ x. (walkers x c.args.depth).block false []) _ p2 refl (omega arith) t (c.block-body.ensures.does 0 (omega arith) (λ z. refl)) (not_done _ c.in_default-body.in_default-body-own.keys2);
     }
@@ -844,62 +844,62 @@ if_stmt-returns-in_default-body t c =
 pub if_stmt-branches-requires : goal.if_stmt-branches-requires
 unfolding if_stmt
 if_stmt-branches-requires t c =
-    let E = c.requires.1.1.errs in
-    let e = c.requires.1.1.count in
-    let t = c.requires.1.1.notes in
-    let p0 = begin 1 (λ x. if_stmt x (walkers x c.args.depth)) E e c.requires.1.0 in
-    let p1 = go 1 (λ x. expect x 39) _ p0 refl (taken p0.is c.expect-begun.ensures c.requires.1.2 (λ z. omega arith)) same c.in-Done.is in
+    let E = c.requires.1.errs in
+    let e = c.requires.1.count in
+    let t = c.requires.1.notes in
+    let p0 = begin 1 (λ x. if_stmt x (walkers x c.args.depth)) E e c.requires.0 in
+    let p1 = go 1 (λ x. expect x 39) _ p0 refl (taken p0.is c.expect-begun.ensures c.requires.2 (λ z. omega arith)) same c.in-Done.is in
     let p2 = go 1 (λ x. (walkers x c.args.depth).assign) _ p1 refl c.expr-test.ensures (kept c.expr-test.auto) c.in-Done-test.is in
     let g3 = goes 0 (λ x. (walkers x c.args.depth).block false []) _ p2 refl t (c.block-body.ensures.does 0 (omega arith) (λ z. refl)) (kept c.block-body.auto) c.in-Done-body.is in
-    (omega (arith, c.requires.0), (g3.at.is, book-on c.requires.1.1 c.block-body.auto.1.1.1.1.1.1.0 c.block-body.auto.1.1.1.1.1.1.1.0 g3, omega (arith, ahead_of (taken p0.is c.expect-begun.ensures c.requires.1.2 (λ z. omega arith)) c.in-Done.is, ahead_of c.expr-test.ensures c.in-Done-test.is, aheads 0 (λ x. (walkers x c.args.depth).block false []) (book c.requires.1.1 t p2) p2.is (c.block-body.ensures.does 0 (omega arith) (λ z. refl)) c.in-Done-body.is)))
+    (omega (arith, c.decreases), (g3.at.is, book-on c.requires.1 c.block-body.auto.1.1.1.1.1.1.0 c.block-body.auto.1.1.1.1.1.1.1.0 g3, omega (arith, ahead_of (taken p0.is c.expect-begun.ensures c.requires.2 (λ z. omega arith)) c.in-Done.is, ahead_of c.expr-test.ensures c.in-Done-test.is, aheads 0 (λ x. (walkers x c.args.depth).block false []) (book c.requires.1 t p2) p2.is (c.block-body.ensures.does 0 (omega arith) (λ z. refl)) c.in-Done-body.is)))
 
 pub if_stmt-returns : goal.if_stmt-returns
 unfolding if_stmt
 if_stmt-returns t c =
     record {
-      tells = λ E e t. let p0 = begin 1 (λ x. if_stmt x (walkers x c.args.depth)) E e c.requires.1.0 in
-          let p1 = go 1 (λ x. expect x 39) _ p0 refl (taken p0.is c.expect-begun.ensures c.requires.1.2 (λ z. omega arith)) same c.in-Done.is in
+      tells = λ E e t. let p0 = begin 1 (λ x. if_stmt x (walkers x c.args.depth)) E e c.requires.0 in
+          let p1 = go 1 (λ x. expect x 39) _ p0 refl (taken p0.is c.expect-begun.ensures c.requires.2 (λ z. omega arith)) same c.in-Done.is in
           let p2 = go 1 (λ x. (walkers x c.args.depth).assign) _ p1 refl c.expr-test.ensures (kept c.expr-test.auto) c.in-Done-test.is in
           let g3 = goes 0 (λ x. (walkers x c.args.depth).block false []) _ p2 refl t (c.block-body.ensures.does 0 (omega arith) (λ z. refl)) (kept c.block-body.auto) c.in-Done-body.is in
           lasts 0 (λ x. branches_of x (walkers x c.args.depth) (fuel x) 0 0) g3.at refl (omega arith) g3.notes c.branches.ensures;
     }
 
 pub stmt-kind_at-k-requires : goal.stmt-kind_at-k-requires
-stmt-kind_at-k-requires t c = c.requires.1.0.stands.here
+stmt-kind_at-k-requires t c = c.requires.0.stands.here
 
 pub stmt-if_stmt-requires : goal.stmt-if_stmt-requires
-stmt-if_stmt-requires t c = (omega (arith, c.requires.0), (c.requires.1.0, c.requires.1.1, sym c.kind_at-k.ensures ∙ c.if-k-eq-IF.true))
+stmt-if_stmt-requires t c = (omega (arith, c.decreases), (c.requires.0, c.requires.1, sym c.kind_at-k.ensures ∙ c.if-k-eq-IF.true))
 
 pub stmt-returns-then-k-eq-IF : goal.stmt-returns-then-k-eq-IF
 unfolding stmt_of
 stmt-returns-then-k-eq-IF t c =
     record {
-      tells = λ E e t. let p0 = begin 1 (λ x. stmt_of x (walkers x c.args.depth)) E e c.requires.1.0 in
+      tells = λ E e t. let p0 = begin 1 (λ x. stmt_of x (walkers x c.args.depth)) E e c.requires.0 in
           let p1 = read _ p0 in
           lasts 1 (λ x. if_stmt x (walkers x c.args.depth)) (yes _ _ p1 (test (λ k. eqb k 39) p1 (eq-eqb _ _ (sym c.kind_at-k.ensures ∙ c.if-k-eq-IF.true)))) refl (omega arith) t c.if_stmt.ensures;
     }
 
 pub stmt-for_stmt-requires : goal.stmt-for_stmt-requires
-stmt-for_stmt-requires t c = (omega (arith, c.requires.0), (c.requires.1.0, c.requires.1.1, sym c.kind_at-k.ensures ∙ c.if-k-eq-FOR.true))
+stmt-for_stmt-requires t c = (omega (arith, c.decreases), (c.requires.0, c.requires.1, sym c.kind_at-k.ensures ∙ c.if-k-eq-FOR.true))
 
 pub stmt-returns-then-k-eq-FOR : goal.stmt-returns-then-k-eq-FOR
 unfolding stmt_of
 stmt-returns-then-k-eq-FOR t c =
     record {
-      tells = λ E e t. let p0 = begin 1 (λ x. stmt_of x (walkers x c.args.depth)) E e c.requires.1.0 in
+      tells = λ E e t. let p0 = begin 1 (λ x. stmt_of x (walkers x c.args.depth)) E e c.requires.0 in
           let p1 = read _ p0 in
           let n1 = no _ _ p1 (test (λ k. eqb k 39) p1 (ne_eqb _ _ (λ z. c.if-k-eq-IF.false (c.kind_at-k.ensures ∙ z)))) in
           lasts 1 (λ x. for_stmt x (walkers x c.args.depth)) (yes _ _ n1 (test (λ k. eqb k 42) n1 (eq-eqb _ _ (sym c.kind_at-k.ensures ∙ c.if-k-eq-FOR.true)))) refl (omega arith) t c.for_stmt.ensures;
     }
 
 pub stmt-ret_stmt-requires : goal.stmt-ret_stmt-requires
-stmt-ret_stmt-requires t c = (c.requires.1.0, sym c.kind_at-k.ensures ∙ c.if-k-eq-RETURN.true)
+stmt-ret_stmt-requires t c = (c.requires.0, sym c.kind_at-k.ensures ∙ c.if-k-eq-RETURN.true)
 
 pub stmt-returns-then-k-eq-RETURN : goal.stmt-returns-then-k-eq-RETURN
 unfolding stmt_of
 stmt-returns-then-k-eq-RETURN t c =
     record {
-      tells = λ E e t. let p0 = begin 1 (λ x. stmt_of x (walkers x c.args.depth)) E e c.requires.1.0 in
+      tells = λ E e t. let p0 = begin 1 (λ x. stmt_of x (walkers x c.args.depth)) E e c.requires.0 in
           let p1 = read _ p0 in
           let n1 = no _ _ p1 (test (λ k. eqb k 39) p1 (ne_eqb _ _ (λ z. c.if-k-eq-IF.false (c.kind_at-k.ensures ∙ z)))) in
           let n2 = no _ _ n1 (test (λ k. eqb k 42) n1 (ne_eqb _ _ (λ z. c.if-k-eq-FOR.false (c.kind_at-k.ensures ∙ z)))) in
@@ -907,13 +907,13 @@ stmt-returns-then-k-eq-RETURN t c =
     }
 
 pub stmt-block-requires : goal.stmt-block-requires
-stmt-block-requires t c = (omega (arith, c.requires.0), (c.requires.1.0, c.requires.1.1, tt))
+stmt-block-requires t c = (omega (arith, c.decreases), (c.requires.0, c.requires.1, tt))
 
 pub stmt-returns-then-k-eq-LEFT_BRACE : goal.stmt-returns-then-k-eq-LEFT_BRACE
 unfolding stmt_of
 stmt-returns-then-k-eq-LEFT_BRACE t c =
     record {
-      tells = λ E e t. let p0 = begin 1 (λ x. stmt_of x (walkers x c.args.depth)) E e c.requires.1.0 in
+      tells = λ E e t. let p0 = begin 1 (λ x. stmt_of x (walkers x c.args.depth)) E e c.requires.0 in
           let p1 = read _ p0 in
           let n1 = no _ _ p1 (test (λ k. eqb k 39) p1 (ne_eqb _ _ (λ z. c.if-k-eq-IF.false (c.kind_at-k.ensures ∙ z)))) in
           let n2 = no _ _ n1 (test (λ k. eqb k 42) n1 (ne_eqb _ _ (λ z. c.if-k-eq-FOR.false (c.kind_at-k.ensures ∙ z)))) in
@@ -922,13 +922,13 @@ stmt-returns-then-k-eq-LEFT_BRACE t c =
     }
 
 pub stmt-expr_stmt-requires : goal.stmt-expr_stmt-requires
-stmt-expr_stmt-requires t c = c.requires.1.0
+stmt-expr_stmt-requires t c = c.requires.0
 
 pub stmt-returns : goal.stmt-returns
 unfolding stmt_of
 stmt-returns t c =
     record {
-      tells = λ E e t. let p0 = begin 1 (λ x. stmt_of x (walkers x c.args.depth)) E e c.requires.1.0 in
+      tells = λ E e t. let p0 = begin 1 (λ x. stmt_of x (walkers x c.args.depth)) E e c.requires.0 in
           let p1 = read _ p0 in
           let n1 = no _ _ p1 (test (λ k. eqb k 39) p1 (ne_eqb _ _ (λ z. c.if-k-eq-IF.false (c.kind_at-k.ensures ∙ z)))) in
           let n2 = no _ _ n1 (test (λ k. eqb k 42) n1 (ne_eqb _ _ (λ z. c.if-k-eq-FOR.false (c.kind_at-k.ensures ∙ z)))) in
