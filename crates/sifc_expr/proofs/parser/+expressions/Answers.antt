@@ -93,7 +93,7 @@ add_or_sub_expr-loop-lim-smaller t c =
     let s1 = signs 2 c.args.depth c.loop-lim.invariant.is (c.loop-lim.invariant.f - 1) (ap looseness (sym c.kind_at.ensures) ∙ sym c.looseness.ensures ∙ c.if-looseness-ne3.false) c.consume-passed.ensures c.in-Done-passed.is in
     let s2 = goes 1 (Operand 2 c.args.depth) (Rest 2 c.args.depth c.loop-lim.x.at (c.loop-lim.invariant.f - 1)) s1 c.unary_expr-operand.ensures (kept c.unary_expr-operand.auto) c.in-Done-operand.is in
     let s3 = goes 0 (Below 2 c.args.depth) (Node 2 c.args.depth c.loop-lim.x.at (c.loop-lim.invariant.f - 1)) s2 c.mul_or_div_expr-rhs.ensures (kept c.mul_or_div_expr-rhs.auto) c.in-Done-rhs.is in
-    let s4 = goes 0 (λ x. push x 22 false 2 c.loop-lim.x.at) (λ x. Turns 2 c.args.depth x (c.loop-lim.invariant.f - 1)) s3 (pushed (ready s3) c.push_node-made.ensures) (kept-nodes c.push_node-made.auto.0 c.push_node-made.auto.1.0) c.in-Done-made.is in
+    let s4 = goes 0 (λ x. push x 22 false 2 c.loop-lim.x.at) (λ x. Turns 2 c.args.depth x (c.loop-lim.invariant.f - 1)) s3 (pushed (ready s3) c.push_node-made.ensures) (kept-nodes c.push_node-made.auto.head c.push_node-made.auto.load) c.in-Done-made.is in
     omega (arith, (at_stage s4).on, (ready s4).stands.here)
 
 pub add_or_sub_expr-loop-lim-preserved : goal.add_or_sub_expr-loop-lim-preserved
@@ -101,7 +101,7 @@ add_or_sub_expr-loop-lim-preserved t c =
     let s1 = signs 2 c.args.depth c.loop-lim.invariant.is (c.loop-lim.invariant.f - 1) (ap looseness (sym c.kind_at.ensures) ∙ sym c.looseness.ensures ∙ c.if-looseness-ne3.false) c.consume-passed.ensures c.in-Done-passed.is in
     let s2 = goes 1 (Operand 2 c.args.depth) (Rest 2 c.args.depth c.loop-lim.x.at (c.loop-lim.invariant.f - 1)) s1 c.unary_expr-operand.ensures (kept c.unary_expr-operand.auto) c.in-Done-operand.is in
     let s3 = goes 0 (Below 2 c.args.depth) (Node 2 c.args.depth c.loop-lim.x.at (c.loop-lim.invariant.f - 1)) s2 c.mul_or_div_expr-rhs.ensures (kept c.mul_or_div_expr-rhs.auto) c.in-Done-rhs.is in
-    let s4 = goes 0 (λ x. push x 22 false 2 c.loop-lim.x.at) (λ x. Turns 2 c.args.depth x (c.loop-lim.invariant.f - 1)) s3 (pushed (ready s3) c.push_node-made.ensures) (kept-nodes c.push_node-made.auto.0 c.push_node-made.auto.1.0) c.in-Done-made.is in
+    let s4 = goes 0 (λ x. push x 22 false 2 c.loop-lim.x.at) (λ x. Turns 2 c.args.depth x (c.loop-lim.invariant.f - 1)) s3 (pushed (ready s3) c.push_node-made.ensures) (kept-nodes c.push_node-made.auto.head c.push_node-made.auto.load) c.in-Done-made.is in
     again 2 c.args.depth c.loop-lim.invariant s4
 
 pub and_expr-binds-requires : goal.and_expr-binds-requires
@@ -175,7 +175,7 @@ and_expr-loop-lim-smaller t c =
     let s1 = signs 5 c.args.depth c.loop-lim.invariant.is (c.loop-lim.invariant.f - 1) (ap looseness (sym c.kind_at.ensures) ∙ sym c.looseness.ensures ∙ c.if-looseness-ne6.false) c.consume-passed.ensures c.in-Done-passed.is in
     let s2 = goes 1 (Operand 5 c.args.depth) (Rest 5 c.args.depth c.loop-lim.x.at (c.loop-lim.invariant.f - 1)) s1 c.unary_expr-operand.ensures (kept c.unary_expr-operand.auto) c.in-Done-operand.is in
     let s3 = goes 0 (Below 5 c.args.depth) (Node 5 c.args.depth c.loop-lim.x.at (c.loop-lim.invariant.f - 1)) s2 c.equality_expr-rhs.ensures (kept c.equality_expr-rhs.auto) c.in-Done-rhs.is in
-    let s4 = goes 0 (λ x. push x 22 false 2 c.loop-lim.x.at) (λ x. Turns 5 c.args.depth x (c.loop-lim.invariant.f - 1)) s3 (pushed (ready s3) c.push_node-made.ensures) (kept-nodes c.push_node-made.auto.0 c.push_node-made.auto.1.0) c.in-Done-made.is in
+    let s4 = goes 0 (λ x. push x 22 false 2 c.loop-lim.x.at) (λ x. Turns 5 c.args.depth x (c.loop-lim.invariant.f - 1)) s3 (pushed (ready s3) c.push_node-made.ensures) (kept-nodes c.push_node-made.auto.head c.push_node-made.auto.load) c.in-Done-made.is in
     omega (arith, (at_stage s4).on, (ready s4).stands.here)
 
 pub and_expr-loop-lim-preserved : goal.and_expr-loop-lim-preserved
@@ -183,7 +183,7 @@ and_expr-loop-lim-preserved t c =
     let s1 = signs 5 c.args.depth c.loop-lim.invariant.is (c.loop-lim.invariant.f - 1) (ap looseness (sym c.kind_at.ensures) ∙ sym c.looseness.ensures ∙ c.if-looseness-ne6.false) c.consume-passed.ensures c.in-Done-passed.is in
     let s2 = goes 1 (Operand 5 c.args.depth) (Rest 5 c.args.depth c.loop-lim.x.at (c.loop-lim.invariant.f - 1)) s1 c.unary_expr-operand.ensures (kept c.unary_expr-operand.auto) c.in-Done-operand.is in
     let s3 = goes 0 (Below 5 c.args.depth) (Node 5 c.args.depth c.loop-lim.x.at (c.loop-lim.invariant.f - 1)) s2 c.equality_expr-rhs.ensures (kept c.equality_expr-rhs.auto) c.in-Done-rhs.is in
-    let s4 = goes 0 (λ x. push x 22 false 2 c.loop-lim.x.at) (λ x. Turns 5 c.args.depth x (c.loop-lim.invariant.f - 1)) s3 (pushed (ready s3) c.push_node-made.ensures) (kept-nodes c.push_node-made.auto.0 c.push_node-made.auto.1.0) c.in-Done-made.is in
+    let s4 = goes 0 (λ x. push x 22 false 2 c.loop-lim.x.at) (λ x. Turns 5 c.args.depth x (c.loop-lim.invariant.f - 1)) s3 (pushed (ready s3) c.push_node-made.ensures) (kept-nodes c.push_node-made.auto.head c.push_node-made.auto.load) c.in-Done-made.is in
     again 5 c.args.depth c.loop-lim.invariant s4
 
 pub assign_expr-returns-then-depth-eq0 : goal.assign_expr-returns-then-depth-eq0
@@ -450,7 +450,7 @@ compr_expr-loop-lim-smaller t c =
     let s1 = signs 3 c.args.depth c.loop-lim.invariant.is (c.loop-lim.invariant.f - 1) (ap looseness (sym c.kind_at.ensures) ∙ sym c.looseness.ensures ∙ c.if-looseness-ne4.false) c.consume-passed.ensures c.in-Done-passed.is in
     let s2 = goes 1 (Operand 3 c.args.depth) (Rest 3 c.args.depth c.loop-lim.x.at (c.loop-lim.invariant.f - 1)) s1 c.unary_expr-operand.ensures (kept c.unary_expr-operand.auto) c.in-Done-operand.is in
     let s3 = goes 0 (Below 3 c.args.depth) (Node 3 c.args.depth c.loop-lim.x.at (c.loop-lim.invariant.f - 1)) s2 c.add_or_sub_expr-rhs.ensures (kept c.add_or_sub_expr-rhs.auto) c.in-Done-rhs.is in
-    let s4 = goes 0 (λ x. push x 22 false 2 c.loop-lim.x.at) (λ x. Turns 3 c.args.depth x (c.loop-lim.invariant.f - 1)) s3 (pushed (ready s3) c.push_node-made.ensures) (kept-nodes c.push_node-made.auto.0 c.push_node-made.auto.1.0) c.in-Done-made.is in
+    let s4 = goes 0 (λ x. push x 22 false 2 c.loop-lim.x.at) (λ x. Turns 3 c.args.depth x (c.loop-lim.invariant.f - 1)) s3 (pushed (ready s3) c.push_node-made.ensures) (kept-nodes c.push_node-made.auto.head c.push_node-made.auto.load) c.in-Done-made.is in
     omega (arith, (at_stage s4).on, (ready s4).stands.here)
 
 pub compr_expr-loop-lim-preserved : goal.compr_expr-loop-lim-preserved
@@ -458,7 +458,7 @@ compr_expr-loop-lim-preserved t c =
     let s1 = signs 3 c.args.depth c.loop-lim.invariant.is (c.loop-lim.invariant.f - 1) (ap looseness (sym c.kind_at.ensures) ∙ sym c.looseness.ensures ∙ c.if-looseness-ne4.false) c.consume-passed.ensures c.in-Done-passed.is in
     let s2 = goes 1 (Operand 3 c.args.depth) (Rest 3 c.args.depth c.loop-lim.x.at (c.loop-lim.invariant.f - 1)) s1 c.unary_expr-operand.ensures (kept c.unary_expr-operand.auto) c.in-Done-operand.is in
     let s3 = goes 0 (Below 3 c.args.depth) (Node 3 c.args.depth c.loop-lim.x.at (c.loop-lim.invariant.f - 1)) s2 c.add_or_sub_expr-rhs.ensures (kept c.add_or_sub_expr-rhs.auto) c.in-Done-rhs.is in
-    let s4 = goes 0 (λ x. push x 22 false 2 c.loop-lim.x.at) (λ x. Turns 3 c.args.depth x (c.loop-lim.invariant.f - 1)) s3 (pushed (ready s3) c.push_node-made.ensures) (kept-nodes c.push_node-made.auto.0 c.push_node-made.auto.1.0) c.in-Done-made.is in
+    let s4 = goes 0 (λ x. push x 22 false 2 c.loop-lim.x.at) (λ x. Turns 3 c.args.depth x (c.loop-lim.invariant.f - 1)) s3 (pushed (ready s3) c.push_node-made.ensures) (kept-nodes c.push_node-made.auto.head c.push_node-made.auto.load) c.in-Done-made.is in
     again 3 c.args.depth c.loop-lim.invariant s4
 
 pub dot-consume-passed-requires : goal.dot-consume-passed-requires
@@ -581,7 +581,7 @@ equality_expr-loop-lim-smaller t c =
     let s1 = signs 4 c.args.depth c.loop-lim.invariant.is (c.loop-lim.invariant.f - 1) (ap looseness (sym c.kind_at.ensures) ∙ sym c.looseness.ensures ∙ c.if-looseness-ne5.false) c.consume-passed.ensures c.in-Done-passed.is in
     let s2 = goes 1 (Operand 4 c.args.depth) (Rest 4 c.args.depth c.loop-lim.x.at (c.loop-lim.invariant.f - 1)) s1 c.unary_expr-operand.ensures (kept c.unary_expr-operand.auto) c.in-Done-operand.is in
     let s3 = goes 0 (Below 4 c.args.depth) (Node 4 c.args.depth c.loop-lim.x.at (c.loop-lim.invariant.f - 1)) s2 c.compr_expr-rhs.ensures (kept c.compr_expr-rhs.auto) c.in-Done-rhs.is in
-    let s4 = goes 0 (λ x. push x 22 false 2 c.loop-lim.x.at) (λ x. Turns 4 c.args.depth x (c.loop-lim.invariant.f - 1)) s3 (pushed (ready s3) c.push_node-made.ensures) (kept-nodes c.push_node-made.auto.0 c.push_node-made.auto.1.0) c.in-Done-made.is in
+    let s4 = goes 0 (λ x. push x 22 false 2 c.loop-lim.x.at) (λ x. Turns 4 c.args.depth x (c.loop-lim.invariant.f - 1)) s3 (pushed (ready s3) c.push_node-made.ensures) (kept-nodes c.push_node-made.auto.head c.push_node-made.auto.load) c.in-Done-made.is in
     omega (arith, (at_stage s4).on, (ready s4).stands.here)
 
 pub equality_expr-loop-lim-preserved : goal.equality_expr-loop-lim-preserved
@@ -589,7 +589,7 @@ equality_expr-loop-lim-preserved t c =
     let s1 = signs 4 c.args.depth c.loop-lim.invariant.is (c.loop-lim.invariant.f - 1) (ap looseness (sym c.kind_at.ensures) ∙ sym c.looseness.ensures ∙ c.if-looseness-ne5.false) c.consume-passed.ensures c.in-Done-passed.is in
     let s2 = goes 1 (Operand 4 c.args.depth) (Rest 4 c.args.depth c.loop-lim.x.at (c.loop-lim.invariant.f - 1)) s1 c.unary_expr-operand.ensures (kept c.unary_expr-operand.auto) c.in-Done-operand.is in
     let s3 = goes 0 (Below 4 c.args.depth) (Node 4 c.args.depth c.loop-lim.x.at (c.loop-lim.invariant.f - 1)) s2 c.compr_expr-rhs.ensures (kept c.compr_expr-rhs.auto) c.in-Done-rhs.is in
-    let s4 = goes 0 (λ x. push x 22 false 2 c.loop-lim.x.at) (λ x. Turns 4 c.args.depth x (c.loop-lim.invariant.f - 1)) s3 (pushed (ready s3) c.push_node-made.ensures) (kept-nodes c.push_node-made.auto.0 c.push_node-made.auto.1.0) c.in-Done-made.is in
+    let s4 = goes 0 (λ x. push x 22 false 2 c.loop-lim.x.at) (λ x. Turns 4 c.args.depth x (c.loop-lim.invariant.f - 1)) s3 (pushed (ready s3) c.push_node-made.ensures) (kept-nodes c.push_node-made.auto.head c.push_node-made.auto.load) c.in-Done-made.is in
     again 4 c.args.depth c.loop-lim.invariant s4
 
 pub fn_call_expr-returns-then-depth-eq0 : goal.fn_call_expr-returns-then-depth-eq0
@@ -843,7 +843,7 @@ mod_expr-loop-lim-smaller t c =
     let s1 = signs 0 c.args.depth c.loop-lim.invariant.is (c.loop-lim.invariant.f - 1) (ap looseness (sym c.kind_at.ensures) ∙ sym c.looseness.ensures ∙ c.if-looseness-ne1.false) c.consume-passed.ensures c.in-Done.is in
     let s2 = goes 1 (Operand 0 c.args.depth) (Rest 0 c.args.depth c.loop-lim.x.at (c.loop-lim.invariant.f - 1)) s1 c.unary_expr-operand.ensures (kept c.unary_expr-operand.auto) c.in-Done-operand.is in
     let s3 = goes 0 (Below 0 c.args.depth) (Node 0 c.args.depth c.loop-lim.x.at (c.loop-lim.invariant.f - 1)) s2 (idle c.args.depth (ready s2)) same refl in
-    let s4 = goes 0 (λ x. push x 22 false 2 c.loop-lim.x.at) (λ x. Turns 0 c.args.depth x (c.loop-lim.invariant.f - 1)) s3 (pushed (ready s3) c.push_node-made.ensures) (kept-nodes c.push_node-made.auto.0 c.push_node-made.auto.1.0) c.in-Done-made.is in
+    let s4 = goes 0 (λ x. push x 22 false 2 c.loop-lim.x.at) (λ x. Turns 0 c.args.depth x (c.loop-lim.invariant.f - 1)) s3 (pushed (ready s3) c.push_node-made.ensures) (kept-nodes c.push_node-made.auto.head c.push_node-made.auto.load) c.in-Done-made.is in
     omega (arith, (at_stage s4).on, (ready s4).stands.here)
 
 pub mod_expr-loop-lim-preserved : goal.mod_expr-loop-lim-preserved
@@ -851,7 +851,7 @@ mod_expr-loop-lim-preserved t c =
     let s1 = signs 0 c.args.depth c.loop-lim.invariant.is (c.loop-lim.invariant.f - 1) (ap looseness (sym c.kind_at.ensures) ∙ sym c.looseness.ensures ∙ c.if-looseness-ne1.false) c.consume-passed.ensures c.in-Done.is in
     let s2 = goes 1 (Operand 0 c.args.depth) (Rest 0 c.args.depth c.loop-lim.x.at (c.loop-lim.invariant.f - 1)) s1 c.unary_expr-operand.ensures (kept c.unary_expr-operand.auto) c.in-Done-operand.is in
     let s3 = goes 0 (Below 0 c.args.depth) (Node 0 c.args.depth c.loop-lim.x.at (c.loop-lim.invariant.f - 1)) s2 (idle c.args.depth (ready s2)) same refl in
-    let s4 = goes 0 (λ x. push x 22 false 2 c.loop-lim.x.at) (λ x. Turns 0 c.args.depth x (c.loop-lim.invariant.f - 1)) s3 (pushed (ready s3) c.push_node-made.ensures) (kept-nodes c.push_node-made.auto.0 c.push_node-made.auto.1.0) c.in-Done-made.is in
+    let s4 = goes 0 (λ x. push x 22 false 2 c.loop-lim.x.at) (λ x. Turns 0 c.args.depth x (c.loop-lim.invariant.f - 1)) s3 (pushed (ready s3) c.push_node-made.ensures) (kept-nodes c.push_node-made.auto.head c.push_node-made.auto.load) c.in-Done-made.is in
     again 0 c.args.depth c.loop-lim.invariant s4
 
 pub mul_or_div_expr-binds-requires : goal.mul_or_div_expr-binds-requires
@@ -925,7 +925,7 @@ mul_or_div_expr-loop-lim-smaller t c =
     let s1 = signs 1 c.args.depth c.loop-lim.invariant.is (c.loop-lim.invariant.f - 1) (ap looseness (sym c.kind_at.ensures) ∙ sym c.looseness.ensures ∙ c.if-looseness-ne2.false) c.consume-passed.ensures c.in-Done-passed.is in
     let s2 = goes 1 (Operand 1 c.args.depth) (Rest 1 c.args.depth c.loop-lim.x.at (c.loop-lim.invariant.f - 1)) s1 c.unary_expr-operand.ensures (kept c.unary_expr-operand.auto) c.in-Done-operand.is in
     let s3 = goes 0 (Below 1 c.args.depth) (Node 1 c.args.depth c.loop-lim.x.at (c.loop-lim.invariant.f - 1)) s2 c.mod_expr-rhs.ensures (kept c.mod_expr-rhs.auto) c.in-Done-rhs.is in
-    let s4 = goes 0 (λ x. push x 22 false 2 c.loop-lim.x.at) (λ x. Turns 1 c.args.depth x (c.loop-lim.invariant.f - 1)) s3 (pushed (ready s3) c.push_node-made.ensures) (kept-nodes c.push_node-made.auto.0 c.push_node-made.auto.1.0) c.in-Done-made.is in
+    let s4 = goes 0 (λ x. push x 22 false 2 c.loop-lim.x.at) (λ x. Turns 1 c.args.depth x (c.loop-lim.invariant.f - 1)) s3 (pushed (ready s3) c.push_node-made.ensures) (kept-nodes c.push_node-made.auto.head c.push_node-made.auto.load) c.in-Done-made.is in
     omega (arith, (at_stage s4).on, (ready s4).stands.here)
 
 pub mul_or_div_expr-loop-lim-preserved : goal.mul_or_div_expr-loop-lim-preserved
@@ -933,7 +933,7 @@ mul_or_div_expr-loop-lim-preserved t c =
     let s1 = signs 1 c.args.depth c.loop-lim.invariant.is (c.loop-lim.invariant.f - 1) (ap looseness (sym c.kind_at.ensures) ∙ sym c.looseness.ensures ∙ c.if-looseness-ne2.false) c.consume-passed.ensures c.in-Done-passed.is in
     let s2 = goes 1 (Operand 1 c.args.depth) (Rest 1 c.args.depth c.loop-lim.x.at (c.loop-lim.invariant.f - 1)) s1 c.unary_expr-operand.ensures (kept c.unary_expr-operand.auto) c.in-Done-operand.is in
     let s3 = goes 0 (Below 1 c.args.depth) (Node 1 c.args.depth c.loop-lim.x.at (c.loop-lim.invariant.f - 1)) s2 c.mod_expr-rhs.ensures (kept c.mod_expr-rhs.auto) c.in-Done-rhs.is in
-    let s4 = goes 0 (λ x. push x 22 false 2 c.loop-lim.x.at) (λ x. Turns 1 c.args.depth x (c.loop-lim.invariant.f - 1)) s3 (pushed (ready s3) c.push_node-made.ensures) (kept-nodes c.push_node-made.auto.0 c.push_node-made.auto.1.0) c.in-Done-made.is in
+    let s4 = goes 0 (λ x. push x 22 false 2 c.loop-lim.x.at) (λ x. Turns 1 c.args.depth x (c.loop-lim.invariant.f - 1)) s3 (pushed (ready s3) c.push_node-made.ensures) (kept-nodes c.push_node-made.auto.head c.push_node-made.auto.load) c.in-Done-made.is in
     again 1 c.args.depth c.loop-lim.invariant s4
 
 pub or_expr-binds-requires : goal.or_expr-binds-requires
@@ -1007,7 +1007,7 @@ or_expr-loop-lim-smaller t c =
     let s1 = signs 6 c.args.depth c.loop-lim.invariant.is (c.loop-lim.invariant.f - 1) (ap looseness (sym c.kind_at.ensures) ∙ sym c.looseness.ensures ∙ c.if-looseness-ne7.false) c.consume-passed.ensures c.in-Done-passed.is in
     let s2 = goes 1 (Operand 6 c.args.depth) (Rest 6 c.args.depth c.loop-lim.x.at (c.loop-lim.invariant.f - 1)) s1 c.unary_expr-operand.ensures (kept c.unary_expr-operand.auto) c.in-Done-operand.is in
     let s3 = goes 0 (Below 6 c.args.depth) (Node 6 c.args.depth c.loop-lim.x.at (c.loop-lim.invariant.f - 1)) s2 c.and_expr-rhs.ensures (kept c.and_expr-rhs.auto) c.in-Done-rhs.is in
-    let s4 = goes 0 (λ x. push x 22 false 2 c.loop-lim.x.at) (λ x. Turns 6 c.args.depth x (c.loop-lim.invariant.f - 1)) s3 (pushed (ready s3) c.push_node-made.ensures) (kept-nodes c.push_node-made.auto.0 c.push_node-made.auto.1.0) c.in-Done-made.is in
+    let s4 = goes 0 (λ x. push x 22 false 2 c.loop-lim.x.at) (λ x. Turns 6 c.args.depth x (c.loop-lim.invariant.f - 1)) s3 (pushed (ready s3) c.push_node-made.ensures) (kept-nodes c.push_node-made.auto.head c.push_node-made.auto.load) c.in-Done-made.is in
     omega (arith, (at_stage s4).on, (ready s4).stands.here)
 
 pub or_expr-loop-lim-preserved : goal.or_expr-loop-lim-preserved
@@ -1015,7 +1015,7 @@ or_expr-loop-lim-preserved t c =
     let s1 = signs 6 c.args.depth c.loop-lim.invariant.is (c.loop-lim.invariant.f - 1) (ap looseness (sym c.kind_at.ensures) ∙ sym c.looseness.ensures ∙ c.if-looseness-ne7.false) c.consume-passed.ensures c.in-Done-passed.is in
     let s2 = goes 1 (Operand 6 c.args.depth) (Rest 6 c.args.depth c.loop-lim.x.at (c.loop-lim.invariant.f - 1)) s1 c.unary_expr-operand.ensures (kept c.unary_expr-operand.auto) c.in-Done-operand.is in
     let s3 = goes 0 (Below 6 c.args.depth) (Node 6 c.args.depth c.loop-lim.x.at (c.loop-lim.invariant.f - 1)) s2 c.and_expr-rhs.ensures (kept c.and_expr-rhs.auto) c.in-Done-rhs.is in
-    let s4 = goes 0 (λ x. push x 22 false 2 c.loop-lim.x.at) (λ x. Turns 6 c.args.depth x (c.loop-lim.invariant.f - 1)) s3 (pushed (ready s3) c.push_node-made.ensures) (kept-nodes c.push_node-made.auto.0 c.push_node-made.auto.1.0) c.in-Done-made.is in
+    let s4 = goes 0 (λ x. push x 22 false 2 c.loop-lim.x.at) (λ x. Turns 6 c.args.depth x (c.loop-lim.invariant.f - 1)) s3 (pushed (ready s3) c.push_node-made.ensures) (kept-nodes c.push_node-made.auto.head c.push_node-made.auto.load) c.in-Done-made.is in
     again 6 c.args.depth c.loop-lim.invariant s4
 
 pub param_list-loop-lim-init : goal.param_list-loop-lim-init

@@ -90,7 +90,7 @@ block-decls-all-requires t c =
     let p1 = go j (λ x. expect x 3) _ p0 refl (c.expect-begun.ensures.does j _ _ jl jn (λ z. absurd (let v : ⊥ = omega arith in
     v)) p0.is) same c.in-Done.is in
     let p2 = scoped _ p1 (expect-level 3 (λ z. omega arith) c.requires.0 (expected c.requires.0 c.expect-begun.ensures) c.in-Done.is c.requires.0.level) c.init_scope-inside.ensures in
-    let p3 = go 0 (λ x. bind_of x (names_of c.args.names c.args.load.now)) _ p2 refl c.bind-bound.ensures (kept-symbols c.bind-bound.auto.1.1.1.0) c.in-Done-bound.is in
+    let p3 = go 0 (λ x. bind_of x (names_of c.args.names c.args.load.now)) _ p2 refl c.bind-bound.ensures (kept-symbols c.bind-bound.auto.symbols) c.in-Done-bound.is in
     (omega (arith, c.decreases, c.if-depth-eq0.false), (p3.is, book c.requires.1 t p3))
 
 pub block-returns-in_default-all : goal.block-returns-in_default-all
@@ -102,7 +102,7 @@ block-returns-in_default-all t c =
             let p1 = go j (λ x. expect x 3) _ p0 refl (c.expect-begun.ensures.does j _ _ jl jn (λ z. absurd (let v : ⊥ = omega arith in
             v)) p0.is) same c.in-Done.is in
             let p2 = scoped _ p1 (expect-level 3 (λ z. omega arith) c.requires.0 (expected c.requires.0 c.expect-begun.ensures) c.in-Done.is c.requires.0.level) c.init_scope-inside.ensures in
-            let p3 = go 0 (λ x. bind_of x (names_of c.args.names c.args.load.now)) _ p2 refl c.bind-bound.ensures (kept-symbols c.bind-bound.auto.1.1.1.0) c.in-Done-bound.is in
+            let p3 = go 0 (λ x. bind_of x (names_of c.args.names c.args.load.now)) _ p2 refl c.bind-bound.ensures (kept-symbols c.bind-bound.auto.symbols) c.in-Done-bound.is in
             stops 0 (λ x. decls_of x (walkers x (c.args.depth - 1)) (fuel x) 0) _ p3 refl (omega arith) t c.decls-all.ensures.0 (not_done _ c.in_default-all.in_default-all-own.keys2);
       };
     }
@@ -120,7 +120,7 @@ block-end_block-requires t c =
     let p1 = go j (λ x. expect x 3) _ p0 refl (c.expect-begun.ensures.does j _ _ jl jn (λ z. absurd (let v : ⊥ = omega arith in
     v)) p0.is) same c.in-Done.is in
     let p2 = scoped _ p1 (expect-level 3 (λ z. omega arith) c.requires.0 (expected c.requires.0 c.expect-begun.ensures) c.in-Done.is c.requires.0.level) c.init_scope-inside.ensures in
-    let p3 = go 0 (λ x. bind_of x (names_of c.args.names c.args.load.now)) _ p2 refl c.bind-bound.ensures (kept-symbols c.bind-bound.auto.1.1.1.0) c.in-Done-bound.is in
+    let p3 = go 0 (λ x. bind_of x (names_of c.args.names c.args.load.now)) _ p2 refl c.bind-bound.ensures (kept-symbols c.bind-bound.auto.symbols) c.in-Done-bound.is in
     let g4 = goes 0 (λ x. decls_of x (walkers x (c.args.depth - 1)) (fuel x) 0) _ p3 refl t c.decls-all.ensures.0 (kept c.decls-all.auto) c.in-Done-all.is in
     (g4.at.is, count-below c.decls-all.ensures.1 c.in-Done-all.is)
 
@@ -133,7 +133,7 @@ block-returns t c =
             let p1 = go j (λ x. expect x 3) _ p0 refl (c.expect-begun.ensures.does j _ _ jl jn (λ z. absurd (let v : ⊥ = omega arith in
             v)) p0.is) same c.in-Done.is in
             let p2 = scoped _ p1 (expect-level 3 (λ z. omega arith) c.requires.0 (expected c.requires.0 c.expect-begun.ensures) c.in-Done.is c.requires.0.level) c.init_scope-inside.ensures in
-            let p3 = go 0 (λ x. bind_of x (names_of c.args.names c.args.load.now)) _ p2 refl c.bind-bound.ensures (kept-symbols c.bind-bound.auto.1.1.1.0) c.in-Done-bound.is in
+            let p3 = go 0 (λ x. bind_of x (names_of c.args.names c.args.load.now)) _ p2 refl c.bind-bound.ensures (kept-symbols c.bind-bound.auto.symbols) c.in-Done-bound.is in
             let g4 = goes 0 (λ x. decls_of x (walkers x (c.args.depth - 1)) (fuel x) 0) _ p3 refl t c.decls-all.ensures.0 (kept c.decls-all.auto) c.in-Done-all.is in
             told g4.notes (last 0 (λ x. end_block x c.args.body c.in-Done-all.z.count) g4.at refl (omega arith) c.end_block.ensures);
       };
@@ -167,7 +167,7 @@ branches-loop-symbols-smaller-then-k-eq-ELIF t c = omega (arith, (aheads 1 (λ x
 pub branches-loop-symbols-preserved-then-k-eq-ELIF : goal.branches-loop-symbols-preserved-then-k-eq-ELIF
 unfolding branches_of
 branches-loop-symbols-preserved-then-k-eq-ELIF t c = (
-  retold (λ x f n. branches_of x (walkers x c.args.depth) f n c.loop-symbols.elses) c.loop-symbols.n (onwards c.loop-symbols.invariant.0 (λ x f. branches_of x (walkers x c.args.depth) f (suc c.loop-symbols.n) c.loop-symbols.elses) (omega (arith, (aheads 1 (λ x. elif_stmt x (walkers x c.args.depth)) c.loop-symbols.invariant.0.book c.loop-symbols.invariant.0.is c.elif_stmt-one.ensures c.in-Done.is))) c.elif_stmt-one.auto.1.1.1.1.1.1.0 c.elif_stmt-one.auto.1.1.1.1.1.1.1.0 (λ E e t. let g0 = turns-own c.loop-symbols.invariant.0 E e t in
+  retold (λ x f n. branches_of x (walkers x c.args.depth) f n c.loop-symbols.elses) c.loop-symbols.n (onwards c.loop-symbols.invariant.0 (λ x f. branches_of x (walkers x c.args.depth) f (suc c.loop-symbols.n) c.loop-symbols.elses) (omega (arith, (aheads 1 (λ x. elif_stmt x (walkers x c.args.depth)) c.loop-symbols.invariant.0.book c.loop-symbols.invariant.0.is c.elif_stmt-one.ensures c.in-Done.is))) c.elif_stmt-one.auto.places c.elif_stmt-one.auto.reasons (λ E e t. let g0 = turns-own c.loop-symbols.invariant.0 E e t in
       let p1 = read _ g0.at in
       let y1 = yes _ _ p1 (test (λ k. eqb k 40) p1 (eq-eqb _ _ (sym c.kind_at-k.ensures ∙ c.if-k-eq-ELIF.true))) in
       let g2 = goes 1 (λ x. elif_stmt x (walkers x c.args.depth)) _ y1 refl g0.notes c.elif_stmt-one.ensures (kept c.elif_stmt-one.auto) c.in-Done.is in
@@ -216,7 +216,7 @@ branches-loop-symbols-smaller t c = omega (arith, (aheads 1 (λ x. else_block x 
 pub branches-loop-symbols-preserved : goal.branches-loop-symbols-preserved
 unfolding branches_of
 branches-loop-symbols-preserved t c = (
-  retold-two (λ x f n m. branches_of x (walkers x c.args.depth) f n m) c.loop-symbols.n c.loop-symbols.elses (onwards c.loop-symbols.invariant.0 (λ x f. branches_of x (walkers x c.args.depth) f (suc c.loop-symbols.n) (suc c.loop-symbols.elses)) (omega (arith, (aheads 1 (λ x. else_block x (walkers x c.args.depth)) c.loop-symbols.invariant.0.book c.loop-symbols.invariant.0.is c.else_block-other.ensures c.in-Done-other.is))) c.else_block-other.auto.1.1.1.1.1.1.0 c.else_block-other.auto.1.1.1.1.1.1.1.0 (λ E e t. let g0 = turns-own c.loop-symbols.invariant.0 E e t in
+  retold-two (λ x f n m. branches_of x (walkers x c.args.depth) f n m) c.loop-symbols.n c.loop-symbols.elses (onwards c.loop-symbols.invariant.0 (λ x f. branches_of x (walkers x c.args.depth) f (suc c.loop-symbols.n) (suc c.loop-symbols.elses)) (omega (arith, (aheads 1 (λ x. else_block x (walkers x c.args.depth)) c.loop-symbols.invariant.0.book c.loop-symbols.invariant.0.is c.else_block-other.ensures c.in-Done-other.is))) c.else_block-other.auto.places c.else_block-other.auto.reasons (λ E e t. let g0 = turns-own c.loop-symbols.invariant.0 E e t in
       let p1 = read _ g0.at in
       let n1 = no _ _ p1 (test (λ k. eqb k 40) p1 (ne_eqb _ _ (λ z. c.if-k-eq-ELIF.false (c.kind_at-k.ensures ∙ z)))) in
       let e1 = yes _ _ n1 (test (λ k. eqb k 41) n1 (eq-eqb _ _ (sym c.kind_at-k.ensures ∙ c.if-k-ne-ELSE.false))) in
@@ -309,7 +309,7 @@ decls-loop-lim-smaller t c = omega (arith, (aheads 1 (λ x. decl_of x (walkers x
 pub decls-loop-lim-preserved : goal.decls-loop-lim-preserved
 unfolding decls_of
 decls-loop-lim-preserved t c = (
-  retold (λ x f n. decls_of x (walkers x c.args.depth) f n) c.loop-lim.n (onwards c.loop-lim.invariant.0 (λ x f. decls_of x (walkers x c.args.depth) f (suc c.loop-lim.n)) (omega (arith, (aheads 1 (λ x. decl_of x (walkers x c.args.depth)) c.loop-lim.invariant.0.book c.loop-lim.invariant.0.is c.decl-one.ensures c.in-Done.is))) c.decl-one.auto.1.1.1.1.1.1.0 c.decl-one.auto.1.1.1.1.1.1.1.0 (λ E e t. let g0 = turns-own c.loop-lim.invariant.0 E e t in
+  retold (λ x f n. decls_of x (walkers x c.args.depth) f n) c.loop-lim.n (onwards c.loop-lim.invariant.0 (λ x f. decls_of x (walkers x c.args.depth) f (suc c.loop-lim.n)) (omega (arith, (aheads 1 (λ x. decl_of x (walkers x c.args.depth)) c.loop-lim.invariant.0.book c.loop-lim.invariant.0.is c.decl-one.ensures c.in-Done.is))) c.decl-one.auto.places c.decl-one.auto.reasons (λ E e t. let g0 = turns-own c.loop-lim.invariant.0 E e t in
       let p1 = read _ g0.at in
       let p2 = no _ _ p1 (test (λ k. eqb k 4 || eqb k 47) p1 (ap (λ k. eqb k 4 || eqb k 47) (sym c.kind_at.ensures) ∙ sym c.ends_decls.ensures ∙ c.if-ends_decls.false)) in
       let g3 = goes 1 (λ x. decl_of x (walkers x c.args.depth)) _ p2 refl g0.notes c.decl-one.ensures (kept c.decl-one.auto) c.in-Done.is in
@@ -491,7 +491,7 @@ fn_decl-expect-paren-requires t c =
     let p0 = begin 1 (λ x. fn_decl x (walkers x c.args.depth)) E e c.requires.0 in
     let p1 = go 1 (λ x. expect x 35) _ p0 refl (taken p0.is c.expect-begun.ensures c.requires.2 (λ z. omega arith)) same c.in-Done.is in
     let p2 = go 0 (λ x. ident x ExpectedIdent) _ p1 refl (named ExpectedIdent p1.is c.match_ident-named.ensures refl) same c.in-Done-named.is in
-    let p3 = go 0 (λ x. store x c.in-Done.x.at Placeholder) _ p2 refl (put p2.is c.store_name-stored.ensures) (kept-symbols c.store_name-stored.auto.1.1.1.0) c.in-Done-stored.is in
+    let p3 = go 0 (λ x. store x c.in-Done.x.at Placeholder) _ p2 refl (put p2.is c.store_name-stored.ensures) (kept-symbols c.store_name-stored.auto.symbols) c.in-Done-stored.is in
     p3.is.stands
 
 pub fn_decl-returns-in_default-paren : goal.fn_decl-returns-in_default-paren
@@ -501,7 +501,7 @@ fn_decl-returns-in_default-paren t c =
       tells = λ E e t. let p0 = begin 1 (λ x. fn_decl x (walkers x c.args.depth)) E e c.requires.0 in
           let p1 = go 1 (λ x. expect x 35) _ p0 refl (taken p0.is c.expect-begun.ensures c.requires.2 (λ z. omega arith)) same c.in-Done.is in
           let p2 = go 0 (λ x. ident x ExpectedIdent) _ p1 refl (named ExpectedIdent p1.is c.match_ident-named.ensures refl) same c.in-Done-named.is in
-          let p3 = go 0 (λ x. store x c.in-Done.x.at Placeholder) _ p2 refl (put p2.is c.store_name-stored.ensures) (kept-symbols c.store_name-stored.auto.1.1.1.0) c.in-Done-stored.is in
+          let p3 = go 0 (λ x. store x c.in-Done.x.at Placeholder) _ p2 refl (put p2.is c.store_name-stored.ensures) (kept-symbols c.store_name-stored.auto.symbols) c.in-Done-stored.is in
           told t (stop 0 (λ x. expect x 1) _ p3 refl (omega arith) (expected p3.is c.expect-paren.ensures) (not_done _ c.in_default-paren.in_default-paren-own.keys2));
     }
 
@@ -514,7 +514,7 @@ fn_decl-param_list-params-requires t c =
     let p0 = begin 1 (λ x. fn_decl x (walkers x c.args.depth)) E e c.requires.0 in
     let p1 = go 1 (λ x. expect x 35) _ p0 refl (taken p0.is c.expect-begun.ensures c.requires.2 (λ z. omega arith)) same c.in-Done.is in
     let p2 = go 0 (λ x. ident x ExpectedIdent) _ p1 refl (named ExpectedIdent p1.is c.match_ident-named.ensures refl) same c.in-Done-named.is in
-    let p3 = go 0 (λ x. store x c.in-Done.x.at Placeholder) _ p2 refl (put p2.is c.store_name-stored.ensures) (kept-symbols c.store_name-stored.auto.1.1.1.0) c.in-Done-stored.is in
+    let p3 = go 0 (λ x. store x c.in-Done.x.at Placeholder) _ p2 refl (put p2.is c.store_name-stored.ensures) (kept-symbols c.store_name-stored.auto.symbols) c.in-Done-stored.is in
     let p4 = go 0 (λ x. expect x 1) _ p3 refl (expected p3.is c.expect-paren.ensures) same c.in-Done-paren.is in
     p4.is
 
@@ -525,7 +525,7 @@ fn_decl-returns-in_default-params t c =
       tells = λ E e t. let p0 = begin 1 (λ x. fn_decl x (walkers x c.args.depth)) E e c.requires.0 in
           let p1 = go 1 (λ x. expect x 35) _ p0 refl (taken p0.is c.expect-begun.ensures c.requires.2 (λ z. omega arith)) same c.in-Done.is in
           let p2 = go 0 (λ x. ident x ExpectedIdent) _ p1 refl (named ExpectedIdent p1.is c.match_ident-named.ensures refl) same c.in-Done-named.is in
-          let p3 = go 0 (λ x. store x c.in-Done.x.at Placeholder) _ p2 refl (put p2.is c.store_name-stored.ensures) (kept-symbols c.store_name-stored.auto.1.1.1.0) c.in-Done-stored.is in
+          let p3 = go 0 (λ x. store x c.in-Done.x.at Placeholder) _ p2 refl (put p2.is c.store_name-stored.ensures) (kept-symbols c.store_name-stored.auto.symbols) c.in-Done-stored.is in
           let p4 = go 0 (λ x. expect x 1) _ p3 refl (expected p3.is c.expect-paren.ensures) same c.in-Done-paren.is in
           told t (stop 0 (λ x. param_list x (param x) (fuel x) 0) _ p4 refl (omega arith) c.param_list-params.ensures.0 (not_done _ c.in_default-params.in_default-params-own.keys2));
     }
@@ -539,7 +539,7 @@ fn_decl-fn_rest-requires t c =
     let p0 = begin 1 (λ x. fn_decl x (walkers x c.args.depth)) E e c.requires.0 in
     let p1 = go 1 (λ x. expect x 35) _ p0 refl (taken p0.is c.expect-begun.ensures c.requires.2 (λ z. omega arith)) same c.in-Done.is in
     let p2 = go 0 (λ x. ident x ExpectedIdent) _ p1 refl (named ExpectedIdent p1.is c.match_ident-named.ensures refl) same c.in-Done-named.is in
-    let p3 = go 0 (λ x. store x c.in-Done.x.at Placeholder) _ p2 refl (put p2.is c.store_name-stored.ensures) (kept-symbols c.store_name-stored.auto.1.1.1.0) c.in-Done-stored.is in
+    let p3 = go 0 (λ x. store x c.in-Done.x.at Placeholder) _ p2 refl (put p2.is c.store_name-stored.ensures) (kept-symbols c.store_name-stored.auto.symbols) c.in-Done-stored.is in
     let p4 = go 0 (λ x. expect x 1) _ p3 refl (expected p3.is c.expect-paren.ensures) same c.in-Done-paren.is in
     let p5 = go 0 (λ x. param_list x (param x) (fuel x) 0) _ p4 refl c.param_list-params.ensures.0 (kept c.param_list-params.auto) c.in-Done-params.is in
     (omega (arith, c.decreases), (p5.is, book c.requires.1 t p5, omega (arith, p1.is.stands.here, p1.is.stands.toks.few), count_at c.param_list-params.ensures.1 c.in-Done-params.is, count-used c.param_list-params.ensures.2 c.in-Done-params.is))
@@ -551,7 +551,7 @@ fn_decl-returns t c =
       tells = λ E e t. let p0 = begin 1 (λ x. fn_decl x (walkers x c.args.depth)) E e c.requires.0 in
           let p1 = go 1 (λ x. expect x 35) _ p0 refl (taken p0.is c.expect-begun.ensures c.requires.2 (λ z. omega arith)) same c.in-Done.is in
           let p2 = go 0 (λ x. ident x ExpectedIdent) _ p1 refl (named ExpectedIdent p1.is c.match_ident-named.ensures refl) same c.in-Done-named.is in
-          let p3 = go 0 (λ x. store x c.in-Done.x.at Placeholder) _ p2 refl (put p2.is c.store_name-stored.ensures) (kept-symbols c.store_name-stored.auto.1.1.1.0) c.in-Done-stored.is in
+          let p3 = go 0 (λ x. store x c.in-Done.x.at Placeholder) _ p2 refl (put p2.is c.store_name-stored.ensures) (kept-symbols c.store_name-stored.auto.symbols) c.in-Done-stored.is in
           let p4 = go 0 (λ x. expect x 1) _ p3 refl (expected p3.is c.expect-paren.ensures) same c.in-Done-paren.is in
           let p5 = go 0 (λ x. param_list x (param x) (fuel x) 0) _ p4 refl c.param_list-params.ensures.0 (kept c.param_list-params.auto) c.in-Done-params.is in
           lasts 0 (λ x. fn_rest x (walkers x c.args.depth) c.in-Done.x.at c.in-Done-params.v.count) p5 refl (omega arith) t c.fn_rest.ensures;
@@ -581,7 +581,7 @@ fn_rest-expect-paren-requires t c =
     let t = c.requires.1.notes in
     let p0 = begin 0 (λ x. fn_rest x (walkers x c.args.depth) c.args.i c.args.n) E e c.requires.0 in
     let p1 = read _ p0 in
-    let p2 = go 0 (λ x. push x 10 false c.args.n 0) _ p1 refl (pushed-as p1.is c.head_word.ensures c.push_node-made.ensures) (kept-nodes c.push_node-made.auto.0 c.push_node-made.auto.1.0) c.in-Done.is in
+    let p2 = go 0 (λ x. push x 10 false c.args.n 0) _ p1 refl (pushed-as p1.is c.head_word.ensures c.push_node-made.ensures) (kept-nodes c.push_node-made.auto.head c.push_node-made.auto.load) c.in-Done.is in
     p2.is.stands
 
 pub fn_rest-returns-in_default-paren : goal.fn_rest-returns-in_default-paren
@@ -589,7 +589,7 @@ fn_rest-returns-in_default-paren t c =
     record {
       tells = λ E e t. let p0 = begin 0 (λ x. fn_rest x (walkers x c.args.depth) c.args.i c.args.n) E e c.requires.0 in
           let p1 = read _ p0 in
-          let p2 = go 0 (λ x. push x 10 false c.args.n 0) _ p1 refl (pushed-as p1.is c.head_word.ensures c.push_node-made.ensures) (kept-nodes c.push_node-made.auto.0 c.push_node-made.auto.1.0) c.in-Done.is in
+          let p2 = go 0 (λ x. push x 10 false c.args.n 0) _ p1 refl (pushed-as p1.is c.head_word.ensures c.push_node-made.ensures) (kept-nodes c.push_node-made.auto.head c.push_node-made.auto.load) c.in-Done.is in
           told t (stop 0 (λ x. expect x 2) _ p2 refl (omega arith) (expected p2.is c.expect-paren.ensures) (not_done _ c.in_default-paren.in_default-paren-own.keys2));
     }
 
@@ -600,16 +600,16 @@ fn_rest-block-body-requires t c =
     let t = c.requires.1.notes in
     let p0 = begin 0 (λ x. fn_rest x (walkers x c.args.depth) c.args.i c.args.n) E e c.requires.0 in
     let p1 = read _ p0 in
-    let p2 = go 0 (λ x. push x 10 false c.args.n 0) _ p1 refl (pushed-as p1.is c.head_word.ensures c.push_node-made.ensures) (kept-nodes c.push_node-made.auto.0 c.push_node-made.auto.1.0) c.in-Done.is in
+    let p2 = go 0 (λ x. push x 10 false c.args.n 0) _ p1 refl (pushed-as p1.is c.head_word.ensures c.push_node-made.ensures) (kept-nodes c.push_node-made.auto.head c.push_node-made.auto.load) c.in-Done.is in
     let p3 = go 0 (λ x. expect x 2) _ p2 refl (expected p2.is c.expect-paren.ensures) same c.in-Done-paren.is in
-    (omega (arith, c.decreases), (p3.is, book c.requires.1 t p3, omega (arith, c.requires.0.used, c.push_node-made.auto.1.0, c.requires.0.even, c.requires.4)))
+    (omega (arith, c.decreases), (p3.is, book c.requires.1 t p3, omega (arith, c.requires.0.used, c.push_node-made.auto.load, c.requires.0.even, c.requires.4)))
 
 pub fn_rest-returns-in_default-body : goal.fn_rest-returns-in_default-body
 fn_rest-returns-in_default-body t c =
     record {
       tells = λ E e t. let p0 = begin 0 (λ x. fn_rest x (walkers x c.args.depth) c.args.i c.args.n) E e c.requires.0 in
           let p1 = read _ p0 in
-          let p2 = go 0 (λ x. push x 10 false c.args.n 0) _ p1 refl (pushed-as p1.is c.head_word.ensures c.push_node-made.ensures) (kept-nodes c.push_node-made.auto.0 c.push_node-made.auto.1.0) c.in-Done.is in
+          let p2 = go 0 (λ x. push x 10 false c.args.n 0) _ p1 refl (pushed-as p1.is c.head_word.ensures c.push_node-made.ensures) (kept-nodes c.push_node-made.auto.head c.push_node-made.auto.load) c.in-Done.is in
           let p3 = go 0 (λ x. expect x 2) _ p2 refl (expected p2.is c.expect-paren.ensures) same c.in-Done-paren.is in
           let p4 = block-named c.args.depth true _ _ p3 (names-kept 10 c.args.n 0 false c.args.n c.requires.0 (pushed-as c.requires.0 c.head_word.ensures c.push_node-made.ensures) c.in-Done.is c.requires.4) in
           stops 0 _ _ p4 refl (omega arith) t (c.block-body.ensures.does 0 (omega arith) (λ z. refl)) (not_done _ c.in_default-body.in_default-body-own.keys2);
@@ -625,7 +625,7 @@ fn_rest-push_node-done-requires t c =
     let t = c.requires.1.notes in
     let p0 = begin 0 (λ x. fn_rest x (walkers x c.args.depth) c.args.i c.args.n) E e c.requires.0 in
     let p1 = read _ p0 in
-    let p2 = go 0 (λ x. push x 10 false c.args.n 0) _ p1 refl (pushed-as p1.is c.head_word.ensures c.push_node-made.ensures) (kept-nodes c.push_node-made.auto.0 c.push_node-made.auto.1.0) c.in-Done.is in
+    let p2 = go 0 (λ x. push x 10 false c.args.n 0) _ p1 refl (pushed-as p1.is c.head_word.ensures c.push_node-made.ensures) (kept-nodes c.push_node-made.auto.head c.push_node-made.auto.load) c.in-Done.is in
     let p3 = go 0 (λ x. expect x 2) _ p2 refl (expected p2.is c.expect-paren.ensures) same c.in-Done-paren.is in
     let p4 = block-named c.args.depth true _ _ p3 (names-kept 10 c.args.n 0 false c.args.n c.requires.0 (pushed-as c.requires.0 c.head_word.ensures c.push_node-made.ensures) c.in-Done.is c.requires.4) in
     let g5 = goes 0 _ _ p4 refl t (c.block-body.ensures.does 0 (omega arith) (λ z. refl)) (kept c.block-body.auto) c.in-Done-body.is in
@@ -636,7 +636,7 @@ fn_rest-returns-in_default-done t c =
     record {
       tells = λ E e t. let p0 = begin 0 (λ x. fn_rest x (walkers x c.args.depth) c.args.i c.args.n) E e c.requires.0 in
           let p1 = read _ p0 in
-          let p2 = go 0 (λ x. push x 10 false c.args.n 0) _ p1 refl (pushed-as p1.is c.head_word.ensures c.push_node-made.ensures) (kept-nodes c.push_node-made.auto.0 c.push_node-made.auto.1.0) c.in-Done.is in
+          let p2 = go 0 (λ x. push x 10 false c.args.n 0) _ p1 refl (pushed-as p1.is c.head_word.ensures c.push_node-made.ensures) (kept-nodes c.push_node-made.auto.head c.push_node-made.auto.load) c.in-Done.is in
           let p3 = go 0 (λ x. expect x 2) _ p2 refl (expected p2.is c.expect-paren.ensures) same c.in-Done-paren.is in
           let p4 = block-named c.args.depth true _ _ p3 (names-kept 10 c.args.n 0 false c.args.n c.requires.0 (pushed-as c.requires.0 c.head_word.ensures c.push_node-made.ensures) c.in-Done.is c.requires.4) in
           let g5 = goes 0 _ _ p4 refl t (c.block-body.ensures.does 0 (omega arith) (λ z. refl)) (kept c.block-body.auto) c.in-Done-body.is in
@@ -650,11 +650,11 @@ fn_rest-store_name-requires t c =
     let t = c.requires.1.notes in
     let p0 = begin 0 (λ x. fn_rest x (walkers x c.args.depth) c.args.i c.args.n) E e c.requires.0 in
     let p1 = read _ p0 in
-    let p2 = go 0 (λ x. push x 10 false c.args.n 0) _ p1 refl (pushed-as p1.is c.head_word.ensures c.push_node-made.ensures) (kept-nodes c.push_node-made.auto.0 c.push_node-made.auto.1.0) c.in-Done.is in
+    let p2 = go 0 (λ x. push x 10 false c.args.n 0) _ p1 refl (pushed-as p1.is c.head_word.ensures c.push_node-made.ensures) (kept-nodes c.push_node-made.auto.head c.push_node-made.auto.load) c.in-Done.is in
     let p3 = go 0 (λ x. expect x 2) _ p2 refl (expected p2.is c.expect-paren.ensures) same c.in-Done-paren.is in
     let p4 = block-named c.args.depth true _ _ p3 (names-kept 10 c.args.n 0 false c.args.n c.requires.0 (pushed-as c.requires.0 c.head_word.ensures c.push_node-made.ensures) c.in-Done.is c.requires.4) in
     let g5 = goes 0 _ _ p4 refl t (c.block-body.ensures.does 0 (omega arith) (λ z. refl)) (kept c.block-body.auto) c.in-Done-body.is in
-    let p6 = go 0 (λ x. push x 9 false 2 c.args.i) _ g5.at refl (pushed g5.at.is c.push_node-done.ensures) (kept-nodes c.push_node-done.auto.0 c.push_node-done.auto.1.0) c.in-Done-done.is in
+    let p6 = go 0 (λ x. push x 9 false 2 c.args.i) _ g5.at refl (pushed g5.at.is c.push_node-done.ensures) (kept-nodes c.push_node-done.auto.head c.push_node-done.auto.load) c.in-Done-done.is in
     fits-function p6.is c.requires.2 c.requires.3
 
 pub fn_rest-returns : goal.fn_rest-returns
@@ -662,11 +662,11 @@ fn_rest-returns t c =
     record {
       tells = λ E e t. let p0 = begin 0 (λ x. fn_rest x (walkers x c.args.depth) c.args.i c.args.n) E e c.requires.0 in
           let p1 = read _ p0 in
-          let p2 = go 0 (λ x. push x 10 false c.args.n 0) _ p1 refl (pushed-as p1.is c.head_word.ensures c.push_node-made.ensures) (kept-nodes c.push_node-made.auto.0 c.push_node-made.auto.1.0) c.in-Done.is in
+          let p2 = go 0 (λ x. push x 10 false c.args.n 0) _ p1 refl (pushed-as p1.is c.head_word.ensures c.push_node-made.ensures) (kept-nodes c.push_node-made.auto.head c.push_node-made.auto.load) c.in-Done.is in
           let p3 = go 0 (λ x. expect x 2) _ p2 refl (expected p2.is c.expect-paren.ensures) same c.in-Done-paren.is in
           let p4 = block-named c.args.depth true _ _ p3 (names-kept 10 c.args.n 0 false c.args.n c.requires.0 (pushed-as c.requires.0 c.head_word.ensures c.push_node-made.ensures) c.in-Done.is c.requires.4) in
           let g5 = goes 0 _ _ p4 refl t (c.block-body.ensures.does 0 (omega arith) (λ z. refl)) (kept c.block-body.auto) c.in-Done-body.is in
-          let p6 = go 0 (λ x. push x 9 false 2 c.args.i) _ g5.at refl (pushed g5.at.is c.push_node-done.ensures) (kept-nodes c.push_node-done.auto.0 c.push_node-done.auto.1.0) c.in-Done-done.is in
+          let p6 = go 0 (λ x. push x 9 false 2 c.args.i) _ g5.at refl (pushed g5.at.is c.push_node-done.ensures) (kept-nodes c.push_node-done.auto.head c.push_node-done.auto.load) c.in-Done-done.is in
           told g5.notes (last 0 (λ x. store x c.args.i (Function c.args.n)) p6 refl (omega arith) (put p6.is c.store_name.ensures));
     }
 
@@ -851,7 +851,7 @@ if_stmt-branches-requires t c =
     let p1 = go 1 (λ x. expect x 39) _ p0 refl (taken p0.is c.expect-begun.ensures c.requires.2 (λ z. omega arith)) same c.in-Done.is in
     let p2 = go 1 (λ x. (walkers x c.args.depth).assign) _ p1 refl c.expr-test.ensures (kept c.expr-test.auto) c.in-Done-test.is in
     let g3 = goes 0 (λ x. (walkers x c.args.depth).block false []) _ p2 refl t (c.block-body.ensures.does 0 (omega arith) (λ z. refl)) (kept c.block-body.auto) c.in-Done-body.is in
-    (omega (arith, c.decreases), (g3.at.is, book-on c.requires.1 c.block-body.auto.1.1.1.1.1.1.0 c.block-body.auto.1.1.1.1.1.1.1.0 g3, omega (arith, ahead_of (taken p0.is c.expect-begun.ensures c.requires.2 (λ z. omega arith)) c.in-Done.is, ahead_of c.expr-test.ensures c.in-Done-test.is, aheads 0 (λ x. (walkers x c.args.depth).block false []) (book c.requires.1 t p2) p2.is (c.block-body.ensures.does 0 (omega arith) (λ z. refl)) c.in-Done-body.is)))
+    (omega (arith, c.decreases), (g3.at.is, book-on c.requires.1 c.block-body.auto.places c.block-body.auto.reasons g3, omega (arith, ahead_of (taken p0.is c.expect-begun.ensures c.requires.2 (λ z. omega arith)) c.in-Done.is, ahead_of c.expr-test.ensures c.in-Done-test.is, aheads 0 (λ x. (walkers x c.args.depth).block false []) (book c.requires.1 t p2) p2.is (c.block-body.ensures.does 0 (omega arith) (λ z. refl)) c.in-Done-body.is)))
 
 pub if_stmt-returns : goal.if_stmt-returns
 unfolding if_stmt

@@ -36,43 +36,43 @@ call-returns-in_default t c =
 pub call-exprs-inner-requires : goal.call-exprs-inner-requires
 call-exprs-inner-requires t c =
     let c0 = narrowed (call_l (inp c.args.script.now c.args.offs.now c.args.words.now c.args.heads.now c.args.loads.now) (c.wide-count.result - 1)) (c.args.hi - 1) (opening {L = expr_l (inp c.args.script.now c.args.offs.now c.args.words.now c.args.heads.now c.args.loads.now)} {text = c.args.text.now} {hi = c.args.hi} {at = c.args.at}) (is_call (inp c.args.script.now c.args.offs.now c.args.words.now c.args.heads.now c.args.loads.now) c.args.hi (c.wide-count.result - 1) c.requires.1 (omega (arith, c.wide-count.ensures))) (omega arith) in
-    let c1 = put (seq (seq (target_l (inp c.args.script.now c.args.offs.now c.args.words.now c.args.heads.now c.args.loads.now)) (sign_l 40)) (exprs_l (inp c.args.script.now c.args.offs.now c.args.words.now c.args.heads.now c.args.loads.now) (c.wide-count.result - 1))) (sign_l 41) c0 (cut-seq (seq (seq (target_l (inp c.args.script.now c.args.offs.now c.args.words.now c.args.heads.now c.args.loads.now)) (sign_l 40)) (exprs_l (inp c.args.script.now c.args.offs.now c.args.words.now c.args.heads.now c.args.loads.now) (c.wide-count.result - 1))) (sign_l 41) _) c.requires.0 (sign_low 41) c.put_sign-closed.ensures c.put_sign-closed.auto.0 c.in-Done.is in
+    let c1 = put (seq (seq (target_l (inp c.args.script.now c.args.offs.now c.args.words.now c.args.heads.now c.args.loads.now)) (sign_l 40)) (exprs_l (inp c.args.script.now c.args.offs.now c.args.words.now c.args.heads.now c.args.loads.now) (c.wide-count.result - 1))) (sign_l 41) c0 (cut-seq (seq (seq (target_l (inp c.args.script.now c.args.offs.now c.args.words.now c.args.heads.now c.args.loads.now)) (sign_l 40)) (exprs_l (inp c.args.script.now c.args.offs.now c.args.words.now c.args.heads.now c.args.loads.now) (c.wide-count.result - 1))) (sign_l 41) _) c.requires.0 (sign_low 41) c.put_sign-closed.ensures c.put_sign-closed.auto.text c.in-Done.is in
     (omega (arith, c.decreases, (readable (inp c.args.script.now c.args.offs.now c.args.words.now c.args.heads.now c.args.loads.now) c.requires.0.tree c.requires.0.lo c.args.hi c.requires.0.spans).some, stays (seq (seq (target_l (inp c.args.script.now c.args.offs.now c.args.words.now c.args.heads.now c.args.loads.now)) (sign_l 40)) (exprs_l (inp c.args.script.now c.args.offs.now c.args.words.now c.args.heads.now c.args.loads.now) (c.wide-count.result - 1))) (sign_l 41) c0 (cut-seq (seq (seq (target_l (inp c.args.script.now c.args.offs.now c.args.words.now c.args.heads.now c.args.loads.now)) (sign_l 40)) (exprs_l (inp c.args.script.now c.args.offs.now c.args.words.now c.args.heads.now c.args.loads.now) (c.wide-count.result - 1))) (sign_l 41) _) c.requires.0 (sign_low 41) c.put_sign-closed.ensures c.in-Done.is), spot (seq (target_l (inp c.args.script.now c.args.offs.now c.args.words.now c.args.heads.now c.args.loads.now)) (sign_l 40)) (exprs_l (inp c.args.script.now c.args.offs.now c.args.words.now c.args.heads.now c.args.loads.now) (c.wide-count.result - 1)) c1 (cut-seq (seq (target_l (inp c.args.script.now c.args.offs.now c.args.words.now c.args.heads.now c.args.loads.now)) (sign_l 40)) (exprs_l (inp c.args.script.now c.args.offs.now c.args.words.now c.args.heads.now c.args.loads.now) (c.wide-count.result - 1)) _) c.requires.0)
 
 pub call-returns-in_default-inner : goal.call-returns-in_default-inner
 call-returns-in_default-inner t c =
     let c0 = narrowed (call_l (inp c.args.script.now c.args.offs.now c.args.words.now c.args.heads.now c.args.loads.now) (c.wide-count.result - 1)) (c.args.hi - 1) (opening {L = expr_l (inp c.args.script.now c.args.offs.now c.args.words.now c.args.heads.now c.args.loads.now)} {text = c.args.text.now} {hi = c.args.hi} {at = c.args.at}) (is_call (inp c.args.script.now c.args.offs.now c.args.words.now c.args.heads.now c.args.loads.now) c.args.hi (c.wide-count.result - 1) c.requires.1 (omega (arith, c.wide-count.ensures))) (omega arith) in
-    let c1 = put (seq (seq (target_l (inp c.args.script.now c.args.offs.now c.args.words.now c.args.heads.now c.args.loads.now)) (sign_l 40)) (exprs_l (inp c.args.script.now c.args.offs.now c.args.words.now c.args.heads.now c.args.loads.now) (c.wide-count.result - 1))) (sign_l 41) c0 (cut-seq (seq (seq (target_l (inp c.args.script.now c.args.offs.now c.args.words.now c.args.heads.now c.args.loads.now)) (sign_l 40)) (exprs_l (inp c.args.script.now c.args.offs.now c.args.words.now c.args.heads.now c.args.loads.now) (c.wide-count.result - 1))) (sign_l 41) _) c.requires.0 (sign_low 41) c.put_sign-closed.ensures c.put_sign-closed.auto.0 c.in-Done.is in
+    let c1 = put (seq (seq (target_l (inp c.args.script.now c.args.offs.now c.args.words.now c.args.heads.now c.args.loads.now)) (sign_l 40)) (exprs_l (inp c.args.script.now c.args.offs.now c.args.words.now c.args.heads.now c.args.loads.now) (c.wide-count.result - 1))) (sign_l 41) c0 (cut-seq (seq (seq (target_l (inp c.args.script.now c.args.offs.now c.args.words.now c.args.heads.now c.args.loads.now)) (sign_l 40)) (exprs_l (inp c.args.script.now c.args.offs.now c.args.words.now c.args.heads.now c.args.loads.now) (c.wide-count.result - 1))) (sign_l 41) _) c.requires.0 (sign_low 41) c.put_sign-closed.ensures c.put_sign-closed.auto.text c.in-Done.is in
     stop (seq (target_l (inp c.args.script.now c.args.offs.now c.args.words.now c.args.heads.now c.args.loads.now)) (sign_l 40)) (exprs_l (inp c.args.script.now c.args.offs.now c.args.words.now c.args.heads.now c.args.loads.now) (c.wide-count.result - 1)) c1 (cut-seq (seq (target_l (inp c.args.script.now c.args.offs.now c.args.words.now c.args.heads.now c.args.loads.now)) (sign_l 40)) (exprs_l (inp c.args.script.now c.args.offs.now c.args.words.now c.args.heads.now c.args.loads.now) (c.wide-count.result - 1)) _) c.exprs-inner.ensures c.in_default-inner.is
 
 pub call-put_sign-opened-requires : goal.call-put_sign-opened-requires
 call-put_sign-opened-requires t c =
     let c0 = narrowed (call_l (inp c.args.script.now c.args.offs.now c.args.words.now c.args.heads.now c.args.loads.now) (c.wide-count.result - 1)) (c.args.hi - 1) (opening {L = expr_l (inp c.args.script.now c.args.offs.now c.args.words.now c.args.heads.now c.args.loads.now)} {text = c.args.text.now} {hi = c.args.hi} {at = c.args.at}) (is_call (inp c.args.script.now c.args.offs.now c.args.words.now c.args.heads.now c.args.loads.now) c.args.hi (c.wide-count.result - 1) c.requires.1 (omega (arith, c.wide-count.ensures))) (omega arith) in
-    let c1 = put (seq (seq (target_l (inp c.args.script.now c.args.offs.now c.args.words.now c.args.heads.now c.args.loads.now)) (sign_l 40)) (exprs_l (inp c.args.script.now c.args.offs.now c.args.words.now c.args.heads.now c.args.loads.now) (c.wide-count.result - 1))) (sign_l 41) c0 (cut-seq (seq (seq (target_l (inp c.args.script.now c.args.offs.now c.args.words.now c.args.heads.now c.args.loads.now)) (sign_l 40)) (exprs_l (inp c.args.script.now c.args.offs.now c.args.words.now c.args.heads.now c.args.loads.now) (c.wide-count.result - 1))) (sign_l 41) _) c.requires.0 (sign_low 41) c.put_sign-closed.ensures c.put_sign-closed.auto.0 c.in-Done.is in
-    let c2 = put (seq (target_l (inp c.args.script.now c.args.offs.now c.args.words.now c.args.heads.now c.args.loads.now)) (sign_l 40)) (exprs_l (inp c.args.script.now c.args.offs.now c.args.words.now c.args.heads.now c.args.loads.now) (c.wide-count.result - 1)) c1 (cut-seq (seq (target_l (inp c.args.script.now c.args.offs.now c.args.words.now c.args.heads.now c.args.loads.now)) (sign_l 40)) (exprs_l (inp c.args.script.now c.args.offs.now c.args.words.now c.args.heads.now c.args.loads.now) (c.wide-count.result - 1)) _) c.requires.0 (exprs-low (inp c.args.script.now c.args.offs.now c.args.words.now c.args.heads.now c.args.loads.now) (c.wide-count.result - 1)) c.exprs-inner.ensures c.exprs-inner.auto.1.1.1.1.1.0 c.in-Done-inner.is in
+    let c1 = put (seq (seq (target_l (inp c.args.script.now c.args.offs.now c.args.words.now c.args.heads.now c.args.loads.now)) (sign_l 40)) (exprs_l (inp c.args.script.now c.args.offs.now c.args.words.now c.args.heads.now c.args.loads.now) (c.wide-count.result - 1))) (sign_l 41) c0 (cut-seq (seq (seq (target_l (inp c.args.script.now c.args.offs.now c.args.words.now c.args.heads.now c.args.loads.now)) (sign_l 40)) (exprs_l (inp c.args.script.now c.args.offs.now c.args.words.now c.args.heads.now c.args.loads.now) (c.wide-count.result - 1))) (sign_l 41) _) c.requires.0 (sign_low 41) c.put_sign-closed.ensures c.put_sign-closed.auto.text c.in-Done.is in
+    let c2 = put (seq (target_l (inp c.args.script.now c.args.offs.now c.args.words.now c.args.heads.now c.args.loads.now)) (sign_l 40)) (exprs_l (inp c.args.script.now c.args.offs.now c.args.words.now c.args.heads.now c.args.loads.now) (c.wide-count.result - 1)) c1 (cut-seq (seq (target_l (inp c.args.script.now c.args.offs.now c.args.words.now c.args.heads.now c.args.loads.now)) (sign_l 40)) (exprs_l (inp c.args.script.now c.args.offs.now c.args.words.now c.args.heads.now c.args.loads.now) (c.wide-count.result - 1)) _) c.requires.0 (exprs-low (inp c.args.script.now c.args.offs.now c.args.words.now c.args.heads.now c.args.loads.now) (c.wide-count.result - 1)) c.exprs-inner.ensures c.exprs-inner.auto.text c.in-Done-inner.is in
     (here c2 c.requires.0).room
 
 pub call-returns-in_default-opened : goal.call-returns-in_default-opened
 call-returns-in_default-opened t c =
     let c0 = narrowed (call_l (inp c.args.script.now c.args.offs.now c.args.words.now c.args.heads.now c.args.loads.now) (c.wide-count.result - 1)) (c.args.hi - 1) (opening {L = expr_l (inp c.args.script.now c.args.offs.now c.args.words.now c.args.heads.now c.args.loads.now)} {text = c.args.text.now} {hi = c.args.hi} {at = c.args.at}) (is_call (inp c.args.script.now c.args.offs.now c.args.words.now c.args.heads.now c.args.loads.now) c.args.hi (c.wide-count.result - 1) c.requires.1 (omega (arith, c.wide-count.ensures))) (omega arith) in
-    let c1 = put (seq (seq (target_l (inp c.args.script.now c.args.offs.now c.args.words.now c.args.heads.now c.args.loads.now)) (sign_l 40)) (exprs_l (inp c.args.script.now c.args.offs.now c.args.words.now c.args.heads.now c.args.loads.now) (c.wide-count.result - 1))) (sign_l 41) c0 (cut-seq (seq (seq (target_l (inp c.args.script.now c.args.offs.now c.args.words.now c.args.heads.now c.args.loads.now)) (sign_l 40)) (exprs_l (inp c.args.script.now c.args.offs.now c.args.words.now c.args.heads.now c.args.loads.now) (c.wide-count.result - 1))) (sign_l 41) _) c.requires.0 (sign_low 41) c.put_sign-closed.ensures c.put_sign-closed.auto.0 c.in-Done.is in
-    let c2 = put (seq (target_l (inp c.args.script.now c.args.offs.now c.args.words.now c.args.heads.now c.args.loads.now)) (sign_l 40)) (exprs_l (inp c.args.script.now c.args.offs.now c.args.words.now c.args.heads.now c.args.loads.now) (c.wide-count.result - 1)) c1 (cut-seq (seq (target_l (inp c.args.script.now c.args.offs.now c.args.words.now c.args.heads.now c.args.loads.now)) (sign_l 40)) (exprs_l (inp c.args.script.now c.args.offs.now c.args.words.now c.args.heads.now c.args.loads.now) (c.wide-count.result - 1)) _) c.requires.0 (exprs-low (inp c.args.script.now c.args.offs.now c.args.words.now c.args.heads.now c.args.loads.now) (c.wide-count.result - 1)) c.exprs-inner.ensures c.exprs-inner.auto.1.1.1.1.1.0 c.in-Done-inner.is in
+    let c1 = put (seq (seq (target_l (inp c.args.script.now c.args.offs.now c.args.words.now c.args.heads.now c.args.loads.now)) (sign_l 40)) (exprs_l (inp c.args.script.now c.args.offs.now c.args.words.now c.args.heads.now c.args.loads.now) (c.wide-count.result - 1))) (sign_l 41) c0 (cut-seq (seq (seq (target_l (inp c.args.script.now c.args.offs.now c.args.words.now c.args.heads.now c.args.loads.now)) (sign_l 40)) (exprs_l (inp c.args.script.now c.args.offs.now c.args.words.now c.args.heads.now c.args.loads.now) (c.wide-count.result - 1))) (sign_l 41) _) c.requires.0 (sign_low 41) c.put_sign-closed.ensures c.put_sign-closed.auto.text c.in-Done.is in
+    let c2 = put (seq (target_l (inp c.args.script.now c.args.offs.now c.args.words.now c.args.heads.now c.args.loads.now)) (sign_l 40)) (exprs_l (inp c.args.script.now c.args.offs.now c.args.words.now c.args.heads.now c.args.loads.now) (c.wide-count.result - 1)) c1 (cut-seq (seq (target_l (inp c.args.script.now c.args.offs.now c.args.words.now c.args.heads.now c.args.loads.now)) (sign_l 40)) (exprs_l (inp c.args.script.now c.args.offs.now c.args.words.now c.args.heads.now c.args.loads.now) (c.wide-count.result - 1)) _) c.requires.0 (exprs-low (inp c.args.script.now c.args.offs.now c.args.words.now c.args.heads.now c.args.loads.now) (c.wide-count.result - 1)) c.exprs-inner.ensures c.exprs-inner.auto.text c.in-Done-inner.is in
     stop (target_l (inp c.args.script.now c.args.offs.now c.args.words.now c.args.heads.now c.args.loads.now)) (sign_l 40) c2 (cut-seq (target_l (inp c.args.script.now c.args.offs.now c.args.words.now c.args.heads.now c.args.loads.now)) (sign_l 40) _) c.put_sign-opened.ensures c.in_default-opened.is
 
 pub call-leaf-requires : goal.call-leaf-requires
 call-leaf-requires t c =
     let c0 = narrowed (call_l (inp c.args.script.now c.args.offs.now c.args.words.now c.args.heads.now c.args.loads.now) (c.wide-count.result - 1)) (c.args.hi - 1) (opening {L = expr_l (inp c.args.script.now c.args.offs.now c.args.words.now c.args.heads.now c.args.loads.now)} {text = c.args.text.now} {hi = c.args.hi} {at = c.args.at}) (is_call (inp c.args.script.now c.args.offs.now c.args.words.now c.args.heads.now c.args.loads.now) c.args.hi (c.wide-count.result - 1) c.requires.1 (omega (arith, c.wide-count.ensures))) (omega arith) in
-    let c1 = put (seq (seq (target_l (inp c.args.script.now c.args.offs.now c.args.words.now c.args.heads.now c.args.loads.now)) (sign_l 40)) (exprs_l (inp c.args.script.now c.args.offs.now c.args.words.now c.args.heads.now c.args.loads.now) (c.wide-count.result - 1))) (sign_l 41) c0 (cut-seq (seq (seq (target_l (inp c.args.script.now c.args.offs.now c.args.words.now c.args.heads.now c.args.loads.now)) (sign_l 40)) (exprs_l (inp c.args.script.now c.args.offs.now c.args.words.now c.args.heads.now c.args.loads.now) (c.wide-count.result - 1))) (sign_l 41) _) c.requires.0 (sign_low 41) c.put_sign-closed.ensures c.put_sign-closed.auto.0 c.in-Done.is in
-    let c2 = put (seq (target_l (inp c.args.script.now c.args.offs.now c.args.words.now c.args.heads.now c.args.loads.now)) (sign_l 40)) (exprs_l (inp c.args.script.now c.args.offs.now c.args.words.now c.args.heads.now c.args.loads.now) (c.wide-count.result - 1)) c1 (cut-seq (seq (target_l (inp c.args.script.now c.args.offs.now c.args.words.now c.args.heads.now c.args.loads.now)) (sign_l 40)) (exprs_l (inp c.args.script.now c.args.offs.now c.args.words.now c.args.heads.now c.args.loads.now) (c.wide-count.result - 1)) _) c.requires.0 (exprs-low (inp c.args.script.now c.args.offs.now c.args.words.now c.args.heads.now c.args.loads.now) (c.wide-count.result - 1)) c.exprs-inner.ensures c.exprs-inner.auto.1.1.1.1.1.0 c.in-Done-inner.is in
-    let c3 = put (target_l (inp c.args.script.now c.args.offs.now c.args.words.now c.args.heads.now c.args.loads.now)) (sign_l 40) c2 (cut-seq (target_l (inp c.args.script.now c.args.offs.now c.args.words.now c.args.heads.now c.args.loads.now)) (sign_l 40) _) c.requires.0 (sign_low 40) c.put_sign-opened.ensures c.put_sign-opened.auto.0 c.in-Done-opened.is in
+    let c1 = put (seq (seq (target_l (inp c.args.script.now c.args.offs.now c.args.words.now c.args.heads.now c.args.loads.now)) (sign_l 40)) (exprs_l (inp c.args.script.now c.args.offs.now c.args.words.now c.args.heads.now c.args.loads.now) (c.wide-count.result - 1))) (sign_l 41) c0 (cut-seq (seq (seq (target_l (inp c.args.script.now c.args.offs.now c.args.words.now c.args.heads.now c.args.loads.now)) (sign_l 40)) (exprs_l (inp c.args.script.now c.args.offs.now c.args.words.now c.args.heads.now c.args.loads.now) (c.wide-count.result - 1))) (sign_l 41) _) c.requires.0 (sign_low 41) c.put_sign-closed.ensures c.put_sign-closed.auto.text c.in-Done.is in
+    let c2 = put (seq (target_l (inp c.args.script.now c.args.offs.now c.args.words.now c.args.heads.now c.args.loads.now)) (sign_l 40)) (exprs_l (inp c.args.script.now c.args.offs.now c.args.words.now c.args.heads.now c.args.loads.now) (c.wide-count.result - 1)) c1 (cut-seq (seq (target_l (inp c.args.script.now c.args.offs.now c.args.words.now c.args.heads.now c.args.loads.now)) (sign_l 40)) (exprs_l (inp c.args.script.now c.args.offs.now c.args.words.now c.args.heads.now c.args.loads.now) (c.wide-count.result - 1)) _) c.requires.0 (exprs-low (inp c.args.script.now c.args.offs.now c.args.words.now c.args.heads.now c.args.loads.now) (c.wide-count.result - 1)) c.exprs-inner.ensures c.exprs-inner.auto.text c.in-Done-inner.is in
+    let c3 = put (target_l (inp c.args.script.now c.args.offs.now c.args.words.now c.args.heads.now c.args.loads.now)) (sign_l 40) c2 (cut-seq (target_l (inp c.args.script.now c.args.offs.now c.args.words.now c.args.heads.now c.args.loads.now)) (sign_l 40) _) c.requires.0 (sign_low 40) c.put_sign-opened.ensures c.put_sign-opened.auto.text c.in-Done-opened.is in
     here c3 c.requires.0
 
 pub call-returns : goal.call-returns
 call-returns t c =
     let c0 = narrowed (call_l (inp c.args.script.now c.args.offs.now c.args.words.now c.args.heads.now c.args.loads.now) (c.wide-count.result - 1)) (c.args.hi - 1) (opening {L = expr_l (inp c.args.script.now c.args.offs.now c.args.words.now c.args.heads.now c.args.loads.now)} {text = c.args.text.now} {hi = c.args.hi} {at = c.args.at}) (is_call (inp c.args.script.now c.args.offs.now c.args.words.now c.args.heads.now c.args.loads.now) c.args.hi (c.wide-count.result - 1) c.requires.1 (omega (arith, c.wide-count.ensures))) (omega arith) in
-    let c1 = put (seq (seq (target_l (inp c.args.script.now c.args.offs.now c.args.words.now c.args.heads.now c.args.loads.now)) (sign_l 40)) (exprs_l (inp c.args.script.now c.args.offs.now c.args.words.now c.args.heads.now c.args.loads.now) (c.wide-count.result - 1))) (sign_l 41) c0 (cut-seq (seq (seq (target_l (inp c.args.script.now c.args.offs.now c.args.words.now c.args.heads.now c.args.loads.now)) (sign_l 40)) (exprs_l (inp c.args.script.now c.args.offs.now c.args.words.now c.args.heads.now c.args.loads.now) (c.wide-count.result - 1))) (sign_l 41) _) c.requires.0 (sign_low 41) c.put_sign-closed.ensures c.put_sign-closed.auto.0 c.in-Done.is in
-    let c2 = put (seq (target_l (inp c.args.script.now c.args.offs.now c.args.words.now c.args.heads.now c.args.loads.now)) (sign_l 40)) (exprs_l (inp c.args.script.now c.args.offs.now c.args.words.now c.args.heads.now c.args.loads.now) (c.wide-count.result - 1)) c1 (cut-seq (seq (target_l (inp c.args.script.now c.args.offs.now c.args.words.now c.args.heads.now c.args.loads.now)) (sign_l 40)) (exprs_l (inp c.args.script.now c.args.offs.now c.args.words.now c.args.heads.now c.args.loads.now) (c.wide-count.result - 1)) _) c.requires.0 (exprs-low (inp c.args.script.now c.args.offs.now c.args.words.now c.args.heads.now c.args.loads.now) (c.wide-count.result - 1)) c.exprs-inner.ensures c.exprs-inner.auto.1.1.1.1.1.0 c.in-Done-inner.is in
-    let c3 = put (target_l (inp c.args.script.now c.args.offs.now c.args.words.now c.args.heads.now c.args.loads.now)) (sign_l 40) c2 (cut-seq (target_l (inp c.args.script.now c.args.offs.now c.args.words.now c.args.heads.now c.args.loads.now)) (sign_l 40) _) c.requires.0 (sign_low 40) c.put_sign-opened.ensures c.put_sign-opened.auto.0 c.in-Done-opened.is in
+    let c1 = put (seq (seq (target_l (inp c.args.script.now c.args.offs.now c.args.words.now c.args.heads.now c.args.loads.now)) (sign_l 40)) (exprs_l (inp c.args.script.now c.args.offs.now c.args.words.now c.args.heads.now c.args.loads.now) (c.wide-count.result - 1))) (sign_l 41) c0 (cut-seq (seq (seq (target_l (inp c.args.script.now c.args.offs.now c.args.words.now c.args.heads.now c.args.loads.now)) (sign_l 40)) (exprs_l (inp c.args.script.now c.args.offs.now c.args.words.now c.args.heads.now c.args.loads.now) (c.wide-count.result - 1))) (sign_l 41) _) c.requires.0 (sign_low 41) c.put_sign-closed.ensures c.put_sign-closed.auto.text c.in-Done.is in
+    let c2 = put (seq (target_l (inp c.args.script.now c.args.offs.now c.args.words.now c.args.heads.now c.args.loads.now)) (sign_l 40)) (exprs_l (inp c.args.script.now c.args.offs.now c.args.words.now c.args.heads.now c.args.loads.now) (c.wide-count.result - 1)) c1 (cut-seq (seq (target_l (inp c.args.script.now c.args.offs.now c.args.words.now c.args.heads.now c.args.loads.now)) (sign_l 40)) (exprs_l (inp c.args.script.now c.args.offs.now c.args.words.now c.args.heads.now c.args.loads.now) (c.wide-count.result - 1)) _) c.requires.0 (exprs-low (inp c.args.script.now c.args.offs.now c.args.words.now c.args.heads.now c.args.loads.now) (c.wide-count.result - 1)) c.exprs-inner.ensures c.exprs-inner.auto.text c.in-Done-inner.is in
+    let c3 = put (target_l (inp c.args.script.now c.args.offs.now c.args.words.now c.args.heads.now c.args.loads.now)) (sign_l 40) c2 (cut-seq (target_l (inp c.args.script.now c.args.offs.now c.args.words.now c.args.heads.now c.args.loads.now)) (sign_l 40) _) c.requires.0 (sign_low 40) c.put_sign-opened.ensures c.put_sign-opened.auto.text c.in-Done-opened.is in
     end c3 c.requires.0.room c.leaf.ensures
 
 pub element-overflow_sub-hi : goal.element-overflow_sub-hi
@@ -91,27 +91,27 @@ element-returns-in_default t c =
 pub element-put_sign-sign-requires : goal.element-put_sign-sign-requires
 element-put_sign-sign-requires t c =
     let c0 = narrowed (element_l (inp c.args.script.now c.args.offs.now c.args.words.now c.args.heads.now c.args.loads.now)) (c.args.hi - 1) (opening {L = expr_l (inp c.args.script.now c.args.offs.now c.args.words.now c.args.heads.now c.args.loads.now)} {text = c.args.text.now} {hi = c.args.hi} {at = c.args.at}) (is-element (inp c.args.script.now c.args.offs.now c.args.words.now c.args.heads.now c.args.loads.now) c.args.hi c.requires.1) (omega arith) in
-    let c1 = put (seq (subscript_l (inp c.args.script.now c.args.offs.now c.args.words.now c.args.heads.now c.args.loads.now)) (sign_l 61)) (expr_l (inp c.args.script.now c.args.offs.now c.args.words.now c.args.heads.now c.args.loads.now)) c0 (cut-seq (seq (subscript_l (inp c.args.script.now c.args.offs.now c.args.words.now c.args.heads.now c.args.loads.now)) (sign_l 61)) (expr_l (inp c.args.script.now c.args.offs.now c.args.words.now c.args.heads.now c.args.loads.now)) _) c.requires.0 (expr-low (inp c.args.script.now c.args.offs.now c.args.words.now c.args.heads.now c.args.loads.now)) c.expr-value.ensures c.expr-value.auto.1.1.1.1.1.0 c.in-Done.is in
+    let c1 = put (seq (subscript_l (inp c.args.script.now c.args.offs.now c.args.words.now c.args.heads.now c.args.loads.now)) (sign_l 61)) (expr_l (inp c.args.script.now c.args.offs.now c.args.words.now c.args.heads.now c.args.loads.now)) c0 (cut-seq (seq (subscript_l (inp c.args.script.now c.args.offs.now c.args.words.now c.args.heads.now c.args.loads.now)) (sign_l 61)) (expr_l (inp c.args.script.now c.args.offs.now c.args.words.now c.args.heads.now c.args.loads.now)) _) c.requires.0 (expr-low (inp c.args.script.now c.args.offs.now c.args.words.now c.args.heads.now c.args.loads.now)) c.expr-value.ensures c.expr-value.auto.text c.in-Done.is in
     (here c1 c.requires.0).room
 
 pub element-returns-in_default-sign : goal.element-returns-in_default-sign
 element-returns-in_default-sign t c =
     let c0 = narrowed (element_l (inp c.args.script.now c.args.offs.now c.args.words.now c.args.heads.now c.args.loads.now)) (c.args.hi - 1) (opening {L = expr_l (inp c.args.script.now c.args.offs.now c.args.words.now c.args.heads.now c.args.loads.now)} {text = c.args.text.now} {hi = c.args.hi} {at = c.args.at}) (is-element (inp c.args.script.now c.args.offs.now c.args.words.now c.args.heads.now c.args.loads.now) c.args.hi c.requires.1) (omega arith) in
-    let c1 = put (seq (subscript_l (inp c.args.script.now c.args.offs.now c.args.words.now c.args.heads.now c.args.loads.now)) (sign_l 61)) (expr_l (inp c.args.script.now c.args.offs.now c.args.words.now c.args.heads.now c.args.loads.now)) c0 (cut-seq (seq (subscript_l (inp c.args.script.now c.args.offs.now c.args.words.now c.args.heads.now c.args.loads.now)) (sign_l 61)) (expr_l (inp c.args.script.now c.args.offs.now c.args.words.now c.args.heads.now c.args.loads.now)) _) c.requires.0 (expr-low (inp c.args.script.now c.args.offs.now c.args.words.now c.args.heads.now c.args.loads.now)) c.expr-value.ensures c.expr-value.auto.1.1.1.1.1.0 c.in-Done.is in
+    let c1 = put (seq (subscript_l (inp c.args.script.now c.args.offs.now c.args.words.now c.args.heads.now c.args.loads.now)) (sign_l 61)) (expr_l (inp c.args.script.now c.args.offs.now c.args.words.now c.args.heads.now c.args.loads.now)) c0 (cut-seq (seq (subscript_l (inp c.args.script.now c.args.offs.now c.args.words.now c.args.heads.now c.args.loads.now)) (sign_l 61)) (expr_l (inp c.args.script.now c.args.offs.now c.args.words.now c.args.heads.now c.args.loads.now)) _) c.requires.0 (expr-low (inp c.args.script.now c.args.offs.now c.args.words.now c.args.heads.now c.args.loads.now)) c.expr-value.ensures c.expr-value.auto.text c.in-Done.is in
     stop (subscript_l (inp c.args.script.now c.args.offs.now c.args.words.now c.args.heads.now c.args.loads.now)) (sign_l 61) c1 (cut-seq (subscript_l (inp c.args.script.now c.args.offs.now c.args.words.now c.args.heads.now c.args.loads.now)) (sign_l 61) _) c.put_sign-sign.ensures c.in_default-sign.is
 
 pub element-subscript-requires : goal.element-subscript-requires
 element-subscript-requires t c =
     let c0 = narrowed (element_l (inp c.args.script.now c.args.offs.now c.args.words.now c.args.heads.now c.args.loads.now)) (c.args.hi - 1) (opening {L = expr_l (inp c.args.script.now c.args.offs.now c.args.words.now c.args.heads.now c.args.loads.now)} {text = c.args.text.now} {hi = c.args.hi} {at = c.args.at}) (is-element (inp c.args.script.now c.args.offs.now c.args.words.now c.args.heads.now c.args.loads.now) c.args.hi c.requires.1) (omega arith) in
-    let c1 = put (seq (subscript_l (inp c.args.script.now c.args.offs.now c.args.words.now c.args.heads.now c.args.loads.now)) (sign_l 61)) (expr_l (inp c.args.script.now c.args.offs.now c.args.words.now c.args.heads.now c.args.loads.now)) c0 (cut-seq (seq (subscript_l (inp c.args.script.now c.args.offs.now c.args.words.now c.args.heads.now c.args.loads.now)) (sign_l 61)) (expr_l (inp c.args.script.now c.args.offs.now c.args.words.now c.args.heads.now c.args.loads.now)) _) c.requires.0 (expr-low (inp c.args.script.now c.args.offs.now c.args.words.now c.args.heads.now c.args.loads.now)) c.expr-value.ensures c.expr-value.auto.1.1.1.1.1.0 c.in-Done.is in
-    let c2 = put (subscript_l (inp c.args.script.now c.args.offs.now c.args.words.now c.args.heads.now c.args.loads.now)) (sign_l 61) c1 (cut-seq (subscript_l (inp c.args.script.now c.args.offs.now c.args.words.now c.args.heads.now c.args.loads.now)) (sign_l 61) _) c.requires.0 (sign_low 61) c.put_sign-sign.ensures c.put_sign-sign.auto.0 c.in-Done-sign.is in
+    let c1 = put (seq (subscript_l (inp c.args.script.now c.args.offs.now c.args.words.now c.args.heads.now c.args.loads.now)) (sign_l 61)) (expr_l (inp c.args.script.now c.args.offs.now c.args.words.now c.args.heads.now c.args.loads.now)) c0 (cut-seq (seq (subscript_l (inp c.args.script.now c.args.offs.now c.args.words.now c.args.heads.now c.args.loads.now)) (sign_l 61)) (expr_l (inp c.args.script.now c.args.offs.now c.args.words.now c.args.heads.now c.args.loads.now)) _) c.requires.0 (expr-low (inp c.args.script.now c.args.offs.now c.args.words.now c.args.heads.now c.args.loads.now)) c.expr-value.ensures c.expr-value.auto.text c.in-Done.is in
+    let c2 = put (subscript_l (inp c.args.script.now c.args.offs.now c.args.words.now c.args.heads.now c.args.loads.now)) (sign_l 61) c1 (cut-seq (subscript_l (inp c.args.script.now c.args.offs.now c.args.words.now c.args.heads.now c.args.loads.now)) (sign_l 61) _) c.requires.0 (sign_low 61) c.put_sign-sign.ensures c.put_sign-sign.auto.text c.in-Done-sign.is in
     (omega (arith, c.decreases, (readable (inp c.args.script.now c.args.offs.now c.args.words.now c.args.heads.now c.args.loads.now) c.requires.0.tree c.requires.0.lo c.args.hi c.requires.0.spans).some, stays (seq (subscript_l (inp c.args.script.now c.args.offs.now c.args.words.now c.args.heads.now c.args.loads.now)) (sign_l 61)) (expr_l (inp c.args.script.now c.args.offs.now c.args.words.now c.args.heads.now c.args.loads.now)) c0 (cut-seq (seq (subscript_l (inp c.args.script.now c.args.offs.now c.args.words.now c.args.heads.now c.args.loads.now)) (sign_l 61)) (expr_l (inp c.args.script.now c.args.offs.now c.args.words.now c.args.heads.now c.args.loads.now)) _) c.requires.0 (expr-low (inp c.args.script.now c.args.offs.now c.args.words.now c.args.heads.now c.args.loads.now)) c.expr-value.ensures c.in-Done.is, stays (subscript_l (inp c.args.script.now c.args.offs.now c.args.words.now c.args.heads.now c.args.loads.now)) (sign_l 61) c1 (cut-seq (subscript_l (inp c.args.script.now c.args.offs.now c.args.words.now c.args.heads.now c.args.loads.now)) (sign_l 61) _) c.requires.0 (sign_low 61) c.put_sign-sign.ensures c.in-Done-sign.is), here c2 c.requires.0)
 
 pub element-returns : goal.element-returns
 element-returns t c =
     let c0 = narrowed (element_l (inp c.args.script.now c.args.offs.now c.args.words.now c.args.heads.now c.args.loads.now)) (c.args.hi - 1) (opening {L = expr_l (inp c.args.script.now c.args.offs.now c.args.words.now c.args.heads.now c.args.loads.now)} {text = c.args.text.now} {hi = c.args.hi} {at = c.args.at}) (is-element (inp c.args.script.now c.args.offs.now c.args.words.now c.args.heads.now c.args.loads.now) c.args.hi c.requires.1) (omega arith) in
-    let c1 = put (seq (subscript_l (inp c.args.script.now c.args.offs.now c.args.words.now c.args.heads.now c.args.loads.now)) (sign_l 61)) (expr_l (inp c.args.script.now c.args.offs.now c.args.words.now c.args.heads.now c.args.loads.now)) c0 (cut-seq (seq (subscript_l (inp c.args.script.now c.args.offs.now c.args.words.now c.args.heads.now c.args.loads.now)) (sign_l 61)) (expr_l (inp c.args.script.now c.args.offs.now c.args.words.now c.args.heads.now c.args.loads.now)) _) c.requires.0 (expr-low (inp c.args.script.now c.args.offs.now c.args.words.now c.args.heads.now c.args.loads.now)) c.expr-value.ensures c.expr-value.auto.1.1.1.1.1.0 c.in-Done.is in
-    let c2 = put (subscript_l (inp c.args.script.now c.args.offs.now c.args.words.now c.args.heads.now c.args.loads.now)) (sign_l 61) c1 (cut-seq (subscript_l (inp c.args.script.now c.args.offs.now c.args.words.now c.args.heads.now c.args.loads.now)) (sign_l 61) _) c.requires.0 (sign_low 61) c.put_sign-sign.ensures c.put_sign-sign.auto.0 c.in-Done-sign.is in
+    let c1 = put (seq (subscript_l (inp c.args.script.now c.args.offs.now c.args.words.now c.args.heads.now c.args.loads.now)) (sign_l 61)) (expr_l (inp c.args.script.now c.args.offs.now c.args.words.now c.args.heads.now c.args.loads.now)) c0 (cut-seq (seq (subscript_l (inp c.args.script.now c.args.offs.now c.args.words.now c.args.heads.now c.args.loads.now)) (sign_l 61)) (expr_l (inp c.args.script.now c.args.offs.now c.args.words.now c.args.heads.now c.args.loads.now)) _) c.requires.0 (expr-low (inp c.args.script.now c.args.offs.now c.args.words.now c.args.heads.now c.args.loads.now)) c.expr-value.ensures c.expr-value.auto.text c.in-Done.is in
+    let c2 = put (subscript_l (inp c.args.script.now c.args.offs.now c.args.words.now c.args.heads.now c.args.loads.now)) (sign_l 61) c1 (cut-seq (subscript_l (inp c.args.script.now c.args.offs.now c.args.words.now c.args.heads.now c.args.loads.now)) (sign_l 61) _) c.requires.0 (sign_low 61) c.put_sign-sign.ensures c.put_sign-sign.auto.text c.in-Done-sign.is in
     end c2 c.requires.0.room c.subscript.ensures
 
 pub expr-loop-text-init : goal.expr-loop-text-init
@@ -183,20 +183,20 @@ expr-returns-in_default t c =
 pub expr-put_token-op-requires : goal.expr-put_token-op-requires
 expr-put_token-op-requires t c =
     let b0 = narrowed (two_l (inp c.args.script.now c.args.offs.now c.args.words.now c.args.heads.now c.args.loads.now) c.loop-text.h c.looseness-n.result) (c.loop-text.h - 1) c.loop-text.invariant (is-two (inp c.args.script.now c.args.offs.now c.args.words.now c.args.heads.now c.args.loads.now) c.loop-text.h _ _ c.if-heads-m-ne-BINARY_EXPR.false c.wide-tok.ensures c.looseness-n.ensures) (omega arith) in
-    let b1 = put (seq (operand_l (inp c.args.script.now c.args.offs.now c.args.words.now c.args.heads.now c.args.loads.now) (c.looseness-n.result + 1)) (own_l (inp c.args.script.now c.args.offs.now c.args.words.now c.args.heads.now c.args.loads.now) c.loop-text.h)) (operand_l (inp c.args.script.now c.args.offs.now c.args.words.now c.args.heads.now c.args.loads.now) c.looseness-n.result) b0 (cut-seq (seq (operand_l (inp c.args.script.now c.args.offs.now c.args.words.now c.args.heads.now c.args.loads.now) (c.looseness-n.result + 1)) (own_l (inp c.args.script.now c.args.offs.now c.args.words.now c.args.heads.now c.args.loads.now) c.loop-text.h)) (operand_l (inp c.args.script.now c.args.offs.now c.args.words.now c.args.heads.now c.args.loads.now) c.looseness-n.result) _) c.requires (operand_low (inp c.args.script.now c.args.offs.now c.args.words.now c.args.heads.now c.args.loads.now) c.looseness-n.result) c.operand-right.ensures c.operand-right.auto.1.1.1.1.1.0 c.in-Done.is in
+    let b1 = put (seq (operand_l (inp c.args.script.now c.args.offs.now c.args.words.now c.args.heads.now c.args.loads.now) (c.looseness-n.result + 1)) (own_l (inp c.args.script.now c.args.offs.now c.args.words.now c.args.heads.now c.args.loads.now) c.loop-text.h)) (operand_l (inp c.args.script.now c.args.offs.now c.args.words.now c.args.heads.now c.args.loads.now) c.looseness-n.result) b0 (cut-seq (seq (operand_l (inp c.args.script.now c.args.offs.now c.args.words.now c.args.heads.now c.args.loads.now) (c.looseness-n.result + 1)) (own_l (inp c.args.script.now c.args.offs.now c.args.words.now c.args.heads.now c.args.loads.now) c.loop-text.h)) (operand_l (inp c.args.script.now c.args.offs.now c.args.words.now c.args.heads.now c.args.loads.now) c.looseness-n.result) _) c.requires (operand_low (inp c.args.script.now c.args.offs.now c.args.words.now c.args.heads.now c.args.loads.now) c.looseness-n.result) c.operand-right.ensures c.operand-right.auto.text c.in-Done.is in
     spot (operand_l (inp c.args.script.now c.args.offs.now c.args.words.now c.args.heads.now c.args.loads.now) (c.looseness-n.result + 1)) (own_l (inp c.args.script.now c.args.offs.now c.args.words.now c.args.heads.now c.args.loads.now) c.loop-text.h) b1 (cut-seq (operand_l (inp c.args.script.now c.args.offs.now c.args.words.now c.args.heads.now c.args.loads.now) (c.looseness-n.result + 1)) (own_l (inp c.args.script.now c.args.offs.now c.args.words.now c.args.heads.now c.args.loads.now) c.loop-text.h) _) c.requires
 
 pub expr-returns-in_default-op : goal.expr-returns-in_default-op
 expr-returns-in_default-op t c =
     let b0 = narrowed (two_l (inp c.args.script.now c.args.offs.now c.args.words.now c.args.heads.now c.args.loads.now) c.loop-text.h c.looseness-n.result) (c.loop-text.h - 1) c.loop-text.invariant (is-two (inp c.args.script.now c.args.offs.now c.args.words.now c.args.heads.now c.args.loads.now) c.loop-text.h _ _ c.if-heads-m-ne-BINARY_EXPR.false c.wide-tok.ensures c.looseness-n.ensures) (omega arith) in
-    let b1 = put (seq (operand_l (inp c.args.script.now c.args.offs.now c.args.words.now c.args.heads.now c.args.loads.now) (c.looseness-n.result + 1)) (own_l (inp c.args.script.now c.args.offs.now c.args.words.now c.args.heads.now c.args.loads.now) c.loop-text.h)) (operand_l (inp c.args.script.now c.args.offs.now c.args.words.now c.args.heads.now c.args.loads.now) c.looseness-n.result) b0 (cut-seq (seq (operand_l (inp c.args.script.now c.args.offs.now c.args.words.now c.args.heads.now c.args.loads.now) (c.looseness-n.result + 1)) (own_l (inp c.args.script.now c.args.offs.now c.args.words.now c.args.heads.now c.args.loads.now) c.loop-text.h)) (operand_l (inp c.args.script.now c.args.offs.now c.args.words.now c.args.heads.now c.args.loads.now) c.looseness-n.result) _) c.requires (operand_low (inp c.args.script.now c.args.offs.now c.args.words.now c.args.heads.now c.args.loads.now) c.looseness-n.result) c.operand-right.ensures c.operand-right.auto.1.1.1.1.1.0 c.in-Done.is in
+    let b1 = put (seq (operand_l (inp c.args.script.now c.args.offs.now c.args.words.now c.args.heads.now c.args.loads.now) (c.looseness-n.result + 1)) (own_l (inp c.args.script.now c.args.offs.now c.args.words.now c.args.heads.now c.args.loads.now) c.loop-text.h)) (operand_l (inp c.args.script.now c.args.offs.now c.args.words.now c.args.heads.now c.args.loads.now) c.looseness-n.result) b0 (cut-seq (seq (operand_l (inp c.args.script.now c.args.offs.now c.args.words.now c.args.heads.now c.args.loads.now) (c.looseness-n.result + 1)) (own_l (inp c.args.script.now c.args.offs.now c.args.words.now c.args.heads.now c.args.loads.now) c.loop-text.h)) (operand_l (inp c.args.script.now c.args.offs.now c.args.words.now c.args.heads.now c.args.loads.now) c.looseness-n.result) _) c.requires (operand_low (inp c.args.script.now c.args.offs.now c.args.words.now c.args.heads.now c.args.loads.now) c.looseness-n.result) c.operand-right.ensures c.operand-right.auto.text c.in-Done.is in
     stop (operand_l (inp c.args.script.now c.args.offs.now c.args.words.now c.args.heads.now c.args.loads.now) (c.looseness-n.result + 1)) (own_l (inp c.args.script.now c.args.offs.now c.args.words.now c.args.heads.now c.args.loads.now) c.loop-text.h) b1 (cut-seq (operand_l (inp c.args.script.now c.args.offs.now c.args.words.now c.args.heads.now c.args.loads.now) (c.looseness-n.result + 1)) (own_l (inp c.args.script.now c.args.offs.now c.args.words.now c.args.heads.now c.args.loads.now) c.loop-text.h) _) c.put_token-op.ensures c.in_default-op.is
 
 pub expr-height-requires : goal.expr-height-requires
 expr-height-requires t c =
     let b0 = narrowed (two_l (inp c.args.script.now c.args.offs.now c.args.words.now c.args.heads.now c.args.loads.now) c.loop-text.h c.looseness-n.result) (c.loop-text.h - 1) c.loop-text.invariant (is-two (inp c.args.script.now c.args.offs.now c.args.words.now c.args.heads.now c.args.loads.now) c.loop-text.h _ _ c.if-heads-m-ne-BINARY_EXPR.false c.wide-tok.ensures c.looseness-n.ensures) (omega arith) in
-    let b1 = put (seq (operand_l (inp c.args.script.now c.args.offs.now c.args.words.now c.args.heads.now c.args.loads.now) (c.looseness-n.result + 1)) (own_l (inp c.args.script.now c.args.offs.now c.args.words.now c.args.heads.now c.args.loads.now) c.loop-text.h)) (operand_l (inp c.args.script.now c.args.offs.now c.args.words.now c.args.heads.now c.args.loads.now) c.looseness-n.result) b0 (cut-seq (seq (operand_l (inp c.args.script.now c.args.offs.now c.args.words.now c.args.heads.now c.args.loads.now) (c.looseness-n.result + 1)) (own_l (inp c.args.script.now c.args.offs.now c.args.words.now c.args.heads.now c.args.loads.now) c.loop-text.h)) (operand_l (inp c.args.script.now c.args.offs.now c.args.words.now c.args.heads.now c.args.loads.now) c.looseness-n.result) _) c.requires (operand_low (inp c.args.script.now c.args.offs.now c.args.words.now c.args.heads.now c.args.loads.now) c.looseness-n.result) c.operand-right.ensures c.operand-right.auto.1.1.1.1.1.0 c.in-Done.is in
-    let b2 = put (operand_l (inp c.args.script.now c.args.offs.now c.args.words.now c.args.heads.now c.args.loads.now) (c.looseness-n.result + 1)) (own_l (inp c.args.script.now c.args.offs.now c.args.words.now c.args.heads.now c.args.loads.now) c.loop-text.h) b1 (cut-seq (operand_l (inp c.args.script.now c.args.offs.now c.args.words.now c.args.heads.now c.args.loads.now) (c.looseness-n.result + 1)) (own_l (inp c.args.script.now c.args.offs.now c.args.words.now c.args.heads.now c.args.loads.now) c.loop-text.h) _) c.requires (own-low (inp c.args.script.now c.args.offs.now c.args.words.now c.args.heads.now c.args.loads.now) c.loop-text.h) c.put_token-op.ensures c.put_token-op.auto.1.1.1.1.0 c.in-Done-op.is in
+    let b1 = put (seq (operand_l (inp c.args.script.now c.args.offs.now c.args.words.now c.args.heads.now c.args.loads.now) (c.looseness-n.result + 1)) (own_l (inp c.args.script.now c.args.offs.now c.args.words.now c.args.heads.now c.args.loads.now) c.loop-text.h)) (operand_l (inp c.args.script.now c.args.offs.now c.args.words.now c.args.heads.now c.args.loads.now) c.looseness-n.result) b0 (cut-seq (seq (operand_l (inp c.args.script.now c.args.offs.now c.args.words.now c.args.heads.now c.args.loads.now) (c.looseness-n.result + 1)) (own_l (inp c.args.script.now c.args.offs.now c.args.words.now c.args.heads.now c.args.loads.now) c.loop-text.h)) (operand_l (inp c.args.script.now c.args.offs.now c.args.words.now c.args.heads.now c.args.loads.now) c.looseness-n.result) _) c.requires (operand_low (inp c.args.script.now c.args.offs.now c.args.words.now c.args.heads.now c.args.loads.now) c.looseness-n.result) c.operand-right.ensures c.operand-right.auto.text c.in-Done.is in
+    let b2 = put (operand_l (inp c.args.script.now c.args.offs.now c.args.words.now c.args.heads.now c.args.loads.now) (c.looseness-n.result + 1)) (own_l (inp c.args.script.now c.args.offs.now c.args.words.now c.args.heads.now c.args.loads.now) c.loop-text.h) b1 (cut-seq (operand_l (inp c.args.script.now c.args.offs.now c.args.words.now c.args.heads.now c.args.loads.now) (c.looseness-n.result + 1)) (own_l (inp c.args.script.now c.args.offs.now c.args.words.now c.args.heads.now c.args.loads.now) c.loop-text.h) _) c.requires (own-low (inp c.args.script.now c.args.offs.now c.args.words.now c.args.heads.now c.args.loads.now) c.loop-text.h) c.put_token-op.ensures c.put_token-op.auto.text c.in-Done-op.is in
     let z = here b2 c.requires in
     readable (inp c.args.script.now c.args.offs.now c.args.words.now c.args.heads.now c.args.loads.now) z.tree z.lo _ z.spans
 
@@ -206,8 +206,8 @@ expr-overflow_add-n t c = omega (arith, loose-le (get_or c.args.words.now c.wide
 pub expr-operand-requires : goal.expr-operand-requires
 expr-operand-requires t c =
     let b0 = narrowed (two_l (inp c.args.script.now c.args.offs.now c.args.words.now c.args.heads.now c.args.loads.now) c.loop-text.h c.looseness-n.result) (c.loop-text.h - 1) c.loop-text.invariant (is-two (inp c.args.script.now c.args.offs.now c.args.words.now c.args.heads.now c.args.loads.now) c.loop-text.h _ _ c.if-heads-m-ne-BINARY_EXPR.false c.wide-tok.ensures c.looseness-n.ensures) (omega arith) in
-    let b1 = put (seq (operand_l (inp c.args.script.now c.args.offs.now c.args.words.now c.args.heads.now c.args.loads.now) (c.looseness-n.result + 1)) (own_l (inp c.args.script.now c.args.offs.now c.args.words.now c.args.heads.now c.args.loads.now) c.loop-text.h)) (operand_l (inp c.args.script.now c.args.offs.now c.args.words.now c.args.heads.now c.args.loads.now) c.looseness-n.result) b0 (cut-seq (seq (operand_l (inp c.args.script.now c.args.offs.now c.args.words.now c.args.heads.now c.args.loads.now) (c.looseness-n.result + 1)) (own_l (inp c.args.script.now c.args.offs.now c.args.words.now c.args.heads.now c.args.loads.now) c.loop-text.h)) (operand_l (inp c.args.script.now c.args.offs.now c.args.words.now c.args.heads.now c.args.loads.now) c.looseness-n.result) _) c.requires (operand_low (inp c.args.script.now c.args.offs.now c.args.words.now c.args.heads.now c.args.loads.now) c.looseness-n.result) c.operand-right.ensures c.operand-right.auto.1.1.1.1.1.0 c.in-Done.is in
-    let b2 = put (operand_l (inp c.args.script.now c.args.offs.now c.args.words.now c.args.heads.now c.args.loads.now) (c.looseness-n.result + 1)) (own_l (inp c.args.script.now c.args.offs.now c.args.words.now c.args.heads.now c.args.loads.now) c.loop-text.h) b1 (cut-seq (operand_l (inp c.args.script.now c.args.offs.now c.args.words.now c.args.heads.now c.args.loads.now) (c.looseness-n.result + 1)) (own_l (inp c.args.script.now c.args.offs.now c.args.words.now c.args.heads.now c.args.loads.now) c.loop-text.h) _) c.requires (own-low (inp c.args.script.now c.args.offs.now c.args.words.now c.args.heads.now c.args.loads.now) c.loop-text.h) c.put_token-op.ensures c.put_token-op.auto.1.1.1.1.0 c.in-Done-op.is in
+    let b1 = put (seq (operand_l (inp c.args.script.now c.args.offs.now c.args.words.now c.args.heads.now c.args.loads.now) (c.looseness-n.result + 1)) (own_l (inp c.args.script.now c.args.offs.now c.args.words.now c.args.heads.now c.args.loads.now) c.loop-text.h)) (operand_l (inp c.args.script.now c.args.offs.now c.args.words.now c.args.heads.now c.args.loads.now) c.looseness-n.result) b0 (cut-seq (seq (operand_l (inp c.args.script.now c.args.offs.now c.args.words.now c.args.heads.now c.args.loads.now) (c.looseness-n.result + 1)) (own_l (inp c.args.script.now c.args.offs.now c.args.words.now c.args.heads.now c.args.loads.now) c.loop-text.h)) (operand_l (inp c.args.script.now c.args.offs.now c.args.words.now c.args.heads.now c.args.loads.now) c.looseness-n.result) _) c.requires (operand_low (inp c.args.script.now c.args.offs.now c.args.words.now c.args.heads.now c.args.loads.now) c.looseness-n.result) c.operand-right.ensures c.operand-right.auto.text c.in-Done.is in
+    let b2 = put (operand_l (inp c.args.script.now c.args.offs.now c.args.words.now c.args.heads.now c.args.loads.now) (c.looseness-n.result + 1)) (own_l (inp c.args.script.now c.args.offs.now c.args.words.now c.args.heads.now c.args.loads.now) c.loop-text.h) b1 (cut-seq (operand_l (inp c.args.script.now c.args.offs.now c.args.words.now c.args.heads.now c.args.loads.now) (c.looseness-n.result + 1)) (own_l (inp c.args.script.now c.args.offs.now c.args.words.now c.args.heads.now c.args.loads.now) c.loop-text.h) _) c.requires (own-low (inp c.args.script.now c.args.offs.now c.args.words.now c.args.heads.now c.args.loads.now) c.loop-text.h) c.put_token-op.ensures c.put_token-op.auto.text c.in-Done-op.is in
     let s = here c.loop-text.invariant c.requires in
     let n = readable (inp c.args.script.now c.args.offs.now c.args.words.now c.args.heads.now c.args.loads.now) s.tree s.lo c.loop-text.h s.spans in
     (omega (arith, c.decreases, c.loop-text.invariant.low, n.some, stays (seq (operand_l (inp c.args.script.now c.args.offs.now c.args.words.now c.args.heads.now c.args.loads.now) (c.looseness-n.result + 1)) (own_l (inp c.args.script.now c.args.offs.now c.args.words.now c.args.heads.now c.args.loads.now) c.loop-text.h)) (operand_l (inp c.args.script.now c.args.offs.now c.args.words.now c.args.heads.now c.args.loads.now) c.looseness-n.result) b0 (cut-seq (seq (operand_l (inp c.args.script.now c.args.offs.now c.args.words.now c.args.heads.now c.args.loads.now) (c.looseness-n.result + 1)) (own_l (inp c.args.script.now c.args.offs.now c.args.words.now c.args.heads.now c.args.loads.now) c.loop-text.h)) (operand_l (inp c.args.script.now c.args.offs.now c.args.words.now c.args.heads.now c.args.loads.now) c.looseness-n.result) _) c.requires (operand_low (inp c.args.script.now c.args.offs.now c.args.words.now c.args.heads.now c.args.loads.now) c.looseness-n.result) c.operand-right.ensures c.in-Done.is, stays (operand_l (inp c.args.script.now c.args.offs.now c.args.words.now c.args.heads.now c.args.loads.now) (c.looseness-n.result + 1)) (own_l (inp c.args.script.now c.args.offs.now c.args.words.now c.args.heads.now c.args.loads.now) c.loop-text.h) b1 (cut-seq (operand_l (inp c.args.script.now c.args.offs.now c.args.words.now c.args.heads.now c.args.loads.now) (c.looseness-n.result + 1)) (own_l (inp c.args.script.now c.args.offs.now c.args.words.now c.args.heads.now c.args.loads.now) c.loop-text.h) _) c.requires (own-low (inp c.args.script.now c.args.offs.now c.args.words.now c.args.heads.now c.args.loads.now) c.loop-text.h) c.put_token-op.ensures c.in-Done-op.is), here b2 c.requires)
@@ -215,15 +215,15 @@ expr-operand-requires t c =
 pub expr-returns-then-n-height : goal.expr-returns-then-n-height
 expr-returns-then-n-height t c =
     let b0 = narrowed (two_l (inp c.args.script.now c.args.offs.now c.args.words.now c.args.heads.now c.args.loads.now) c.loop-text.h c.looseness-n.result) (c.loop-text.h - 1) c.loop-text.invariant (is-two (inp c.args.script.now c.args.offs.now c.args.words.now c.args.heads.now c.args.loads.now) c.loop-text.h _ _ c.if-heads-m-ne-BINARY_EXPR.false c.wide-tok.ensures c.looseness-n.ensures) (omega arith) in
-    let b1 = put (seq (operand_l (inp c.args.script.now c.args.offs.now c.args.words.now c.args.heads.now c.args.loads.now) (c.looseness-n.result + 1)) (own_l (inp c.args.script.now c.args.offs.now c.args.words.now c.args.heads.now c.args.loads.now) c.loop-text.h)) (operand_l (inp c.args.script.now c.args.offs.now c.args.words.now c.args.heads.now c.args.loads.now) c.looseness-n.result) b0 (cut-seq (seq (operand_l (inp c.args.script.now c.args.offs.now c.args.words.now c.args.heads.now c.args.loads.now) (c.looseness-n.result + 1)) (own_l (inp c.args.script.now c.args.offs.now c.args.words.now c.args.heads.now c.args.loads.now) c.loop-text.h)) (operand_l (inp c.args.script.now c.args.offs.now c.args.words.now c.args.heads.now c.args.loads.now) c.looseness-n.result) _) c.requires (operand_low (inp c.args.script.now c.args.offs.now c.args.words.now c.args.heads.now c.args.loads.now) c.looseness-n.result) c.operand-right.ensures c.operand-right.auto.1.1.1.1.1.0 c.in-Done.is in
-    let b2 = put (operand_l (inp c.args.script.now c.args.offs.now c.args.words.now c.args.heads.now c.args.loads.now) (c.looseness-n.result + 1)) (own_l (inp c.args.script.now c.args.offs.now c.args.words.now c.args.heads.now c.args.loads.now) c.loop-text.h) b1 (cut-seq (operand_l (inp c.args.script.now c.args.offs.now c.args.words.now c.args.heads.now c.args.loads.now) (c.looseness-n.result + 1)) (own_l (inp c.args.script.now c.args.offs.now c.args.words.now c.args.heads.now c.args.loads.now) c.loop-text.h) _) c.requires (own-low (inp c.args.script.now c.args.offs.now c.args.words.now c.args.heads.now c.args.loads.now) c.loop-text.h) c.put_token-op.ensures c.put_token-op.auto.1.1.1.1.0 c.in-Done-op.is in
+    let b1 = put (seq (operand_l (inp c.args.script.now c.args.offs.now c.args.words.now c.args.heads.now c.args.loads.now) (c.looseness-n.result + 1)) (own_l (inp c.args.script.now c.args.offs.now c.args.words.now c.args.heads.now c.args.loads.now) c.loop-text.h)) (operand_l (inp c.args.script.now c.args.offs.now c.args.words.now c.args.heads.now c.args.loads.now) c.looseness-n.result) b0 (cut-seq (seq (operand_l (inp c.args.script.now c.args.offs.now c.args.words.now c.args.heads.now c.args.loads.now) (c.looseness-n.result + 1)) (own_l (inp c.args.script.now c.args.offs.now c.args.words.now c.args.heads.now c.args.loads.now) c.loop-text.h)) (operand_l (inp c.args.script.now c.args.offs.now c.args.words.now c.args.heads.now c.args.loads.now) c.looseness-n.result) _) c.requires (operand_low (inp c.args.script.now c.args.offs.now c.args.words.now c.args.heads.now c.args.loads.now) c.looseness-n.result) c.operand-right.ensures c.operand-right.auto.text c.in-Done.is in
+    let b2 = put (operand_l (inp c.args.script.now c.args.offs.now c.args.words.now c.args.heads.now c.args.loads.now) (c.looseness-n.result + 1)) (own_l (inp c.args.script.now c.args.offs.now c.args.words.now c.args.heads.now c.args.loads.now) c.loop-text.h) b1 (cut-seq (operand_l (inp c.args.script.now c.args.offs.now c.args.words.now c.args.heads.now c.args.loads.now) (c.looseness-n.result + 1)) (own_l (inp c.args.script.now c.args.offs.now c.args.words.now c.args.heads.now c.args.loads.now) c.loop-text.h) _) c.requires (own-low (inp c.args.script.now c.args.offs.now c.args.words.now c.args.heads.now c.args.loads.now) c.loop-text.h) c.put_token-op.ensures c.put_token-op.auto.text c.in-Done-op.is in
     end b2 c.requires.room c.operand.ensures
 
 pub expr-loop-text-smaller : goal.expr-loop-text-smaller
 expr-loop-text-smaller t c =
     let b0 = narrowed (two_l (inp c.args.script.now c.args.offs.now c.args.words.now c.args.heads.now c.args.loads.now) c.loop-text.h c.looseness-n.result) (c.loop-text.h - 1) c.loop-text.invariant (is-two (inp c.args.script.now c.args.offs.now c.args.words.now c.args.heads.now c.args.loads.now) c.loop-text.h _ _ c.if-heads-m-ne-BINARY_EXPR.false c.wide-tok.ensures c.looseness-n.ensures) (omega arith) in
-    let b1 = put (seq (operand_l (inp c.args.script.now c.args.offs.now c.args.words.now c.args.heads.now c.args.loads.now) (c.looseness-n.result + 1)) (own_l (inp c.args.script.now c.args.offs.now c.args.words.now c.args.heads.now c.args.loads.now) c.loop-text.h)) (operand_l (inp c.args.script.now c.args.offs.now c.args.words.now c.args.heads.now c.args.loads.now) c.looseness-n.result) b0 (cut-seq (seq (operand_l (inp c.args.script.now c.args.offs.now c.args.words.now c.args.heads.now c.args.loads.now) (c.looseness-n.result + 1)) (own_l (inp c.args.script.now c.args.offs.now c.args.words.now c.args.heads.now c.args.loads.now) c.loop-text.h)) (operand_l (inp c.args.script.now c.args.offs.now c.args.words.now c.args.heads.now c.args.loads.now) c.looseness-n.result) _) c.requires (operand_low (inp c.args.script.now c.args.offs.now c.args.words.now c.args.heads.now c.args.loads.now) c.looseness-n.result) c.operand-right.ensures c.operand-right.auto.1.1.1.1.1.0 c.in-Done.is in
-    let b2 = put (operand_l (inp c.args.script.now c.args.offs.now c.args.words.now c.args.heads.now c.args.loads.now) (c.looseness-n.result + 1)) (own_l (inp c.args.script.now c.args.offs.now c.args.words.now c.args.heads.now c.args.loads.now) c.loop-text.h) b1 (cut-seq (operand_l (inp c.args.script.now c.args.offs.now c.args.words.now c.args.heads.now c.args.loads.now) (c.looseness-n.result + 1)) (own_l (inp c.args.script.now c.args.offs.now c.args.words.now c.args.heads.now c.args.loads.now) c.loop-text.h) _) c.requires (own-low (inp c.args.script.now c.args.offs.now c.args.words.now c.args.heads.now c.args.loads.now) c.loop-text.h) c.put_token-op.ensures c.put_token-op.auto.1.1.1.1.0 c.in-Done-op.is in
+    let b1 = put (seq (operand_l (inp c.args.script.now c.args.offs.now c.args.words.now c.args.heads.now c.args.loads.now) (c.looseness-n.result + 1)) (own_l (inp c.args.script.now c.args.offs.now c.args.words.now c.args.heads.now c.args.loads.now) c.loop-text.h)) (operand_l (inp c.args.script.now c.args.offs.now c.args.words.now c.args.heads.now c.args.loads.now) c.looseness-n.result) b0 (cut-seq (seq (operand_l (inp c.args.script.now c.args.offs.now c.args.words.now c.args.heads.now c.args.loads.now) (c.looseness-n.result + 1)) (own_l (inp c.args.script.now c.args.offs.now c.args.words.now c.args.heads.now c.args.loads.now) c.loop-text.h)) (operand_l (inp c.args.script.now c.args.offs.now c.args.words.now c.args.heads.now c.args.loads.now) c.looseness-n.result) _) c.requires (operand_low (inp c.args.script.now c.args.offs.now c.args.words.now c.args.heads.now c.args.loads.now) c.looseness-n.result) c.operand-right.ensures c.operand-right.auto.text c.in-Done.is in
+    let b2 = put (operand_l (inp c.args.script.now c.args.offs.now c.args.words.now c.args.heads.now c.args.loads.now) (c.looseness-n.result + 1)) (own_l (inp c.args.script.now c.args.offs.now c.args.words.now c.args.heads.now c.args.loads.now) c.loop-text.h) b1 (cut-seq (operand_l (inp c.args.script.now c.args.offs.now c.args.words.now c.args.heads.now c.args.loads.now) (c.looseness-n.result + 1)) (own_l (inp c.args.script.now c.args.offs.now c.args.words.now c.args.heads.now c.args.loads.now) c.loop-text.h) _) c.requires (own-low (inp c.args.script.now c.args.offs.now c.args.words.now c.args.heads.now c.args.loads.now) c.loop-text.h) c.put_token-op.ensures c.put_token-op.auto.text c.in-Done-op.is in
     let s = here c.loop-text.invariant c.requires in
     let n = readable (inp c.args.script.now c.args.offs.now c.args.words.now c.args.heads.now c.args.loads.now) s.tree s.lo c.loop-text.h s.spans in
     omega (arith, n.some, stays (seq (operand_l (inp c.args.script.now c.args.offs.now c.args.words.now c.args.heads.now c.args.loads.now) (c.looseness-n.result + 1)) (own_l (inp c.args.script.now c.args.offs.now c.args.words.now c.args.heads.now c.args.loads.now) c.loop-text.h)) (operand_l (inp c.args.script.now c.args.offs.now c.args.words.now c.args.heads.now c.args.loads.now) c.looseness-n.result) b0 (cut-seq (seq (operand_l (inp c.args.script.now c.args.offs.now c.args.words.now c.args.heads.now c.args.loads.now) (c.looseness-n.result + 1)) (own_l (inp c.args.script.now c.args.offs.now c.args.words.now c.args.heads.now c.args.loads.now) c.loop-text.h)) (operand_l (inp c.args.script.now c.args.offs.now c.args.words.now c.args.heads.now c.args.loads.now) c.looseness-n.result) _) c.requires (operand_low (inp c.args.script.now c.args.offs.now c.args.words.now c.args.heads.now c.args.loads.now) c.looseness-n.result) c.operand-right.ensures c.in-Done.is, stays (operand_l (inp c.args.script.now c.args.offs.now c.args.words.now c.args.heads.now c.args.loads.now) (c.looseness-n.result + 1)) (own_l (inp c.args.script.now c.args.offs.now c.args.words.now c.args.heads.now c.args.loads.now) c.loop-text.h) b1 (cut-seq (operand_l (inp c.args.script.now c.args.offs.now c.args.words.now c.args.heads.now c.args.loads.now) (c.looseness-n.result + 1)) (own_l (inp c.args.script.now c.args.offs.now c.args.words.now c.args.heads.now c.args.loads.now) c.loop-text.h) _) c.requires (own-low (inp c.args.script.now c.args.offs.now c.args.words.now c.args.heads.now c.args.loads.now) c.loop-text.h) c.put_token-op.ensures c.in-Done-op.is)
@@ -231,8 +231,8 @@ expr-loop-text-smaller t c =
 pub expr-loop-text-preserved : goal.expr-loop-text-preserved
 expr-loop-text-preserved t c =
     let b0 = narrowed (two_l (inp c.args.script.now c.args.offs.now c.args.words.now c.args.heads.now c.args.loads.now) c.loop-text.h c.looseness-n.result) (c.loop-text.h - 1) c.loop-text.invariant (is-two (inp c.args.script.now c.args.offs.now c.args.words.now c.args.heads.now c.args.loads.now) c.loop-text.h _ _ c.if-heads-m-ne-BINARY_EXPR.false c.wide-tok.ensures c.looseness-n.ensures) (omega arith) in
-    let b1 = put (seq (operand_l (inp c.args.script.now c.args.offs.now c.args.words.now c.args.heads.now c.args.loads.now) (c.looseness-n.result + 1)) (own_l (inp c.args.script.now c.args.offs.now c.args.words.now c.args.heads.now c.args.loads.now) c.loop-text.h)) (operand_l (inp c.args.script.now c.args.offs.now c.args.words.now c.args.heads.now c.args.loads.now) c.looseness-n.result) b0 (cut-seq (seq (operand_l (inp c.args.script.now c.args.offs.now c.args.words.now c.args.heads.now c.args.loads.now) (c.looseness-n.result + 1)) (own_l (inp c.args.script.now c.args.offs.now c.args.words.now c.args.heads.now c.args.loads.now) c.loop-text.h)) (operand_l (inp c.args.script.now c.args.offs.now c.args.words.now c.args.heads.now c.args.loads.now) c.looseness-n.result) _) c.requires (operand_low (inp c.args.script.now c.args.offs.now c.args.words.now c.args.heads.now c.args.loads.now) c.looseness-n.result) c.operand-right.ensures c.operand-right.auto.1.1.1.1.1.0 c.in-Done.is in
-    let b2 = put (operand_l (inp c.args.script.now c.args.offs.now c.args.words.now c.args.heads.now c.args.loads.now) (c.looseness-n.result + 1)) (own_l (inp c.args.script.now c.args.offs.now c.args.words.now c.args.heads.now c.args.loads.now) c.loop-text.h) b1 (cut-seq (operand_l (inp c.args.script.now c.args.offs.now c.args.words.now c.args.heads.now c.args.loads.now) (c.looseness-n.result + 1)) (own_l (inp c.args.script.now c.args.offs.now c.args.words.now c.args.heads.now c.args.loads.now) c.loop-text.h) _) c.requires (own-low (inp c.args.script.now c.args.offs.now c.args.words.now c.args.heads.now c.args.loads.now) c.loop-text.h) c.put_token-op.ensures c.put_token-op.auto.1.1.1.1.0 c.in-Done-op.is in
+    let b1 = put (seq (operand_l (inp c.args.script.now c.args.offs.now c.args.words.now c.args.heads.now c.args.loads.now) (c.looseness-n.result + 1)) (own_l (inp c.args.script.now c.args.offs.now c.args.words.now c.args.heads.now c.args.loads.now) c.loop-text.h)) (operand_l (inp c.args.script.now c.args.offs.now c.args.words.now c.args.heads.now c.args.loads.now) c.looseness-n.result) b0 (cut-seq (seq (operand_l (inp c.args.script.now c.args.offs.now c.args.words.now c.args.heads.now c.args.loads.now) (c.looseness-n.result + 1)) (own_l (inp c.args.script.now c.args.offs.now c.args.words.now c.args.heads.now c.args.loads.now) c.loop-text.h)) (operand_l (inp c.args.script.now c.args.offs.now c.args.words.now c.args.heads.now c.args.loads.now) c.looseness-n.result) _) c.requires (operand_low (inp c.args.script.now c.args.offs.now c.args.words.now c.args.heads.now c.args.loads.now) c.looseness-n.result) c.operand-right.ensures c.operand-right.auto.text c.in-Done.is in
+    let b2 = put (operand_l (inp c.args.script.now c.args.offs.now c.args.words.now c.args.heads.now c.args.loads.now) (c.looseness-n.result + 1)) (own_l (inp c.args.script.now c.args.offs.now c.args.words.now c.args.heads.now c.args.loads.now) c.loop-text.h) b1 (cut-seq (operand_l (inp c.args.script.now c.args.offs.now c.args.words.now c.args.heads.now c.args.loads.now) (c.looseness-n.result + 1)) (own_l (inp c.args.script.now c.args.offs.now c.args.words.now c.args.heads.now c.args.loads.now) c.loop-text.h) _) c.requires (own-low (inp c.args.script.now c.args.offs.now c.args.words.now c.args.heads.now c.args.loads.now) c.loop-text.h) c.put_token-op.ensures c.put_token-op.auto.text c.in-Done-op.is in
     narrowed (expr_l (inp c.args.script.now c.args.offs.now c.args.words.now c.args.heads.now c.args.loads.now)) _ b2 (is-bare (inp c.args.script.now c.args.offs.now c.args.words.now c.args.heads.now c.args.loads.now) _ _ _ c.height.ensures (omega (arith, c.if-n-height.false))) (le_refl _)
 
 pub exprs-loop-left-init : goal.exprs-loop-left-init
@@ -249,12 +249,12 @@ exprs-overflow_sub-left t c = omega (arith, c.loop-left-test.true)
 
 pub exprs-separator-comma-requires : goal.exprs-separator-comma-requires
 exprs-separator-comma-requires t c =
-    let c1 = put (seq (exprs_l (inp c.args.script.now c.args.offs.now c.args.words.now c.args.heads.now c.args.loads.now) (c.loop-left.left - 1)) (fixed (comma (c.loop-left.left - 1)))) (expr_l (inp c.args.script.now c.args.offs.now c.args.words.now c.args.heads.now c.args.loads.now)) c.loop-left.invariant (cut_list (expr_l (inp c.args.script.now c.args.offs.now c.args.words.now c.args.heads.now c.args.loads.now)) c.loop-left.left _ (λ z. omega (arith, c.loop-left-test.true, z))) c.requires (expr-low (inp c.args.script.now c.args.offs.now c.args.words.now c.args.heads.now c.args.loads.now)) c.expr-next.ensures c.expr-next.auto.1.1.1.1.1.0 c.in-Done.is in
+    let c1 = put (seq (exprs_l (inp c.args.script.now c.args.offs.now c.args.words.now c.args.heads.now c.args.loads.now) (c.loop-left.left - 1)) (fixed (comma (c.loop-left.left - 1)))) (expr_l (inp c.args.script.now c.args.offs.now c.args.words.now c.args.heads.now c.args.loads.now)) c.loop-left.invariant (cut_list (expr_l (inp c.args.script.now c.args.offs.now c.args.words.now c.args.heads.now c.args.loads.now)) c.loop-left.left _ (λ z. omega (arith, c.loop-left-test.true, z))) c.requires (expr-low (inp c.args.script.now c.args.offs.now c.args.words.now c.args.heads.now c.args.loads.now)) c.expr-next.ensures c.expr-next.auto.text c.in-Done.is in
     (here c1 c.requires).room
 
 pub exprs-returns-in_default-comma : goal.exprs-returns-in_default-comma
 exprs-returns-in_default-comma t c =
-    let c1 = put (seq (exprs_l (inp c.args.script.now c.args.offs.now c.args.words.now c.args.heads.now c.args.loads.now) (c.loop-left.left - 1)) (fixed (comma (c.loop-left.left - 1)))) (expr_l (inp c.args.script.now c.args.offs.now c.args.words.now c.args.heads.now c.args.loads.now)) c.loop-left.invariant (cut_list (expr_l (inp c.args.script.now c.args.offs.now c.args.words.now c.args.heads.now c.args.loads.now)) c.loop-left.left _ (λ z. omega (arith, c.loop-left-test.true, z))) c.requires (expr-low (inp c.args.script.now c.args.offs.now c.args.words.now c.args.heads.now c.args.loads.now)) c.expr-next.ensures c.expr-next.auto.1.1.1.1.1.0 c.in-Done.is in
+    let c1 = put (seq (exprs_l (inp c.args.script.now c.args.offs.now c.args.words.now c.args.heads.now c.args.loads.now) (c.loop-left.left - 1)) (fixed (comma (c.loop-left.left - 1)))) (expr_l (inp c.args.script.now c.args.offs.now c.args.words.now c.args.heads.now c.args.loads.now)) c.loop-left.invariant (cut_list (expr_l (inp c.args.script.now c.args.offs.now c.args.words.now c.args.heads.now c.args.loads.now)) c.loop-left.left _ (λ z. omega (arith, c.loop-left-test.true, z))) c.requires (expr-low (inp c.args.script.now c.args.offs.now c.args.words.now c.args.heads.now c.args.loads.now)) c.expr-next.ensures c.expr-next.auto.text c.in-Done.is in
     stop (exprs_l (inp c.args.script.now c.args.offs.now c.args.words.now c.args.heads.now c.args.loads.now) (c.loop-left.left - 1)) (fixed (comma (c.loop-left.left - 1))) c1 (cut-seq (exprs_l (inp c.args.script.now c.args.offs.now c.args.words.now c.args.heads.now c.args.loads.now) (c.loop-left.left - 1)) (fixed (comma (c.loop-left.left - 1))) _) c.separator-comma.ensures c.in_default-comma.is
 
 pub exprs-loop-left-smaller : goal.exprs-loop-left-smaller
@@ -262,8 +262,8 @@ exprs-loop-left-smaller t c = omega (arith, c.loop-left-test.true)
 
 pub exprs-loop-left-preserved : goal.exprs-loop-left-preserved
 exprs-loop-left-preserved t c =
-    let c1 = put (seq (exprs_l (inp c.args.script.now c.args.offs.now c.args.words.now c.args.heads.now c.args.loads.now) (c.loop-left.left - 1)) (fixed (comma (c.loop-left.left - 1)))) (expr_l (inp c.args.script.now c.args.offs.now c.args.words.now c.args.heads.now c.args.loads.now)) c.loop-left.invariant (cut_list (expr_l (inp c.args.script.now c.args.offs.now c.args.words.now c.args.heads.now c.args.loads.now)) c.loop-left.left _ (λ z. omega (arith, c.loop-left-test.true, z))) c.requires (expr-low (inp c.args.script.now c.args.offs.now c.args.words.now c.args.heads.now c.args.loads.now)) c.expr-next.ensures c.expr-next.auto.1.1.1.1.1.0 c.in-Done.is in
-    put (exprs_l (inp c.args.script.now c.args.offs.now c.args.words.now c.args.heads.now c.args.loads.now) (c.loop-left.left - 1)) (fixed (comma (c.loop-left.left - 1))) c1 (cut-seq (exprs_l (inp c.args.script.now c.args.offs.now c.args.words.now c.args.heads.now c.args.loads.now) (c.loop-left.left - 1)) (fixed (comma (c.loop-left.left - 1))) _) c.requires (fixed-low (comma (c.loop-left.left - 1))) c.separator-comma.ensures c.separator-comma.auto.0 c.in-Done-comma.is
+    let c1 = put (seq (exprs_l (inp c.args.script.now c.args.offs.now c.args.words.now c.args.heads.now c.args.loads.now) (c.loop-left.left - 1)) (fixed (comma (c.loop-left.left - 1)))) (expr_l (inp c.args.script.now c.args.offs.now c.args.words.now c.args.heads.now c.args.loads.now)) c.loop-left.invariant (cut_list (expr_l (inp c.args.script.now c.args.offs.now c.args.words.now c.args.heads.now c.args.loads.now)) c.loop-left.left _ (λ z. omega (arith, c.loop-left-test.true, z))) c.requires (expr-low (inp c.args.script.now c.args.offs.now c.args.words.now c.args.heads.now c.args.loads.now)) c.expr-next.ensures c.expr-next.auto.text c.in-Done.is in
+    put (exprs_l (inp c.args.script.now c.args.offs.now c.args.words.now c.args.heads.now c.args.loads.now) (c.loop-left.left - 1)) (fixed (comma (c.loop-left.left - 1))) c1 (cut-seq (exprs_l (inp c.args.script.now c.args.offs.now c.args.words.now c.args.heads.now c.args.loads.now) (c.loop-left.left - 1)) (fixed (comma (c.loop-left.left - 1))) _) c.requires (fixed-low (comma (c.loop-left.left - 1))) c.separator-comma.ensures c.separator-comma.auto.text c.in-Done-comma.is
 
 pub exprs-returns : goal.exprs-returns
 exprs-returns t c =
@@ -292,27 +292,27 @@ linked-returns-in_default t c =
 pub linked-put_sign-sign-requires : goal.linked-put_sign-sign-requires
 linked-put_sign-sign-requires t c =
     let c0 = narrowed (linked_l (inp c.args.script.now c.args.offs.now c.args.words.now c.args.heads.now c.args.loads.now) c.link.result) (c.args.hi - 1) (opening {L = expr_l (inp c.args.script.now c.args.offs.now c.args.words.now c.args.heads.now c.args.loads.now)} {text = c.args.text.now} {hi = c.args.hi} {at = c.args.at}) (is-linked (inp c.args.script.now c.args.offs.now c.args.words.now c.args.heads.now c.args.loads.now) c.args.hi c.link.result (c.requires.1, c.requires.2, c.requires.3, c.requires.4, c.requires.5, c.requires.6) c.link.ensures) (omega arith) in
-    let c1 = put (seq (target_l (inp c.args.script.now c.args.offs.now c.args.words.now c.args.heads.now c.args.loads.now)) (sign_l c.link.result)) (expr_l (inp c.args.script.now c.args.offs.now c.args.words.now c.args.heads.now c.args.loads.now)) c0 (cut-seq (seq (target_l (inp c.args.script.now c.args.offs.now c.args.words.now c.args.heads.now c.args.loads.now)) (sign_l c.link.result)) (expr_l (inp c.args.script.now c.args.offs.now c.args.words.now c.args.heads.now c.args.loads.now)) _) c.requires.0 (expr-low (inp c.args.script.now c.args.offs.now c.args.words.now c.args.heads.now c.args.loads.now)) c.expr-value.ensures c.expr-value.auto.1.1.1.1.1.0 c.in-Done.is in
+    let c1 = put (seq (target_l (inp c.args.script.now c.args.offs.now c.args.words.now c.args.heads.now c.args.loads.now)) (sign_l c.link.result)) (expr_l (inp c.args.script.now c.args.offs.now c.args.words.now c.args.heads.now c.args.loads.now)) c0 (cut-seq (seq (target_l (inp c.args.script.now c.args.offs.now c.args.words.now c.args.heads.now c.args.loads.now)) (sign_l c.link.result)) (expr_l (inp c.args.script.now c.args.offs.now c.args.words.now c.args.heads.now c.args.loads.now)) _) c.requires.0 (expr-low (inp c.args.script.now c.args.offs.now c.args.words.now c.args.heads.now c.args.loads.now)) c.expr-value.ensures c.expr-value.auto.text c.in-Done.is in
     (here c1 c.requires.0).room
 
 pub linked-returns-in_default-sign : goal.linked-returns-in_default-sign
 linked-returns-in_default-sign t c =
     let c0 = narrowed (linked_l (inp c.args.script.now c.args.offs.now c.args.words.now c.args.heads.now c.args.loads.now) c.link.result) (c.args.hi - 1) (opening {L = expr_l (inp c.args.script.now c.args.offs.now c.args.words.now c.args.heads.now c.args.loads.now)} {text = c.args.text.now} {hi = c.args.hi} {at = c.args.at}) (is-linked (inp c.args.script.now c.args.offs.now c.args.words.now c.args.heads.now c.args.loads.now) c.args.hi c.link.result (c.requires.1, c.requires.2, c.requires.3, c.requires.4, c.requires.5, c.requires.6) c.link.ensures) (omega arith) in
-    let c1 = put (seq (target_l (inp c.args.script.now c.args.offs.now c.args.words.now c.args.heads.now c.args.loads.now)) (sign_l c.link.result)) (expr_l (inp c.args.script.now c.args.offs.now c.args.words.now c.args.heads.now c.args.loads.now)) c0 (cut-seq (seq (target_l (inp c.args.script.now c.args.offs.now c.args.words.now c.args.heads.now c.args.loads.now)) (sign_l c.link.result)) (expr_l (inp c.args.script.now c.args.offs.now c.args.words.now c.args.heads.now c.args.loads.now)) _) c.requires.0 (expr-low (inp c.args.script.now c.args.offs.now c.args.words.now c.args.heads.now c.args.loads.now)) c.expr-value.ensures c.expr-value.auto.1.1.1.1.1.0 c.in-Done.is in
+    let c1 = put (seq (target_l (inp c.args.script.now c.args.offs.now c.args.words.now c.args.heads.now c.args.loads.now)) (sign_l c.link.result)) (expr_l (inp c.args.script.now c.args.offs.now c.args.words.now c.args.heads.now c.args.loads.now)) c0 (cut-seq (seq (target_l (inp c.args.script.now c.args.offs.now c.args.words.now c.args.heads.now c.args.loads.now)) (sign_l c.link.result)) (expr_l (inp c.args.script.now c.args.offs.now c.args.words.now c.args.heads.now c.args.loads.now)) _) c.requires.0 (expr-low (inp c.args.script.now c.args.offs.now c.args.words.now c.args.heads.now c.args.loads.now)) c.expr-value.ensures c.expr-value.auto.text c.in-Done.is in
     stop (target_l (inp c.args.script.now c.args.offs.now c.args.words.now c.args.heads.now c.args.loads.now)) (sign_l c.link.result) c1 (cut-seq (target_l (inp c.args.script.now c.args.offs.now c.args.words.now c.args.heads.now c.args.loads.now)) (sign_l c.link.result) _) c.put_sign-sign.ensures c.in_default-sign.is
 
 pub linked-leaf-requires : goal.linked-leaf-requires
 linked-leaf-requires t c =
     let c0 = narrowed (linked_l (inp c.args.script.now c.args.offs.now c.args.words.now c.args.heads.now c.args.loads.now) c.link.result) (c.args.hi - 1) (opening {L = expr_l (inp c.args.script.now c.args.offs.now c.args.words.now c.args.heads.now c.args.loads.now)} {text = c.args.text.now} {hi = c.args.hi} {at = c.args.at}) (is-linked (inp c.args.script.now c.args.offs.now c.args.words.now c.args.heads.now c.args.loads.now) c.args.hi c.link.result (c.requires.1, c.requires.2, c.requires.3, c.requires.4, c.requires.5, c.requires.6) c.link.ensures) (omega arith) in
-    let c1 = put (seq (target_l (inp c.args.script.now c.args.offs.now c.args.words.now c.args.heads.now c.args.loads.now)) (sign_l c.link.result)) (expr_l (inp c.args.script.now c.args.offs.now c.args.words.now c.args.heads.now c.args.loads.now)) c0 (cut-seq (seq (target_l (inp c.args.script.now c.args.offs.now c.args.words.now c.args.heads.now c.args.loads.now)) (sign_l c.link.result)) (expr_l (inp c.args.script.now c.args.offs.now c.args.words.now c.args.heads.now c.args.loads.now)) _) c.requires.0 (expr-low (inp c.args.script.now c.args.offs.now c.args.words.now c.args.heads.now c.args.loads.now)) c.expr-value.ensures c.expr-value.auto.1.1.1.1.1.0 c.in-Done.is in
-    let c2 = put (target_l (inp c.args.script.now c.args.offs.now c.args.words.now c.args.heads.now c.args.loads.now)) (sign_l c.link.result) c1 (cut-seq (target_l (inp c.args.script.now c.args.offs.now c.args.words.now c.args.heads.now c.args.loads.now)) (sign_l c.link.result) _) c.requires.0 (sign_low c.link.result) c.put_sign-sign.ensures c.put_sign-sign.auto.0 c.in-Done-sign.is in
+    let c1 = put (seq (target_l (inp c.args.script.now c.args.offs.now c.args.words.now c.args.heads.now c.args.loads.now)) (sign_l c.link.result)) (expr_l (inp c.args.script.now c.args.offs.now c.args.words.now c.args.heads.now c.args.loads.now)) c0 (cut-seq (seq (target_l (inp c.args.script.now c.args.offs.now c.args.words.now c.args.heads.now c.args.loads.now)) (sign_l c.link.result)) (expr_l (inp c.args.script.now c.args.offs.now c.args.words.now c.args.heads.now c.args.loads.now)) _) c.requires.0 (expr-low (inp c.args.script.now c.args.offs.now c.args.words.now c.args.heads.now c.args.loads.now)) c.expr-value.ensures c.expr-value.auto.text c.in-Done.is in
+    let c2 = put (target_l (inp c.args.script.now c.args.offs.now c.args.words.now c.args.heads.now c.args.loads.now)) (sign_l c.link.result) c1 (cut-seq (target_l (inp c.args.script.now c.args.offs.now c.args.words.now c.args.heads.now c.args.loads.now)) (sign_l c.link.result) _) c.requires.0 (sign_low c.link.result) c.put_sign-sign.ensures c.put_sign-sign.auto.text c.in-Done-sign.is in
     here c2 c.requires.0
 
 pub linked-returns : goal.linked-returns
 linked-returns t c =
     let c0 = narrowed (linked_l (inp c.args.script.now c.args.offs.now c.args.words.now c.args.heads.now c.args.loads.now) c.link.result) (c.args.hi - 1) (opening {L = expr_l (inp c.args.script.now c.args.offs.now c.args.words.now c.args.heads.now c.args.loads.now)} {text = c.args.text.now} {hi = c.args.hi} {at = c.args.at}) (is-linked (inp c.args.script.now c.args.offs.now c.args.words.now c.args.heads.now c.args.loads.now) c.args.hi c.link.result (c.requires.1, c.requires.2, c.requires.3, c.requires.4, c.requires.5, c.requires.6) c.link.ensures) (omega arith) in
-    let c1 = put (seq (target_l (inp c.args.script.now c.args.offs.now c.args.words.now c.args.heads.now c.args.loads.now)) (sign_l c.link.result)) (expr_l (inp c.args.script.now c.args.offs.now c.args.words.now c.args.heads.now c.args.loads.now)) c0 (cut-seq (seq (target_l (inp c.args.script.now c.args.offs.now c.args.words.now c.args.heads.now c.args.loads.now)) (sign_l c.link.result)) (expr_l (inp c.args.script.now c.args.offs.now c.args.words.now c.args.heads.now c.args.loads.now)) _) c.requires.0 (expr-low (inp c.args.script.now c.args.offs.now c.args.words.now c.args.heads.now c.args.loads.now)) c.expr-value.ensures c.expr-value.auto.1.1.1.1.1.0 c.in-Done.is in
-    let c2 = put (target_l (inp c.args.script.now c.args.offs.now c.args.words.now c.args.heads.now c.args.loads.now)) (sign_l c.link.result) c1 (cut-seq (target_l (inp c.args.script.now c.args.offs.now c.args.words.now c.args.heads.now c.args.loads.now)) (sign_l c.link.result) _) c.requires.0 (sign_low c.link.result) c.put_sign-sign.ensures c.put_sign-sign.auto.0 c.in-Done-sign.is in
+    let c1 = put (seq (target_l (inp c.args.script.now c.args.offs.now c.args.words.now c.args.heads.now c.args.loads.now)) (sign_l c.link.result)) (expr_l (inp c.args.script.now c.args.offs.now c.args.words.now c.args.heads.now c.args.loads.now)) c0 (cut-seq (seq (target_l (inp c.args.script.now c.args.offs.now c.args.words.now c.args.heads.now c.args.loads.now)) (sign_l c.link.result)) (expr_l (inp c.args.script.now c.args.offs.now c.args.words.now c.args.heads.now c.args.loads.now)) _) c.requires.0 (expr-low (inp c.args.script.now c.args.offs.now c.args.words.now c.args.heads.now c.args.loads.now)) c.expr-value.ensures c.expr-value.auto.text c.in-Done.is in
+    let c2 = put (target_l (inp c.args.script.now c.args.offs.now c.args.words.now c.args.heads.now c.args.loads.now)) (sign_l c.link.result) c1 (cut-seq (target_l (inp c.args.script.now c.args.offs.now c.args.words.now c.args.heads.now c.args.loads.now)) (sign_l c.link.result) _) c.requires.0 (sign_low c.link.result) c.put_sign-sign.ensures c.put_sign-sign.auto.text c.in-Done-sign.is in
     end c2 c.requires.0.room c.leaf.ensures
 
 pub operand-height-requires : goal.operand-height-requires
@@ -339,27 +339,27 @@ operand-returns-in_default t c =
 pub operand-expr-inner-requires : goal.operand-expr-inner-requires
 operand-expr-inner-requires t c =
     let p0 = narrowed (closed_l (inp c.args.script.now c.args.offs.now c.args.words.now c.args.heads.now c.args.loads.now)) _ (opening {L = operand_l (inp c.args.script.now c.args.offs.now c.args.words.now c.args.heads.now c.args.loads.now) c.args.below} {text = c.args.text.now} {hi = c.args.hi} {at = c.args.at}) (is-closed (inp c.args.script.now c.args.offs.now c.args.words.now c.args.heads.now c.args.loads.now) _ _ _ c.height.ensures c.if-height-below.false) (le_refl _) in
-    let p1 = put (seq (sign_l 40) (expr_l (inp c.args.script.now c.args.offs.now c.args.words.now c.args.heads.now c.args.loads.now))) (sign_l 41) p0 (cut-seq (seq (sign_l 40) (expr_l (inp c.args.script.now c.args.offs.now c.args.words.now c.args.heads.now c.args.loads.now))) (sign_l 41) _) c.requires (sign_low 41) c.put_sign-closed.ensures c.put_sign-closed.auto.0 c.in-Done.is in
+    let p1 = put (seq (sign_l 40) (expr_l (inp c.args.script.now c.args.offs.now c.args.words.now c.args.heads.now c.args.loads.now))) (sign_l 41) p0 (cut-seq (seq (sign_l 40) (expr_l (inp c.args.script.now c.args.offs.now c.args.words.now c.args.heads.now c.args.loads.now))) (sign_l 41) _) c.requires (sign_low 41) c.put_sign-closed.ensures c.put_sign-closed.auto.text c.in-Done.is in
     (omega (arith, c.decreases, p1.low), spot (sign_l 40) (expr_l (inp c.args.script.now c.args.offs.now c.args.words.now c.args.heads.now c.args.loads.now)) p1 (cut-seq (sign_l 40) (expr_l (inp c.args.script.now c.args.offs.now c.args.words.now c.args.heads.now c.args.loads.now)) _) c.requires)
 
 pub operand-returns-in_default-inner : goal.operand-returns-in_default-inner
 operand-returns-in_default-inner t c =
     let p0 = narrowed (closed_l (inp c.args.script.now c.args.offs.now c.args.words.now c.args.heads.now c.args.loads.now)) _ (opening {L = operand_l (inp c.args.script.now c.args.offs.now c.args.words.now c.args.heads.now c.args.loads.now) c.args.below} {text = c.args.text.now} {hi = c.args.hi} {at = c.args.at}) (is-closed (inp c.args.script.now c.args.offs.now c.args.words.now c.args.heads.now c.args.loads.now) _ _ _ c.height.ensures c.if-height-below.false) (le_refl _) in
-    let p1 = put (seq (sign_l 40) (expr_l (inp c.args.script.now c.args.offs.now c.args.words.now c.args.heads.now c.args.loads.now))) (sign_l 41) p0 (cut-seq (seq (sign_l 40) (expr_l (inp c.args.script.now c.args.offs.now c.args.words.now c.args.heads.now c.args.loads.now))) (sign_l 41) _) c.requires (sign_low 41) c.put_sign-closed.ensures c.put_sign-closed.auto.0 c.in-Done.is in
+    let p1 = put (seq (sign_l 40) (expr_l (inp c.args.script.now c.args.offs.now c.args.words.now c.args.heads.now c.args.loads.now))) (sign_l 41) p0 (cut-seq (seq (sign_l 40) (expr_l (inp c.args.script.now c.args.offs.now c.args.words.now c.args.heads.now c.args.loads.now))) (sign_l 41) _) c.requires (sign_low 41) c.put_sign-closed.ensures c.put_sign-closed.auto.text c.in-Done.is in
     stop (sign_l 40) (expr_l (inp c.args.script.now c.args.offs.now c.args.words.now c.args.heads.now c.args.loads.now)) p1 (cut-seq (sign_l 40) (expr_l (inp c.args.script.now c.args.offs.now c.args.words.now c.args.heads.now c.args.loads.now)) _) c.expr-inner.ensures c.in_default-inner.is
 
 pub operand-put_sign-requires : goal.operand-put_sign-requires
 operand-put_sign-requires t c =
     let p0 = narrowed (closed_l (inp c.args.script.now c.args.offs.now c.args.words.now c.args.heads.now c.args.loads.now)) _ (opening {L = operand_l (inp c.args.script.now c.args.offs.now c.args.words.now c.args.heads.now c.args.loads.now) c.args.below} {text = c.args.text.now} {hi = c.args.hi} {at = c.args.at}) (is-closed (inp c.args.script.now c.args.offs.now c.args.words.now c.args.heads.now c.args.loads.now) _ _ _ c.height.ensures c.if-height-below.false) (le_refl _) in
-    let p1 = put (seq (sign_l 40) (expr_l (inp c.args.script.now c.args.offs.now c.args.words.now c.args.heads.now c.args.loads.now))) (sign_l 41) p0 (cut-seq (seq (sign_l 40) (expr_l (inp c.args.script.now c.args.offs.now c.args.words.now c.args.heads.now c.args.loads.now))) (sign_l 41) _) c.requires (sign_low 41) c.put_sign-closed.ensures c.put_sign-closed.auto.0 c.in-Done.is in
-    let p2 = put (sign_l 40) (expr_l (inp c.args.script.now c.args.offs.now c.args.words.now c.args.heads.now c.args.loads.now)) p1 (cut-seq (sign_l 40) (expr_l (inp c.args.script.now c.args.offs.now c.args.words.now c.args.heads.now c.args.loads.now)) _) c.requires (expr-low (inp c.args.script.now c.args.offs.now c.args.words.now c.args.heads.now c.args.loads.now)) c.expr-inner.ensures c.expr-inner.auto.1.1.1.1.1.0 c.in-Done-inner.is in
+    let p1 = put (seq (sign_l 40) (expr_l (inp c.args.script.now c.args.offs.now c.args.words.now c.args.heads.now c.args.loads.now))) (sign_l 41) p0 (cut-seq (seq (sign_l 40) (expr_l (inp c.args.script.now c.args.offs.now c.args.words.now c.args.heads.now c.args.loads.now))) (sign_l 41) _) c.requires (sign_low 41) c.put_sign-closed.ensures c.put_sign-closed.auto.text c.in-Done.is in
+    let p2 = put (sign_l 40) (expr_l (inp c.args.script.now c.args.offs.now c.args.words.now c.args.heads.now c.args.loads.now)) p1 (cut-seq (sign_l 40) (expr_l (inp c.args.script.now c.args.offs.now c.args.words.now c.args.heads.now c.args.loads.now)) _) c.requires (expr-low (inp c.args.script.now c.args.offs.now c.args.words.now c.args.heads.now c.args.loads.now)) c.expr-inner.ensures c.expr-inner.auto.text c.in-Done-inner.is in
     (here p2 c.requires).room
 
 pub operand-returns : goal.operand-returns
 operand-returns t c =
     let p0 = narrowed (closed_l (inp c.args.script.now c.args.offs.now c.args.words.now c.args.heads.now c.args.loads.now)) _ (opening {L = operand_l (inp c.args.script.now c.args.offs.now c.args.words.now c.args.heads.now c.args.loads.now) c.args.below} {text = c.args.text.now} {hi = c.args.hi} {at = c.args.at}) (is-closed (inp c.args.script.now c.args.offs.now c.args.words.now c.args.heads.now c.args.loads.now) _ _ _ c.height.ensures c.if-height-below.false) (le_refl _) in
-    let p1 = put (seq (sign_l 40) (expr_l (inp c.args.script.now c.args.offs.now c.args.words.now c.args.heads.now c.args.loads.now))) (sign_l 41) p0 (cut-seq (seq (sign_l 40) (expr_l (inp c.args.script.now c.args.offs.now c.args.words.now c.args.heads.now c.args.loads.now))) (sign_l 41) _) c.requires (sign_low 41) c.put_sign-closed.ensures c.put_sign-closed.auto.0 c.in-Done.is in
-    let p2 = put (sign_l 40) (expr_l (inp c.args.script.now c.args.offs.now c.args.words.now c.args.heads.now c.args.loads.now)) p1 (cut-seq (sign_l 40) (expr_l (inp c.args.script.now c.args.offs.now c.args.words.now c.args.heads.now c.args.loads.now)) _) c.requires (expr-low (inp c.args.script.now c.args.offs.now c.args.words.now c.args.heads.now c.args.loads.now)) c.expr-inner.ensures c.expr-inner.auto.1.1.1.1.1.0 c.in-Done-inner.is in
+    let p1 = put (seq (sign_l 40) (expr_l (inp c.args.script.now c.args.offs.now c.args.words.now c.args.heads.now c.args.loads.now))) (sign_l 41) p0 (cut-seq (seq (sign_l 40) (expr_l (inp c.args.script.now c.args.offs.now c.args.words.now c.args.heads.now c.args.loads.now))) (sign_l 41) _) c.requires (sign_low 41) c.put_sign-closed.ensures c.put_sign-closed.auto.text c.in-Done.is in
+    let p2 = put (sign_l 40) (expr_l (inp c.args.script.now c.args.offs.now c.args.words.now c.args.heads.now c.args.loads.now)) p1 (cut-seq (sign_l 40) (expr_l (inp c.args.script.now c.args.offs.now c.args.words.now c.args.heads.now c.args.loads.now)) _) c.requires (expr-low (inp c.args.script.now c.args.offs.now c.args.words.now c.args.heads.now c.args.loads.now)) c.expr-inner.ensures c.expr-inner.auto.text c.in-Done-inner.is in
     end p2 c.requires.room c.put_sign.ensures
 
 pub simple-overflow_sub-kind : goal.simple-overflow_sub-kind
@@ -429,43 +429,43 @@ subscript-returns-in_default t c =
 pub subscript-expr-inner-requires : goal.subscript-expr-inner-requires
 subscript-expr-inner-requires t c =
     let c0 = narrowed (index_l (inp c.args.script.now c.args.offs.now c.args.words.now c.args.heads.now c.args.loads.now)) _ (opening {L = subscript_l (inp c.args.script.now c.args.offs.now c.args.words.now c.args.heads.now c.args.loads.now)} {text = c.args.text.now} {hi = c.args.hi} {at = c.args.at}) (is-index (inp c.args.script.now c.args.offs.now c.args.words.now c.args.heads.now c.args.loads.now) _) (le_refl _) in
-    let c1 = put (seq (seq (target_l (inp c.args.script.now c.args.offs.now c.args.words.now c.args.heads.now c.args.loads.now)) (sign_l 91)) (expr_l (inp c.args.script.now c.args.offs.now c.args.words.now c.args.heads.now c.args.loads.now))) (sign_l 93) c0 (cut-seq (seq (seq (target_l (inp c.args.script.now c.args.offs.now c.args.words.now c.args.heads.now c.args.loads.now)) (sign_l 91)) (expr_l (inp c.args.script.now c.args.offs.now c.args.words.now c.args.heads.now c.args.loads.now))) (sign_l 93) _) c.requires (sign_low 93) c.put_sign-closed.ensures c.put_sign-closed.auto.0 c.in-Done.is in
+    let c1 = put (seq (seq (target_l (inp c.args.script.now c.args.offs.now c.args.words.now c.args.heads.now c.args.loads.now)) (sign_l 91)) (expr_l (inp c.args.script.now c.args.offs.now c.args.words.now c.args.heads.now c.args.loads.now))) (sign_l 93) c0 (cut-seq (seq (seq (target_l (inp c.args.script.now c.args.offs.now c.args.words.now c.args.heads.now c.args.loads.now)) (sign_l 91)) (expr_l (inp c.args.script.now c.args.offs.now c.args.words.now c.args.heads.now c.args.loads.now))) (sign_l 93) _) c.requires (sign_low 93) c.put_sign-closed.ensures c.put_sign-closed.auto.text c.in-Done.is in
     (omega (arith, c.decreases, c1.low), spot (seq (target_l (inp c.args.script.now c.args.offs.now c.args.words.now c.args.heads.now c.args.loads.now)) (sign_l 91)) (expr_l (inp c.args.script.now c.args.offs.now c.args.words.now c.args.heads.now c.args.loads.now)) c1 (cut-seq (seq (target_l (inp c.args.script.now c.args.offs.now c.args.words.now c.args.heads.now c.args.loads.now)) (sign_l 91)) (expr_l (inp c.args.script.now c.args.offs.now c.args.words.now c.args.heads.now c.args.loads.now)) _) c.requires)
 
 pub subscript-returns-in_default-inner : goal.subscript-returns-in_default-inner
 subscript-returns-in_default-inner t c =
     let c0 = narrowed (index_l (inp c.args.script.now c.args.offs.now c.args.words.now c.args.heads.now c.args.loads.now)) _ (opening {L = subscript_l (inp c.args.script.now c.args.offs.now c.args.words.now c.args.heads.now c.args.loads.now)} {text = c.args.text.now} {hi = c.args.hi} {at = c.args.at}) (is-index (inp c.args.script.now c.args.offs.now c.args.words.now c.args.heads.now c.args.loads.now) _) (le_refl _) in
-    let c1 = put (seq (seq (target_l (inp c.args.script.now c.args.offs.now c.args.words.now c.args.heads.now c.args.loads.now)) (sign_l 91)) (expr_l (inp c.args.script.now c.args.offs.now c.args.words.now c.args.heads.now c.args.loads.now))) (sign_l 93) c0 (cut-seq (seq (seq (target_l (inp c.args.script.now c.args.offs.now c.args.words.now c.args.heads.now c.args.loads.now)) (sign_l 91)) (expr_l (inp c.args.script.now c.args.offs.now c.args.words.now c.args.heads.now c.args.loads.now))) (sign_l 93) _) c.requires (sign_low 93) c.put_sign-closed.ensures c.put_sign-closed.auto.0 c.in-Done.is in
+    let c1 = put (seq (seq (target_l (inp c.args.script.now c.args.offs.now c.args.words.now c.args.heads.now c.args.loads.now)) (sign_l 91)) (expr_l (inp c.args.script.now c.args.offs.now c.args.words.now c.args.heads.now c.args.loads.now))) (sign_l 93) c0 (cut-seq (seq (seq (target_l (inp c.args.script.now c.args.offs.now c.args.words.now c.args.heads.now c.args.loads.now)) (sign_l 91)) (expr_l (inp c.args.script.now c.args.offs.now c.args.words.now c.args.heads.now c.args.loads.now))) (sign_l 93) _) c.requires (sign_low 93) c.put_sign-closed.ensures c.put_sign-closed.auto.text c.in-Done.is in
     stop (seq (target_l (inp c.args.script.now c.args.offs.now c.args.words.now c.args.heads.now c.args.loads.now)) (sign_l 91)) (expr_l (inp c.args.script.now c.args.offs.now c.args.words.now c.args.heads.now c.args.loads.now)) c1 (cut-seq (seq (target_l (inp c.args.script.now c.args.offs.now c.args.words.now c.args.heads.now c.args.loads.now)) (sign_l 91)) (expr_l (inp c.args.script.now c.args.offs.now c.args.words.now c.args.heads.now c.args.loads.now)) _) c.expr-inner.ensures c.in_default-inner.is
 
 pub subscript-put_sign-opened-requires : goal.subscript-put_sign-opened-requires
 subscript-put_sign-opened-requires t c =
     let c0 = narrowed (index_l (inp c.args.script.now c.args.offs.now c.args.words.now c.args.heads.now c.args.loads.now)) _ (opening {L = subscript_l (inp c.args.script.now c.args.offs.now c.args.words.now c.args.heads.now c.args.loads.now)} {text = c.args.text.now} {hi = c.args.hi} {at = c.args.at}) (is-index (inp c.args.script.now c.args.offs.now c.args.words.now c.args.heads.now c.args.loads.now) _) (le_refl _) in
-    let c1 = put (seq (seq (target_l (inp c.args.script.now c.args.offs.now c.args.words.now c.args.heads.now c.args.loads.now)) (sign_l 91)) (expr_l (inp c.args.script.now c.args.offs.now c.args.words.now c.args.heads.now c.args.loads.now))) (sign_l 93) c0 (cut-seq (seq (seq (target_l (inp c.args.script.now c.args.offs.now c.args.words.now c.args.heads.now c.args.loads.now)) (sign_l 91)) (expr_l (inp c.args.script.now c.args.offs.now c.args.words.now c.args.heads.now c.args.loads.now))) (sign_l 93) _) c.requires (sign_low 93) c.put_sign-closed.ensures c.put_sign-closed.auto.0 c.in-Done.is in
-    let c2 = put (seq (target_l (inp c.args.script.now c.args.offs.now c.args.words.now c.args.heads.now c.args.loads.now)) (sign_l 91)) (expr_l (inp c.args.script.now c.args.offs.now c.args.words.now c.args.heads.now c.args.loads.now)) c1 (cut-seq (seq (target_l (inp c.args.script.now c.args.offs.now c.args.words.now c.args.heads.now c.args.loads.now)) (sign_l 91)) (expr_l (inp c.args.script.now c.args.offs.now c.args.words.now c.args.heads.now c.args.loads.now)) _) c.requires (expr-low (inp c.args.script.now c.args.offs.now c.args.words.now c.args.heads.now c.args.loads.now)) c.expr-inner.ensures c.expr-inner.auto.1.1.1.1.1.0 c.in-Done-inner.is in
+    let c1 = put (seq (seq (target_l (inp c.args.script.now c.args.offs.now c.args.words.now c.args.heads.now c.args.loads.now)) (sign_l 91)) (expr_l (inp c.args.script.now c.args.offs.now c.args.words.now c.args.heads.now c.args.loads.now))) (sign_l 93) c0 (cut-seq (seq (seq (target_l (inp c.args.script.now c.args.offs.now c.args.words.now c.args.heads.now c.args.loads.now)) (sign_l 91)) (expr_l (inp c.args.script.now c.args.offs.now c.args.words.now c.args.heads.now c.args.loads.now))) (sign_l 93) _) c.requires (sign_low 93) c.put_sign-closed.ensures c.put_sign-closed.auto.text c.in-Done.is in
+    let c2 = put (seq (target_l (inp c.args.script.now c.args.offs.now c.args.words.now c.args.heads.now c.args.loads.now)) (sign_l 91)) (expr_l (inp c.args.script.now c.args.offs.now c.args.words.now c.args.heads.now c.args.loads.now)) c1 (cut-seq (seq (target_l (inp c.args.script.now c.args.offs.now c.args.words.now c.args.heads.now c.args.loads.now)) (sign_l 91)) (expr_l (inp c.args.script.now c.args.offs.now c.args.words.now c.args.heads.now c.args.loads.now)) _) c.requires (expr-low (inp c.args.script.now c.args.offs.now c.args.words.now c.args.heads.now c.args.loads.now)) c.expr-inner.ensures c.expr-inner.auto.text c.in-Done-inner.is in
     (here c2 c.requires).room
 
 pub subscript-returns-in_default-opened : goal.subscript-returns-in_default-opened
 subscript-returns-in_default-opened t c =
     let c0 = narrowed (index_l (inp c.args.script.now c.args.offs.now c.args.words.now c.args.heads.now c.args.loads.now)) _ (opening {L = subscript_l (inp c.args.script.now c.args.offs.now c.args.words.now c.args.heads.now c.args.loads.now)} {text = c.args.text.now} {hi = c.args.hi} {at = c.args.at}) (is-index (inp c.args.script.now c.args.offs.now c.args.words.now c.args.heads.now c.args.loads.now) _) (le_refl _) in
-    let c1 = put (seq (seq (target_l (inp c.args.script.now c.args.offs.now c.args.words.now c.args.heads.now c.args.loads.now)) (sign_l 91)) (expr_l (inp c.args.script.now c.args.offs.now c.args.words.now c.args.heads.now c.args.loads.now))) (sign_l 93) c0 (cut-seq (seq (seq (target_l (inp c.args.script.now c.args.offs.now c.args.words.now c.args.heads.now c.args.loads.now)) (sign_l 91)) (expr_l (inp c.args.script.now c.args.offs.now c.args.words.now c.args.heads.now c.args.loads.now))) (sign_l 93) _) c.requires (sign_low 93) c.put_sign-closed.ensures c.put_sign-closed.auto.0 c.in-Done.is in
-    let c2 = put (seq (target_l (inp c.args.script.now c.args.offs.now c.args.words.now c.args.heads.now c.args.loads.now)) (sign_l 91)) (expr_l (inp c.args.script.now c.args.offs.now c.args.words.now c.args.heads.now c.args.loads.now)) c1 (cut-seq (seq (target_l (inp c.args.script.now c.args.offs.now c.args.words.now c.args.heads.now c.args.loads.now)) (sign_l 91)) (expr_l (inp c.args.script.now c.args.offs.now c.args.words.now c.args.heads.now c.args.loads.now)) _) c.requires (expr-low (inp c.args.script.now c.args.offs.now c.args.words.now c.args.heads.now c.args.loads.now)) c.expr-inner.ensures c.expr-inner.auto.1.1.1.1.1.0 c.in-Done-inner.is in
+    let c1 = put (seq (seq (target_l (inp c.args.script.now c.args.offs.now c.args.words.now c.args.heads.now c.args.loads.now)) (sign_l 91)) (expr_l (inp c.args.script.now c.args.offs.now c.args.words.now c.args.heads.now c.args.loads.now))) (sign_l 93) c0 (cut-seq (seq (seq (target_l (inp c.args.script.now c.args.offs.now c.args.words.now c.args.heads.now c.args.loads.now)) (sign_l 91)) (expr_l (inp c.args.script.now c.args.offs.now c.args.words.now c.args.heads.now c.args.loads.now))) (sign_l 93) _) c.requires (sign_low 93) c.put_sign-closed.ensures c.put_sign-closed.auto.text c.in-Done.is in
+    let c2 = put (seq (target_l (inp c.args.script.now c.args.offs.now c.args.words.now c.args.heads.now c.args.loads.now)) (sign_l 91)) (expr_l (inp c.args.script.now c.args.offs.now c.args.words.now c.args.heads.now c.args.loads.now)) c1 (cut-seq (seq (target_l (inp c.args.script.now c.args.offs.now c.args.words.now c.args.heads.now c.args.loads.now)) (sign_l 91)) (expr_l (inp c.args.script.now c.args.offs.now c.args.words.now c.args.heads.now c.args.loads.now)) _) c.requires (expr-low (inp c.args.script.now c.args.offs.now c.args.words.now c.args.heads.now c.args.loads.now)) c.expr-inner.ensures c.expr-inner.auto.text c.in-Done-inner.is in
     stop (target_l (inp c.args.script.now c.args.offs.now c.args.words.now c.args.heads.now c.args.loads.now)) (sign_l 91) c2 (cut-seq (target_l (inp c.args.script.now c.args.offs.now c.args.words.now c.args.heads.now c.args.loads.now)) (sign_l 91) _) c.put_sign-opened.ensures c.in_default-opened.is
 
 pub subscript-leaf-requires : goal.subscript-leaf-requires
 subscript-leaf-requires t c =
     let c0 = narrowed (index_l (inp c.args.script.now c.args.offs.now c.args.words.now c.args.heads.now c.args.loads.now)) _ (opening {L = subscript_l (inp c.args.script.now c.args.offs.now c.args.words.now c.args.heads.now c.args.loads.now)} {text = c.args.text.now} {hi = c.args.hi} {at = c.args.at}) (is-index (inp c.args.script.now c.args.offs.now c.args.words.now c.args.heads.now c.args.loads.now) _) (le_refl _) in
-    let c1 = put (seq (seq (target_l (inp c.args.script.now c.args.offs.now c.args.words.now c.args.heads.now c.args.loads.now)) (sign_l 91)) (expr_l (inp c.args.script.now c.args.offs.now c.args.words.now c.args.heads.now c.args.loads.now))) (sign_l 93) c0 (cut-seq (seq (seq (target_l (inp c.args.script.now c.args.offs.now c.args.words.now c.args.heads.now c.args.loads.now)) (sign_l 91)) (expr_l (inp c.args.script.now c.args.offs.now c.args.words.now c.args.heads.now c.args.loads.now))) (sign_l 93) _) c.requires (sign_low 93) c.put_sign-closed.ensures c.put_sign-closed.auto.0 c.in-Done.is in
-    let c2 = put (seq (target_l (inp c.args.script.now c.args.offs.now c.args.words.now c.args.heads.now c.args.loads.now)) (sign_l 91)) (expr_l (inp c.args.script.now c.args.offs.now c.args.words.now c.args.heads.now c.args.loads.now)) c1 (cut-seq (seq (target_l (inp c.args.script.now c.args.offs.now c.args.words.now c.args.heads.now c.args.loads.now)) (sign_l 91)) (expr_l (inp c.args.script.now c.args.offs.now c.args.words.now c.args.heads.now c.args.loads.now)) _) c.requires (expr-low (inp c.args.script.now c.args.offs.now c.args.words.now c.args.heads.now c.args.loads.now)) c.expr-inner.ensures c.expr-inner.auto.1.1.1.1.1.0 c.in-Done-inner.is in
-    let c3 = put (target_l (inp c.args.script.now c.args.offs.now c.args.words.now c.args.heads.now c.args.loads.now)) (sign_l 91) c2 (cut-seq (target_l (inp c.args.script.now c.args.offs.now c.args.words.now c.args.heads.now c.args.loads.now)) (sign_l 91) _) c.requires (sign_low 91) c.put_sign-opened.ensures c.put_sign-opened.auto.0 c.in-Done-opened.is in
+    let c1 = put (seq (seq (target_l (inp c.args.script.now c.args.offs.now c.args.words.now c.args.heads.now c.args.loads.now)) (sign_l 91)) (expr_l (inp c.args.script.now c.args.offs.now c.args.words.now c.args.heads.now c.args.loads.now))) (sign_l 93) c0 (cut-seq (seq (seq (target_l (inp c.args.script.now c.args.offs.now c.args.words.now c.args.heads.now c.args.loads.now)) (sign_l 91)) (expr_l (inp c.args.script.now c.args.offs.now c.args.words.now c.args.heads.now c.args.loads.now))) (sign_l 93) _) c.requires (sign_low 93) c.put_sign-closed.ensures c.put_sign-closed.auto.text c.in-Done.is in
+    let c2 = put (seq (target_l (inp c.args.script.now c.args.offs.now c.args.words.now c.args.heads.now c.args.loads.now)) (sign_l 91)) (expr_l (inp c.args.script.now c.args.offs.now c.args.words.now c.args.heads.now c.args.loads.now)) c1 (cut-seq (seq (target_l (inp c.args.script.now c.args.offs.now c.args.words.now c.args.heads.now c.args.loads.now)) (sign_l 91)) (expr_l (inp c.args.script.now c.args.offs.now c.args.words.now c.args.heads.now c.args.loads.now)) _) c.requires (expr-low (inp c.args.script.now c.args.offs.now c.args.words.now c.args.heads.now c.args.loads.now)) c.expr-inner.ensures c.expr-inner.auto.text c.in-Done-inner.is in
+    let c3 = put (target_l (inp c.args.script.now c.args.offs.now c.args.words.now c.args.heads.now c.args.loads.now)) (sign_l 91) c2 (cut-seq (target_l (inp c.args.script.now c.args.offs.now c.args.words.now c.args.heads.now c.args.loads.now)) (sign_l 91) _) c.requires (sign_low 91) c.put_sign-opened.ensures c.put_sign-opened.auto.text c.in-Done-opened.is in
     here c3 c.requires
 
 pub subscript-returns : goal.subscript-returns
 subscript-returns t c =
     let c0 = narrowed (index_l (inp c.args.script.now c.args.offs.now c.args.words.now c.args.heads.now c.args.loads.now)) _ (opening {L = subscript_l (inp c.args.script.now c.args.offs.now c.args.words.now c.args.heads.now c.args.loads.now)} {text = c.args.text.now} {hi = c.args.hi} {at = c.args.at}) (is-index (inp c.args.script.now c.args.offs.now c.args.words.now c.args.heads.now c.args.loads.now) _) (le_refl _) in
-    let c1 = put (seq (seq (target_l (inp c.args.script.now c.args.offs.now c.args.words.now c.args.heads.now c.args.loads.now)) (sign_l 91)) (expr_l (inp c.args.script.now c.args.offs.now c.args.words.now c.args.heads.now c.args.loads.now))) (sign_l 93) c0 (cut-seq (seq (seq (target_l (inp c.args.script.now c.args.offs.now c.args.words.now c.args.heads.now c.args.loads.now)) (sign_l 91)) (expr_l (inp c.args.script.now c.args.offs.now c.args.words.now c.args.heads.now c.args.loads.now))) (sign_l 93) _) c.requires (sign_low 93) c.put_sign-closed.ensures c.put_sign-closed.auto.0 c.in-Done.is in
-    let c2 = put (seq (target_l (inp c.args.script.now c.args.offs.now c.args.words.now c.args.heads.now c.args.loads.now)) (sign_l 91)) (expr_l (inp c.args.script.now c.args.offs.now c.args.words.now c.args.heads.now c.args.loads.now)) c1 (cut-seq (seq (target_l (inp c.args.script.now c.args.offs.now c.args.words.now c.args.heads.now c.args.loads.now)) (sign_l 91)) (expr_l (inp c.args.script.now c.args.offs.now c.args.words.now c.args.heads.now c.args.loads.now)) _) c.requires (expr-low (inp c.args.script.now c.args.offs.now c.args.words.now c.args.heads.now c.args.loads.now)) c.expr-inner.ensures c.expr-inner.auto.1.1.1.1.1.0 c.in-Done-inner.is in
-    let c3 = put (target_l (inp c.args.script.now c.args.offs.now c.args.words.now c.args.heads.now c.args.loads.now)) (sign_l 91) c2 (cut-seq (target_l (inp c.args.script.now c.args.offs.now c.args.words.now c.args.heads.now c.args.loads.now)) (sign_l 91) _) c.requires (sign_low 91) c.put_sign-opened.ensures c.put_sign-opened.auto.0 c.in-Done-opened.is in
+    let c1 = put (seq (seq (target_l (inp c.args.script.now c.args.offs.now c.args.words.now c.args.heads.now c.args.loads.now)) (sign_l 91)) (expr_l (inp c.args.script.now c.args.offs.now c.args.words.now c.args.heads.now c.args.loads.now))) (sign_l 93) c0 (cut-seq (seq (seq (target_l (inp c.args.script.now c.args.offs.now c.args.words.now c.args.heads.now c.args.loads.now)) (sign_l 91)) (expr_l (inp c.args.script.now c.args.offs.now c.args.words.now c.args.heads.now c.args.loads.now))) (sign_l 93) _) c.requires (sign_low 93) c.put_sign-closed.ensures c.put_sign-closed.auto.text c.in-Done.is in
+    let c2 = put (seq (target_l (inp c.args.script.now c.args.offs.now c.args.words.now c.args.heads.now c.args.loads.now)) (sign_l 91)) (expr_l (inp c.args.script.now c.args.offs.now c.args.words.now c.args.heads.now c.args.loads.now)) c1 (cut-seq (seq (target_l (inp c.args.script.now c.args.offs.now c.args.words.now c.args.heads.now c.args.loads.now)) (sign_l 91)) (expr_l (inp c.args.script.now c.args.offs.now c.args.words.now c.args.heads.now c.args.loads.now)) _) c.requires (expr-low (inp c.args.script.now c.args.offs.now c.args.words.now c.args.heads.now c.args.loads.now)) c.expr-inner.ensures c.expr-inner.auto.text c.in-Done-inner.is in
+    let c3 = put (target_l (inp c.args.script.now c.args.offs.now c.args.words.now c.args.heads.now c.args.loads.now)) (sign_l 91) c2 (cut-seq (target_l (inp c.args.script.now c.args.offs.now c.args.words.now c.args.heads.now c.args.loads.now)) (sign_l 91) _) c.requires (sign_low 91) c.put_sign-opened.ensures c.put_sign-opened.auto.text c.in-Done-opened.is in
     end c3 c.requires.room c.leaf.ensures
 
 pub unary-overflow_sub-m : goal.unary-overflow_sub-m
@@ -508,14 +508,14 @@ pub unary-put_token-requires : goal.unary-put_token-requires
 unary-put_token-requires t c =
     let u0 = narrowed (seq (own_l (inp c.args.script.now c.args.offs.now c.args.words.now c.args.heads.now c.args.loads.now) c.args.hi) (operand_l (inp c.args.script.now c.args.offs.now c.args.words.now c.args.heads.now c.args.loads.now) 1)) (c.args.hi - 1) (opening {L = expr_l (inp c.args.script.now c.args.offs.now c.args.words.now c.args.heads.now c.args.loads.now)} {text = c.args.text.now} {hi = c.args.hi} {at = c.args.at}) (is_one (inp c.args.script.now c.args.offs.now c.args.words.now c.args.heads.now c.args.loads.now) c.args.hi c.requires.1) (omega arith) in
     let v0 = narrowed (seq (own_l (inp c.args.script.now c.args.offs.now c.args.words.now c.args.heads.now c.args.loads.now) c.args.hi) (expr_l (inp c.args.script.now c.args.offs.now c.args.words.now c.args.heads.now c.args.loads.now))) (c.args.hi - 1) u0 (is-chain (inp c.args.script.now c.args.offs.now c.args.words.now c.args.heads.now c.args.loads.now) c.args.hi c.if-heads-m-eq-UNARY_EXPR.true) (le_refl _) in
-    let v1 = put (own_l (inp c.args.script.now c.args.offs.now c.args.words.now c.args.heads.now c.args.loads.now) c.args.hi) (expr_l (inp c.args.script.now c.args.offs.now c.args.words.now c.args.heads.now c.args.loads.now)) v0 (cut-seq (own_l (inp c.args.script.now c.args.offs.now c.args.words.now c.args.heads.now c.args.loads.now) c.args.hi) (expr_l (inp c.args.script.now c.args.offs.now c.args.words.now c.args.heads.now c.args.loads.now)) _) c.requires.0 (expr-low (inp c.args.script.now c.args.offs.now c.args.words.now c.args.heads.now c.args.loads.now)) c.unary-chain.ensures c.unary-chain.auto.1.1.1.1.1.0 c.in-Done.is in
+    let v1 = put (own_l (inp c.args.script.now c.args.offs.now c.args.words.now c.args.heads.now c.args.loads.now) c.args.hi) (expr_l (inp c.args.script.now c.args.offs.now c.args.words.now c.args.heads.now c.args.loads.now)) v0 (cut-seq (own_l (inp c.args.script.now c.args.offs.now c.args.words.now c.args.heads.now c.args.loads.now) c.args.hi) (expr_l (inp c.args.script.now c.args.offs.now c.args.words.now c.args.heads.now c.args.loads.now)) _) c.requires.0 (expr-low (inp c.args.script.now c.args.offs.now c.args.words.now c.args.heads.now c.args.loads.now)) c.unary-chain.ensures c.unary-chain.auto.text c.in-Done.is in
     here v1 c.requires.0
 
 pub unary-returns-then-heads-m-eq-UNARY_EXPR : goal.unary-returns-then-heads-m-eq-UNARY_EXPR
 unary-returns-then-heads-m-eq-UNARY_EXPR t c =
     let u0 = narrowed (seq (own_l (inp c.args.script.now c.args.offs.now c.args.words.now c.args.heads.now c.args.loads.now) c.args.hi) (operand_l (inp c.args.script.now c.args.offs.now c.args.words.now c.args.heads.now c.args.loads.now) 1)) (c.args.hi - 1) (opening {L = expr_l (inp c.args.script.now c.args.offs.now c.args.words.now c.args.heads.now c.args.loads.now)} {text = c.args.text.now} {hi = c.args.hi} {at = c.args.at}) (is_one (inp c.args.script.now c.args.offs.now c.args.words.now c.args.heads.now c.args.loads.now) c.args.hi c.requires.1) (omega arith) in
     let v0 = narrowed (seq (own_l (inp c.args.script.now c.args.offs.now c.args.words.now c.args.heads.now c.args.loads.now) c.args.hi) (expr_l (inp c.args.script.now c.args.offs.now c.args.words.now c.args.heads.now c.args.loads.now))) (c.args.hi - 1) u0 (is-chain (inp c.args.script.now c.args.offs.now c.args.words.now c.args.heads.now c.args.loads.now) c.args.hi c.if-heads-m-eq-UNARY_EXPR.true) (le_refl _) in
-    let v1 = put (own_l (inp c.args.script.now c.args.offs.now c.args.words.now c.args.heads.now c.args.loads.now) c.args.hi) (expr_l (inp c.args.script.now c.args.offs.now c.args.words.now c.args.heads.now c.args.loads.now)) v0 (cut-seq (own_l (inp c.args.script.now c.args.offs.now c.args.words.now c.args.heads.now c.args.loads.now) c.args.hi) (expr_l (inp c.args.script.now c.args.offs.now c.args.words.now c.args.heads.now c.args.loads.now)) _) c.requires.0 (expr-low (inp c.args.script.now c.args.offs.now c.args.words.now c.args.heads.now c.args.loads.now)) c.unary-chain.ensures c.unary-chain.auto.1.1.1.1.1.0 c.in-Done.is in
+    let v1 = put (own_l (inp c.args.script.now c.args.offs.now c.args.words.now c.args.heads.now c.args.loads.now) c.args.hi) (expr_l (inp c.args.script.now c.args.offs.now c.args.words.now c.args.heads.now c.args.loads.now)) v0 (cut-seq (own_l (inp c.args.script.now c.args.offs.now c.args.words.now c.args.heads.now c.args.loads.now) c.args.hi) (expr_l (inp c.args.script.now c.args.offs.now c.args.words.now c.args.heads.now c.args.loads.now)) _) c.requires.0 (expr-low (inp c.args.script.now c.args.offs.now c.args.words.now c.args.heads.now c.args.loads.now)) c.unary-chain.ensures c.unary-chain.auto.text c.in-Done.is in
     end v1 c.requires.0.room c.put_token.ensures
 
 pub unary-operand-under-requires : goal.unary-operand-under-requires
@@ -531,11 +531,11 @@ unary-returns-in_default-under t c =
 pub unary-put_token-requires-2 : goal.unary-put_token-requires-2
 unary-put_token-requires-2 t c =
     let u0 = narrowed (seq (own_l (inp c.args.script.now c.args.offs.now c.args.words.now c.args.heads.now c.args.loads.now) c.args.hi) (operand_l (inp c.args.script.now c.args.offs.now c.args.words.now c.args.heads.now c.args.loads.now) 1)) (c.args.hi - 1) (opening {L = expr_l (inp c.args.script.now c.args.offs.now c.args.words.now c.args.heads.now c.args.loads.now)} {text = c.args.text.now} {hi = c.args.hi} {at = c.args.at}) (is_one (inp c.args.script.now c.args.offs.now c.args.words.now c.args.heads.now c.args.loads.now) c.args.hi c.requires.1) (omega arith) in
-    let u1 = put (own_l (inp c.args.script.now c.args.offs.now c.args.words.now c.args.heads.now c.args.loads.now) c.args.hi) (operand_l (inp c.args.script.now c.args.offs.now c.args.words.now c.args.heads.now c.args.loads.now) 1) u0 (cut-seq (own_l (inp c.args.script.now c.args.offs.now c.args.words.now c.args.heads.now c.args.loads.now) c.args.hi) (operand_l (inp c.args.script.now c.args.offs.now c.args.words.now c.args.heads.now c.args.loads.now) 1) _) c.requires.0 (operand_low (inp c.args.script.now c.args.offs.now c.args.words.now c.args.heads.now c.args.loads.now) 1) c.operand-under.ensures c.operand-under.auto.1.1.1.1.1.0 c.in-Done-under.is in
+    let u1 = put (own_l (inp c.args.script.now c.args.offs.now c.args.words.now c.args.heads.now c.args.loads.now) c.args.hi) (operand_l (inp c.args.script.now c.args.offs.now c.args.words.now c.args.heads.now c.args.loads.now) 1) u0 (cut-seq (own_l (inp c.args.script.now c.args.offs.now c.args.words.now c.args.heads.now c.args.loads.now) c.args.hi) (operand_l (inp c.args.script.now c.args.offs.now c.args.words.now c.args.heads.now c.args.loads.now) 1) _) c.requires.0 (operand_low (inp c.args.script.now c.args.offs.now c.args.words.now c.args.heads.now c.args.loads.now) 1) c.operand-under.ensures c.operand-under.auto.text c.in-Done-under.is in
     here u1 c.requires.0
 
 pub unary-returns : goal.unary-returns
 unary-returns t c =
     let u0 = narrowed (seq (own_l (inp c.args.script.now c.args.offs.now c.args.words.now c.args.heads.now c.args.loads.now) c.args.hi) (operand_l (inp c.args.script.now c.args.offs.now c.args.words.now c.args.heads.now c.args.loads.now) 1)) (c.args.hi - 1) (opening {L = expr_l (inp c.args.script.now c.args.offs.now c.args.words.now c.args.heads.now c.args.loads.now)} {text = c.args.text.now} {hi = c.args.hi} {at = c.args.at}) (is_one (inp c.args.script.now c.args.offs.now c.args.words.now c.args.heads.now c.args.loads.now) c.args.hi c.requires.1) (omega arith) in
-    let u1 = put (own_l (inp c.args.script.now c.args.offs.now c.args.words.now c.args.heads.now c.args.loads.now) c.args.hi) (operand_l (inp c.args.script.now c.args.offs.now c.args.words.now c.args.heads.now c.args.loads.now) 1) u0 (cut-seq (own_l (inp c.args.script.now c.args.offs.now c.args.words.now c.args.heads.now c.args.loads.now) c.args.hi) (operand_l (inp c.args.script.now c.args.offs.now c.args.words.now c.args.heads.now c.args.loads.now) 1) _) c.requires.0 (operand_low (inp c.args.script.now c.args.offs.now c.args.words.now c.args.heads.now c.args.loads.now) 1) c.operand-under.ensures c.operand-under.auto.1.1.1.1.1.0 c.in-Done-under.is in
+    let u1 = put (own_l (inp c.args.script.now c.args.offs.now c.args.words.now c.args.heads.now c.args.loads.now) c.args.hi) (operand_l (inp c.args.script.now c.args.offs.now c.args.words.now c.args.heads.now c.args.loads.now) 1) u0 (cut-seq (own_l (inp c.args.script.now c.args.offs.now c.args.words.now c.args.heads.now c.args.loads.now) c.args.hi) (operand_l (inp c.args.script.now c.args.offs.now c.args.words.now c.args.heads.now c.args.loads.now) 1) _) c.requires.0 (operand_low (inp c.args.script.now c.args.offs.now c.args.words.now c.args.heads.now c.args.loads.now) 1) c.operand-under.ensures c.operand-under.auto.text c.in-Done-under.is in
     end u1 c.requires.0.room c.put_token-2.ensures
