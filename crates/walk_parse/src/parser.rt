@@ -26,7 +26,7 @@ use walk_step::{Parsed, consume, expect, kind_at, match_ident, push_node, refuse
 use walk_stmt::{expr_stmt, ret_stmt, var_decl};
 
 // A declaration.
-#[cycle(block_branches_decl_decls_elif_stmt_else_block_fn_decl_fn_rest_for_rest_for_stmt_if_stmt_stmt)]
+#[cycle(declarations)]
 pub fn decl(
     script: &&[u8],
     offs: &&[u32],
@@ -58,7 +58,7 @@ pub fn decl(
 }
 
 // A statement.
-#[cycle(block_branches_decl_decls_elif_stmt_else_block_fn_decl_fn_rest_for_rest_for_stmt_if_stmt_stmt)]
+#[cycle(declarations)]
 fn stmt(
     script: &&[u8],
     offs: &&[u32],
@@ -109,7 +109,7 @@ fn stmt(
 }
 
 // A block: of a function or not, with the names that are bound in it.
-#[cycle(block_branches_decl_decls_elif_stmt_else_block_fn_decl_fn_rest_for_rest_for_stmt_if_stmt_stmt)]
+#[cycle(declarations)]
 fn block(
     script: &&[u8],
     offs: &&[u32],
@@ -161,7 +161,7 @@ fn ends_decls(k: u32) -> bool
 }
 
 // The declarations of a block: the count is how many there are.
-#[cycle(block_branches_decl_decls_elif_stmt_else_block_fn_decl_fn_rest_for_rest_for_stmt_if_stmt_stmt)]
+#[cycle(declarations)]
 fn decls(
     script: &&[u8],
     offs: &&[u32],
@@ -195,7 +195,7 @@ fn decls(
 }
 
 // A function: a placeholder is stored before the parameters, so that it can call itself.
-#[cycle(block_branches_decl_decls_elif_stmt_else_block_fn_decl_fn_rest_for_rest_for_stmt_if_stmt_stmt)]
+#[cycle(declarations)]
 fn fn_decl(
     script: &&[u8],
     offs: &&[u32],
@@ -239,7 +239,7 @@ fn fn_decl(
 }
 
 // What follows the n parameters of the function that token i names, which are the newest nodes.
-#[cycle(block_branches_decl_decls_elif_stmt_else_block_fn_decl_fn_rest_for_rest_for_stmt_if_stmt_stmt)]
+#[cycle(declarations)]
 fn fn_rest(
     script: &&[u8],
     offs: &&[u32],
@@ -292,7 +292,7 @@ fn fn_rest(
 }
 
 // An if statement.
-#[cycle(block_branches_decl_decls_elif_stmt_else_block_fn_decl_fn_rest_for_rest_for_stmt_if_stmt_stmt)]
+#[cycle(declarations)]
 fn if_stmt(
     script: &&[u8],
     offs: &&[u32],
@@ -339,7 +339,7 @@ fn if_stmt(
 }
 
 // The further branches of an if statement, in the order of the script, and its end.
-#[cycle(block_branches_decl_decls_elif_stmt_else_block_fn_decl_fn_rest_for_rest_for_stmt_if_stmt_stmt)]
+#[cycle(declarations)]
 fn branches(
     script: &&[u8],
     offs: &&[u32],
@@ -385,7 +385,7 @@ fn branches(
 }
 
 // An elif branch.
-#[cycle(block_branches_decl_decls_elif_stmt_else_block_fn_decl_fn_rest_for_rest_for_stmt_if_stmt_stmt)]
+#[cycle(declarations)]
 fn elif_stmt(
     script: &&[u8],
     offs: &&[u32],
@@ -430,7 +430,7 @@ fn elif_stmt(
 }
 
 // An else branch.
-#[cycle(block_branches_decl_decls_elif_stmt_else_block_fn_decl_fn_rest_for_rest_for_stmt_if_stmt_stmt)]
+#[cycle(declarations)]
 fn else_block(
     script: &&[u8],
     offs: &&[u32],
@@ -467,7 +467,7 @@ fn else_block(
 }
 
 // A for statement.
-#[cycle(block_branches_decl_decls_elif_stmt_else_block_fn_decl_fn_rest_for_rest_for_stmt_if_stmt_stmt)]
+#[cycle(declarations)]
 fn for_stmt(
     script: &&[u8],
     offs: &&[u32],
@@ -503,7 +503,7 @@ fn for_stmt(
 }
 
 // What follows `in`, with the tokens of the two names.
-#[cycle(block_branches_decl_decls_elif_stmt_else_block_fn_decl_fn_rest_for_rest_for_stmt_if_stmt_stmt)]
+#[cycle(declarations)]
 fn for_rest(
     script: &&[u8],
     offs: &&[u32],
