@@ -32,22 +32,22 @@ pub add_or_sub_expr-mul_or_div_expr-lhs-requires : goal.add_or_sub_expr-mul_or_d
 add_or_sub_expr-mul_or_div_expr-lhs-requires t c = (omega (arith, c.decreases), c.requires)
 
 pub add_or_sub_expr-returns-in_default : goal.add_or_sub_expr-returns-in_default
-add_or_sub_expr-returns-in_default t c = begins-not 2 c.args.depth c.requires c.mul_or_div_expr-lhs.ensures (not_done _ c.in_default.in_default-own.keys2)
+add_or_sub_expr-returns-in_default t c = begins-not 2 c.args.depth c.requires c.mul_or_div_expr-lhs.ensures (not_done _ c.in_default.not-Done)
 
 pub add_or_sub_expr-loop-lim-init : goal.add_or_sub_expr-loop-lim-init
-add_or_sub_expr-loop-lim-init t c = looping (Turns 2 c.args.depth) (ready (begins 2 c.args.depth c.requires c.mul_or_div_expr-lhs.ensures (kept c.mul_or_div_expr-lhs.auto) c.in-Done.is))
+add_or_sub_expr-loop-lim-init t c = looping (Turns 2 c.args.depth) (ready (begins 2 c.args.depth c.requires c.mul_or_div_expr-lhs.ensures (record { symbols = c.mul_or_div_expr-lhs.auto.symbols; head = c.mul_or_div_expr-lhs.auto.head; load = c.mul_or_div_expr-lhs.auto.load }) c.in-Done.is))
 
 pub add_or_sub_expr-kind_at-requires : goal.add_or_sub_expr-kind_at-requires
 add_or_sub_expr-kind_at-requires t c = c.loop-lim.invariant.is.stands.here
 
 pub add_or_sub_expr-returns-then-looseness-ne3 : goal.add_or_sub_expr-returns-then-looseness-ne3
-add_or_sub_expr-returns-then-looseness-ne3 t c = ends 2 c.args.depth c.loop-lim.invariant (begins 2 c.args.depth c.requires c.mul_or_div_expr-lhs.ensures (kept c.mul_or_div_expr-lhs.auto) c.in-Done.is) 0 (turns-end 2 c.args.depth c.loop-lim.invariant.is (c.loop-lim.invariant.f - 1) (λ z. c.if-looseness-ne3.true (c.looseness.ensures ∙ ap looseness c.kind_at.ensures ∙ z)))
+add_or_sub_expr-returns-then-looseness-ne3 t c = ends 2 c.args.depth c.loop-lim.invariant (begins 2 c.args.depth c.requires c.mul_or_div_expr-lhs.ensures (record { symbols = c.mul_or_div_expr-lhs.auto.symbols; head = c.mul_or_div_expr-lhs.auto.head; load = c.mul_or_div_expr-lhs.auto.load }) c.in-Done.is) 0 (turns-end 2 c.args.depth c.loop-lim.invariant.is (c.loop-lim.invariant.f - 1) (λ z. c.if-looseness-ne3.true (c.looseness.ensures ∙ ap looseness c.kind_at.ensures ∙ z)))
 
 pub add_or_sub_expr-consume-passed-requires : goal.add_or_sub_expr-consume-passed-requires
 add_or_sub_expr-consume-passed-requires t c = c.loop-lim.invariant.is.stands
 
 pub add_or_sub_expr-returns-in_default-passed : goal.add_or_sub_expr-returns-in_default-passed
-add_or_sub_expr-returns-in_default-passed t c = ends 2 c.args.depth c.loop-lim.invariant (begins 2 c.args.depth c.requires c.mul_or_div_expr-lhs.ensures (kept c.mul_or_div_expr-lhs.auto) c.in-Done.is) 1 (signs-not 2 c.args.depth c.loop-lim.invariant.is (c.loop-lim.invariant.f - 1) (ap looseness (sym c.kind_at.ensures) ∙ sym c.looseness.ensures ∙ c.if-looseness-ne3.false) c.consume-passed.ensures (not_done _ c.in_default-passed.in_default-passed-own.keys2))
+add_or_sub_expr-returns-in_default-passed t c = ends 2 c.args.depth c.loop-lim.invariant (begins 2 c.args.depth c.requires c.mul_or_div_expr-lhs.ensures (record { symbols = c.mul_or_div_expr-lhs.auto.symbols; head = c.mul_or_div_expr-lhs.auto.head; load = c.mul_or_div_expr-lhs.auto.load }) c.in-Done.is) 1 (signs-not 2 c.args.depth c.loop-lim.invariant.is (c.loop-lim.invariant.f - 1) (ap looseness (sym c.kind_at.ensures) ∙ sym c.looseness.ensures ∙ c.if-looseness-ne3.false) c.consume-passed.ensures (not_done _ c.in_default-passed.not-Done))
 
 pub add_or_sub_expr-unary_expr-operand-requires : goal.add_or_sub_expr-unary_expr-operand-requires
 add_or_sub_expr-unary_expr-operand-requires t c =
@@ -57,19 +57,19 @@ add_or_sub_expr-unary_expr-operand-requires t c =
 pub add_or_sub_expr-returns-in_default-operand : goal.add_or_sub_expr-returns-in_default-operand
 add_or_sub_expr-returns-in_default-operand t c =
     let s1 = signs 2 c.args.depth c.loop-lim.invariant.is (c.loop-lim.invariant.f - 1) (ap looseness (sym c.kind_at.ensures) ∙ sym c.looseness.ensures ∙ c.if-looseness-ne3.false) c.consume-passed.ensures c.in-Done-passed.is in
-    ends 2 c.args.depth c.loop-lim.invariant (begins 2 c.args.depth c.requires c.mul_or_div_expr-lhs.ensures (kept c.mul_or_div_expr-lhs.auto) c.in-Done.is) 1 (stops 1 (Operand 2 c.args.depth) (Rest 2 c.args.depth c.loop-lim.x.at (c.loop-lim.invariant.f - 1)) s1 c.unary_expr-operand.ensures (not_done _ c.in_default-operand.in_default-operand-own.keys2))
+    ends 2 c.args.depth c.loop-lim.invariant (begins 2 c.args.depth c.requires c.mul_or_div_expr-lhs.ensures (record { symbols = c.mul_or_div_expr-lhs.auto.symbols; head = c.mul_or_div_expr-lhs.auto.head; load = c.mul_or_div_expr-lhs.auto.load }) c.in-Done.is) 1 (stops 1 (Operand 2 c.args.depth) (Rest 2 c.args.depth c.loop-lim.x.at (c.loop-lim.invariant.f - 1)) s1 c.unary_expr-operand.ensures (not_done _ c.in_default-operand.not-Done))
 
 pub add_or_sub_expr-mul_or_div_expr-rhs-requires : goal.add_or_sub_expr-mul_or_div_expr-rhs-requires
 add_or_sub_expr-mul_or_div_expr-rhs-requires t c =
     let s1 = signs 2 c.args.depth c.loop-lim.invariant.is (c.loop-lim.invariant.f - 1) (ap looseness (sym c.kind_at.ensures) ∙ sym c.looseness.ensures ∙ c.if-looseness-ne3.false) c.consume-passed.ensures c.in-Done-passed.is in
-    let s2 = goes 1 (Operand 2 c.args.depth) (Rest 2 c.args.depth c.loop-lim.x.at (c.loop-lim.invariant.f - 1)) s1 c.unary_expr-operand.ensures (kept c.unary_expr-operand.auto) c.in-Done-operand.is in
+    let s2 = goes 1 (Operand 2 c.args.depth) (Rest 2 c.args.depth c.loop-lim.x.at (c.loop-lim.invariant.f - 1)) s1 c.unary_expr-operand.ensures (record { symbols = c.unary_expr-operand.auto.symbols; head = c.unary_expr-operand.auto.head; load = c.unary_expr-operand.auto.load }) c.in-Done-operand.is in
     (omega (arith, c.decreases), ready s2)
 
 pub add_or_sub_expr-returns-in_default-rhs : goal.add_or_sub_expr-returns-in_default-rhs
 add_or_sub_expr-returns-in_default-rhs t c =
     let s1 = signs 2 c.args.depth c.loop-lim.invariant.is (c.loop-lim.invariant.f - 1) (ap looseness (sym c.kind_at.ensures) ∙ sym c.looseness.ensures ∙ c.if-looseness-ne3.false) c.consume-passed.ensures c.in-Done-passed.is in
-    let s2 = goes 1 (Operand 2 c.args.depth) (Rest 2 c.args.depth c.loop-lim.x.at (c.loop-lim.invariant.f - 1)) s1 c.unary_expr-operand.ensures (kept c.unary_expr-operand.auto) c.in-Done-operand.is in
-    ends 2 c.args.depth c.loop-lim.invariant (begins 2 c.args.depth c.requires c.mul_or_div_expr-lhs.ensures (kept c.mul_or_div_expr-lhs.auto) c.in-Done.is) 1 (stops 0 (Below 2 c.args.depth) (Node 2 c.args.depth c.loop-lim.x.at (c.loop-lim.invariant.f - 1)) s2 c.mul_or_div_expr-rhs.ensures (not_done _ c.in_default-rhs.in_default-rhs-own.keys2))
+    let s2 = goes 1 (Operand 2 c.args.depth) (Rest 2 c.args.depth c.loop-lim.x.at (c.loop-lim.invariant.f - 1)) s1 c.unary_expr-operand.ensures (record { symbols = c.unary_expr-operand.auto.symbols; head = c.unary_expr-operand.auto.head; load = c.unary_expr-operand.auto.load }) c.in-Done-operand.is in
+    ends 2 c.args.depth c.loop-lim.invariant (begins 2 c.args.depth c.requires c.mul_or_div_expr-lhs.ensures (record { symbols = c.mul_or_div_expr-lhs.auto.symbols; head = c.mul_or_div_expr-lhs.auto.head; load = c.mul_or_div_expr-lhs.auto.load }) c.in-Done.is) 1 (stops 0 (Below 2 c.args.depth) (Node 2 c.args.depth c.loop-lim.x.at (c.loop-lim.invariant.f - 1)) s2 c.mul_or_div_expr-rhs.ensures (not_done _ c.in_default-rhs.not-Done))
 
 pub add_or_sub_expr-overflow_cast-op : goal.add_or_sub_expr-overflow_cast-op
 add_or_sub_expr-overflow_cast-op t c = omega (arith, c.loop-lim.invariant.is.stands.here, c.loop-lim.invariant.is.stands.toks.few)
@@ -77,30 +77,30 @@ add_or_sub_expr-overflow_cast-op t c = omega (arith, c.loop-lim.invariant.is.sta
 pub add_or_sub_expr-push_node-made-requires : goal.add_or_sub_expr-push_node-made-requires
 add_or_sub_expr-push_node-made-requires t c =
     let s1 = signs 2 c.args.depth c.loop-lim.invariant.is (c.loop-lim.invariant.f - 1) (ap looseness (sym c.kind_at.ensures) ∙ sym c.looseness.ensures ∙ c.if-looseness-ne3.false) c.consume-passed.ensures c.in-Done-passed.is in
-    let s2 = goes 1 (Operand 2 c.args.depth) (Rest 2 c.args.depth c.loop-lim.x.at (c.loop-lim.invariant.f - 1)) s1 c.unary_expr-operand.ensures (kept c.unary_expr-operand.auto) c.in-Done-operand.is in
-    let s3 = goes 0 (Below 2 c.args.depth) (Node 2 c.args.depth c.loop-lim.x.at (c.loop-lim.invariant.f - 1)) s2 c.mul_or_div_expr-rhs.ensures (kept c.mul_or_div_expr-rhs.auto) c.in-Done-rhs.is in
+    let s2 = goes 1 (Operand 2 c.args.depth) (Rest 2 c.args.depth c.loop-lim.x.at (c.loop-lim.invariant.f - 1)) s1 c.unary_expr-operand.ensures (record { symbols = c.unary_expr-operand.auto.symbols; head = c.unary_expr-operand.auto.head; load = c.unary_expr-operand.auto.load }) c.in-Done-operand.is in
+    let s3 = goes 0 (Below 2 c.args.depth) (Node 2 c.args.depth c.loop-lim.x.at (c.loop-lim.invariant.f - 1)) s2 c.mul_or_div_expr-rhs.ensures (record { symbols = c.mul_or_div_expr-rhs.auto.symbols; head = c.mul_or_div_expr-rhs.auto.head; load = c.mul_or_div_expr-rhs.auto.load }) c.in-Done-rhs.is in
     ((ready s3).even, (ready s3).used)
 
 pub add_or_sub_expr-returns-in_default-made : goal.add_or_sub_expr-returns-in_default-made
 add_or_sub_expr-returns-in_default-made t c =
     let s1 = signs 2 c.args.depth c.loop-lim.invariant.is (c.loop-lim.invariant.f - 1) (ap looseness (sym c.kind_at.ensures) ∙ sym c.looseness.ensures ∙ c.if-looseness-ne3.false) c.consume-passed.ensures c.in-Done-passed.is in
-    let s2 = goes 1 (Operand 2 c.args.depth) (Rest 2 c.args.depth c.loop-lim.x.at (c.loop-lim.invariant.f - 1)) s1 c.unary_expr-operand.ensures (kept c.unary_expr-operand.auto) c.in-Done-operand.is in
-    let s3 = goes 0 (Below 2 c.args.depth) (Node 2 c.args.depth c.loop-lim.x.at (c.loop-lim.invariant.f - 1)) s2 c.mul_or_div_expr-rhs.ensures (kept c.mul_or_div_expr-rhs.auto) c.in-Done-rhs.is in
-    ends 2 c.args.depth c.loop-lim.invariant (begins 2 c.args.depth c.requires c.mul_or_div_expr-lhs.ensures (kept c.mul_or_div_expr-lhs.auto) c.in-Done.is) 1 (stops 0 (λ x. push x 22 false 2 c.loop-lim.x.at) (λ x. Turns 2 c.args.depth x (c.loop-lim.invariant.f - 1)) s3 (pushed (ready s3) c.push_node-made.ensures) (not_done _ c.in_default-made.in_default-made-own.keys2))
+    let s2 = goes 1 (Operand 2 c.args.depth) (Rest 2 c.args.depth c.loop-lim.x.at (c.loop-lim.invariant.f - 1)) s1 c.unary_expr-operand.ensures (record { symbols = c.unary_expr-operand.auto.symbols; head = c.unary_expr-operand.auto.head; load = c.unary_expr-operand.auto.load }) c.in-Done-operand.is in
+    let s3 = goes 0 (Below 2 c.args.depth) (Node 2 c.args.depth c.loop-lim.x.at (c.loop-lim.invariant.f - 1)) s2 c.mul_or_div_expr-rhs.ensures (record { symbols = c.mul_or_div_expr-rhs.auto.symbols; head = c.mul_or_div_expr-rhs.auto.head; load = c.mul_or_div_expr-rhs.auto.load }) c.in-Done-rhs.is in
+    ends 2 c.args.depth c.loop-lim.invariant (begins 2 c.args.depth c.requires c.mul_or_div_expr-lhs.ensures (record { symbols = c.mul_or_div_expr-lhs.auto.symbols; head = c.mul_or_div_expr-lhs.auto.head; load = c.mul_or_div_expr-lhs.auto.load }) c.in-Done.is) 1 (stops 0 (λ x. push x 22 false 2 c.loop-lim.x.at) (λ x. Turns 2 c.args.depth x (c.loop-lim.invariant.f - 1)) s3 (pushed (ready s3) c.push_node-made.ensures) (not_done _ c.in_default-made.not-Done))
 
 pub add_or_sub_expr-loop-lim-smaller : goal.add_or_sub_expr-loop-lim-smaller
 add_or_sub_expr-loop-lim-smaller t c =
     let s1 = signs 2 c.args.depth c.loop-lim.invariant.is (c.loop-lim.invariant.f - 1) (ap looseness (sym c.kind_at.ensures) ∙ sym c.looseness.ensures ∙ c.if-looseness-ne3.false) c.consume-passed.ensures c.in-Done-passed.is in
-    let s2 = goes 1 (Operand 2 c.args.depth) (Rest 2 c.args.depth c.loop-lim.x.at (c.loop-lim.invariant.f - 1)) s1 c.unary_expr-operand.ensures (kept c.unary_expr-operand.auto) c.in-Done-operand.is in
-    let s3 = goes 0 (Below 2 c.args.depth) (Node 2 c.args.depth c.loop-lim.x.at (c.loop-lim.invariant.f - 1)) s2 c.mul_or_div_expr-rhs.ensures (kept c.mul_or_div_expr-rhs.auto) c.in-Done-rhs.is in
+    let s2 = goes 1 (Operand 2 c.args.depth) (Rest 2 c.args.depth c.loop-lim.x.at (c.loop-lim.invariant.f - 1)) s1 c.unary_expr-operand.ensures (record { symbols = c.unary_expr-operand.auto.symbols; head = c.unary_expr-operand.auto.head; load = c.unary_expr-operand.auto.load }) c.in-Done-operand.is in
+    let s3 = goes 0 (Below 2 c.args.depth) (Node 2 c.args.depth c.loop-lim.x.at (c.loop-lim.invariant.f - 1)) s2 c.mul_or_div_expr-rhs.ensures (record { symbols = c.mul_or_div_expr-rhs.auto.symbols; head = c.mul_or_div_expr-rhs.auto.head; load = c.mul_or_div_expr-rhs.auto.load }) c.in-Done-rhs.is in
     let s4 = goes 0 (λ x. push x 22 false 2 c.loop-lim.x.at) (λ x. Turns 2 c.args.depth x (c.loop-lim.invariant.f - 1)) s3 (pushed (ready s3) c.push_node-made.ensures) (kept-nodes c.push_node-made.auto.head c.push_node-made.auto.load) c.in-Done-made.is in
     omega (arith, (at_stage s4).on, (ready s4).stands.here)
 
 pub add_or_sub_expr-loop-lim-preserved : goal.add_or_sub_expr-loop-lim-preserved
 add_or_sub_expr-loop-lim-preserved t c =
     let s1 = signs 2 c.args.depth c.loop-lim.invariant.is (c.loop-lim.invariant.f - 1) (ap looseness (sym c.kind_at.ensures) ∙ sym c.looseness.ensures ∙ c.if-looseness-ne3.false) c.consume-passed.ensures c.in-Done-passed.is in
-    let s2 = goes 1 (Operand 2 c.args.depth) (Rest 2 c.args.depth c.loop-lim.x.at (c.loop-lim.invariant.f - 1)) s1 c.unary_expr-operand.ensures (kept c.unary_expr-operand.auto) c.in-Done-operand.is in
-    let s3 = goes 0 (Below 2 c.args.depth) (Node 2 c.args.depth c.loop-lim.x.at (c.loop-lim.invariant.f - 1)) s2 c.mul_or_div_expr-rhs.ensures (kept c.mul_or_div_expr-rhs.auto) c.in-Done-rhs.is in
+    let s2 = goes 1 (Operand 2 c.args.depth) (Rest 2 c.args.depth c.loop-lim.x.at (c.loop-lim.invariant.f - 1)) s1 c.unary_expr-operand.ensures (record { symbols = c.unary_expr-operand.auto.symbols; head = c.unary_expr-operand.auto.head; load = c.unary_expr-operand.auto.load }) c.in-Done-operand.is in
+    let s3 = goes 0 (Below 2 c.args.depth) (Node 2 c.args.depth c.loop-lim.x.at (c.loop-lim.invariant.f - 1)) s2 c.mul_or_div_expr-rhs.ensures (record { symbols = c.mul_or_div_expr-rhs.auto.symbols; head = c.mul_or_div_expr-rhs.auto.head; load = c.mul_or_div_expr-rhs.auto.load }) c.in-Done-rhs.is in
     let s4 = goes 0 (λ x. push x 22 false 2 c.loop-lim.x.at) (λ x. Turns 2 c.args.depth x (c.loop-lim.invariant.f - 1)) s3 (pushed (ready s3) c.push_node-made.ensures) (kept-nodes c.push_node-made.auto.head c.push_node-made.auto.load) c.in-Done-made.is in
     again 2 c.args.depth c.loop-lim.invariant s4
 
@@ -114,22 +114,22 @@ pub and_expr-equality_expr-lhs-requires : goal.and_expr-equality_expr-lhs-requir
 and_expr-equality_expr-lhs-requires t c = (omega (arith, c.decreases), c.requires)
 
 pub and_expr-returns-in_default : goal.and_expr-returns-in_default
-and_expr-returns-in_default t c = begins-not 5 c.args.depth c.requires c.equality_expr-lhs.ensures (not_done _ c.in_default.in_default-own.keys2)
+and_expr-returns-in_default t c = begins-not 5 c.args.depth c.requires c.equality_expr-lhs.ensures (not_done _ c.in_default.not-Done)
 
 pub and_expr-loop-lim-init : goal.and_expr-loop-lim-init
-and_expr-loop-lim-init t c = looping (Turns 5 c.args.depth) (ready (begins 5 c.args.depth c.requires c.equality_expr-lhs.ensures (kept c.equality_expr-lhs.auto) c.in-Done.is))
+and_expr-loop-lim-init t c = looping (Turns 5 c.args.depth) (ready (begins 5 c.args.depth c.requires c.equality_expr-lhs.ensures (record { symbols = c.equality_expr-lhs.auto.symbols; head = c.equality_expr-lhs.auto.head; load = c.equality_expr-lhs.auto.load }) c.in-Done.is))
 
 pub and_expr-kind_at-requires : goal.and_expr-kind_at-requires
 and_expr-kind_at-requires t c = c.loop-lim.invariant.is.stands.here
 
 pub and_expr-returns-then-looseness-ne6 : goal.and_expr-returns-then-looseness-ne6
-and_expr-returns-then-looseness-ne6 t c = ends 5 c.args.depth c.loop-lim.invariant (begins 5 c.args.depth c.requires c.equality_expr-lhs.ensures (kept c.equality_expr-lhs.auto) c.in-Done.is) 0 (turns-end 5 c.args.depth c.loop-lim.invariant.is (c.loop-lim.invariant.f - 1) (λ z. c.if-looseness-ne6.true (c.looseness.ensures ∙ ap looseness c.kind_at.ensures ∙ z)))
+and_expr-returns-then-looseness-ne6 t c = ends 5 c.args.depth c.loop-lim.invariant (begins 5 c.args.depth c.requires c.equality_expr-lhs.ensures (record { symbols = c.equality_expr-lhs.auto.symbols; head = c.equality_expr-lhs.auto.head; load = c.equality_expr-lhs.auto.load }) c.in-Done.is) 0 (turns-end 5 c.args.depth c.loop-lim.invariant.is (c.loop-lim.invariant.f - 1) (λ z. c.if-looseness-ne6.true (c.looseness.ensures ∙ ap looseness c.kind_at.ensures ∙ z)))
 
 pub and_expr-consume-passed-requires : goal.and_expr-consume-passed-requires
 and_expr-consume-passed-requires t c = c.loop-lim.invariant.is.stands
 
 pub and_expr-returns-in_default-passed : goal.and_expr-returns-in_default-passed
-and_expr-returns-in_default-passed t c = ends 5 c.args.depth c.loop-lim.invariant (begins 5 c.args.depth c.requires c.equality_expr-lhs.ensures (kept c.equality_expr-lhs.auto) c.in-Done.is) 1 (signs-not 5 c.args.depth c.loop-lim.invariant.is (c.loop-lim.invariant.f - 1) (ap looseness (sym c.kind_at.ensures) ∙ sym c.looseness.ensures ∙ c.if-looseness-ne6.false) c.consume-passed.ensures (not_done _ c.in_default-passed.in_default-passed-own.keys2))
+and_expr-returns-in_default-passed t c = ends 5 c.args.depth c.loop-lim.invariant (begins 5 c.args.depth c.requires c.equality_expr-lhs.ensures (record { symbols = c.equality_expr-lhs.auto.symbols; head = c.equality_expr-lhs.auto.head; load = c.equality_expr-lhs.auto.load }) c.in-Done.is) 1 (signs-not 5 c.args.depth c.loop-lim.invariant.is (c.loop-lim.invariant.f - 1) (ap looseness (sym c.kind_at.ensures) ∙ sym c.looseness.ensures ∙ c.if-looseness-ne6.false) c.consume-passed.ensures (not_done _ c.in_default-passed.not-Done))
 
 pub and_expr-unary_expr-operand-requires : goal.and_expr-unary_expr-operand-requires
 and_expr-unary_expr-operand-requires t c =
@@ -139,19 +139,19 @@ and_expr-unary_expr-operand-requires t c =
 pub and_expr-returns-in_default-operand : goal.and_expr-returns-in_default-operand
 and_expr-returns-in_default-operand t c =
     let s1 = signs 5 c.args.depth c.loop-lim.invariant.is (c.loop-lim.invariant.f - 1) (ap looseness (sym c.kind_at.ensures) ∙ sym c.looseness.ensures ∙ c.if-looseness-ne6.false) c.consume-passed.ensures c.in-Done-passed.is in
-    ends 5 c.args.depth c.loop-lim.invariant (begins 5 c.args.depth c.requires c.equality_expr-lhs.ensures (kept c.equality_expr-lhs.auto) c.in-Done.is) 1 (stops 1 (Operand 5 c.args.depth) (Rest 5 c.args.depth c.loop-lim.x.at (c.loop-lim.invariant.f - 1)) s1 c.unary_expr-operand.ensures (not_done _ c.in_default-operand.in_default-operand-own.keys2))
+    ends 5 c.args.depth c.loop-lim.invariant (begins 5 c.args.depth c.requires c.equality_expr-lhs.ensures (record { symbols = c.equality_expr-lhs.auto.symbols; head = c.equality_expr-lhs.auto.head; load = c.equality_expr-lhs.auto.load }) c.in-Done.is) 1 (stops 1 (Operand 5 c.args.depth) (Rest 5 c.args.depth c.loop-lim.x.at (c.loop-lim.invariant.f - 1)) s1 c.unary_expr-operand.ensures (not_done _ c.in_default-operand.not-Done))
 
 pub and_expr-equality_expr-rhs-requires : goal.and_expr-equality_expr-rhs-requires
 and_expr-equality_expr-rhs-requires t c =
     let s1 = signs 5 c.args.depth c.loop-lim.invariant.is (c.loop-lim.invariant.f - 1) (ap looseness (sym c.kind_at.ensures) ∙ sym c.looseness.ensures ∙ c.if-looseness-ne6.false) c.consume-passed.ensures c.in-Done-passed.is in
-    let s2 = goes 1 (Operand 5 c.args.depth) (Rest 5 c.args.depth c.loop-lim.x.at (c.loop-lim.invariant.f - 1)) s1 c.unary_expr-operand.ensures (kept c.unary_expr-operand.auto) c.in-Done-operand.is in
+    let s2 = goes 1 (Operand 5 c.args.depth) (Rest 5 c.args.depth c.loop-lim.x.at (c.loop-lim.invariant.f - 1)) s1 c.unary_expr-operand.ensures (record { symbols = c.unary_expr-operand.auto.symbols; head = c.unary_expr-operand.auto.head; load = c.unary_expr-operand.auto.load }) c.in-Done-operand.is in
     (omega (arith, c.decreases), ready s2)
 
 pub and_expr-returns-in_default-rhs : goal.and_expr-returns-in_default-rhs
 and_expr-returns-in_default-rhs t c =
     let s1 = signs 5 c.args.depth c.loop-lim.invariant.is (c.loop-lim.invariant.f - 1) (ap looseness (sym c.kind_at.ensures) ∙ sym c.looseness.ensures ∙ c.if-looseness-ne6.false) c.consume-passed.ensures c.in-Done-passed.is in
-    let s2 = goes 1 (Operand 5 c.args.depth) (Rest 5 c.args.depth c.loop-lim.x.at (c.loop-lim.invariant.f - 1)) s1 c.unary_expr-operand.ensures (kept c.unary_expr-operand.auto) c.in-Done-operand.is in
-    ends 5 c.args.depth c.loop-lim.invariant (begins 5 c.args.depth c.requires c.equality_expr-lhs.ensures (kept c.equality_expr-lhs.auto) c.in-Done.is) 1 (stops 0 (Below 5 c.args.depth) (Node 5 c.args.depth c.loop-lim.x.at (c.loop-lim.invariant.f - 1)) s2 c.equality_expr-rhs.ensures (not_done _ c.in_default-rhs.in_default-rhs-own.keys2))
+    let s2 = goes 1 (Operand 5 c.args.depth) (Rest 5 c.args.depth c.loop-lim.x.at (c.loop-lim.invariant.f - 1)) s1 c.unary_expr-operand.ensures (record { symbols = c.unary_expr-operand.auto.symbols; head = c.unary_expr-operand.auto.head; load = c.unary_expr-operand.auto.load }) c.in-Done-operand.is in
+    ends 5 c.args.depth c.loop-lim.invariant (begins 5 c.args.depth c.requires c.equality_expr-lhs.ensures (record { symbols = c.equality_expr-lhs.auto.symbols; head = c.equality_expr-lhs.auto.head; load = c.equality_expr-lhs.auto.load }) c.in-Done.is) 1 (stops 0 (Below 5 c.args.depth) (Node 5 c.args.depth c.loop-lim.x.at (c.loop-lim.invariant.f - 1)) s2 c.equality_expr-rhs.ensures (not_done _ c.in_default-rhs.not-Done))
 
 pub and_expr-overflow_cast-op : goal.and_expr-overflow_cast-op
 and_expr-overflow_cast-op t c = omega (arith, c.loop-lim.invariant.is.stands.here, c.loop-lim.invariant.is.stands.toks.few)
@@ -159,30 +159,30 @@ and_expr-overflow_cast-op t c = omega (arith, c.loop-lim.invariant.is.stands.her
 pub and_expr-push_node-made-requires : goal.and_expr-push_node-made-requires
 and_expr-push_node-made-requires t c =
     let s1 = signs 5 c.args.depth c.loop-lim.invariant.is (c.loop-lim.invariant.f - 1) (ap looseness (sym c.kind_at.ensures) ∙ sym c.looseness.ensures ∙ c.if-looseness-ne6.false) c.consume-passed.ensures c.in-Done-passed.is in
-    let s2 = goes 1 (Operand 5 c.args.depth) (Rest 5 c.args.depth c.loop-lim.x.at (c.loop-lim.invariant.f - 1)) s1 c.unary_expr-operand.ensures (kept c.unary_expr-operand.auto) c.in-Done-operand.is in
-    let s3 = goes 0 (Below 5 c.args.depth) (Node 5 c.args.depth c.loop-lim.x.at (c.loop-lim.invariant.f - 1)) s2 c.equality_expr-rhs.ensures (kept c.equality_expr-rhs.auto) c.in-Done-rhs.is in
+    let s2 = goes 1 (Operand 5 c.args.depth) (Rest 5 c.args.depth c.loop-lim.x.at (c.loop-lim.invariant.f - 1)) s1 c.unary_expr-operand.ensures (record { symbols = c.unary_expr-operand.auto.symbols; head = c.unary_expr-operand.auto.head; load = c.unary_expr-operand.auto.load }) c.in-Done-operand.is in
+    let s3 = goes 0 (Below 5 c.args.depth) (Node 5 c.args.depth c.loop-lim.x.at (c.loop-lim.invariant.f - 1)) s2 c.equality_expr-rhs.ensures (record { symbols = c.equality_expr-rhs.auto.symbols; head = c.equality_expr-rhs.auto.head; load = c.equality_expr-rhs.auto.load }) c.in-Done-rhs.is in
     ((ready s3).even, (ready s3).used)
 
 pub and_expr-returns-in_default-made : goal.and_expr-returns-in_default-made
 and_expr-returns-in_default-made t c =
     let s1 = signs 5 c.args.depth c.loop-lim.invariant.is (c.loop-lim.invariant.f - 1) (ap looseness (sym c.kind_at.ensures) ∙ sym c.looseness.ensures ∙ c.if-looseness-ne6.false) c.consume-passed.ensures c.in-Done-passed.is in
-    let s2 = goes 1 (Operand 5 c.args.depth) (Rest 5 c.args.depth c.loop-lim.x.at (c.loop-lim.invariant.f - 1)) s1 c.unary_expr-operand.ensures (kept c.unary_expr-operand.auto) c.in-Done-operand.is in
-    let s3 = goes 0 (Below 5 c.args.depth) (Node 5 c.args.depth c.loop-lim.x.at (c.loop-lim.invariant.f - 1)) s2 c.equality_expr-rhs.ensures (kept c.equality_expr-rhs.auto) c.in-Done-rhs.is in
-    ends 5 c.args.depth c.loop-lim.invariant (begins 5 c.args.depth c.requires c.equality_expr-lhs.ensures (kept c.equality_expr-lhs.auto) c.in-Done.is) 1 (stops 0 (λ x. push x 22 false 2 c.loop-lim.x.at) (λ x. Turns 5 c.args.depth x (c.loop-lim.invariant.f - 1)) s3 (pushed (ready s3) c.push_node-made.ensures) (not_done _ c.in_default-made.in_default-made-own.keys2))
+    let s2 = goes 1 (Operand 5 c.args.depth) (Rest 5 c.args.depth c.loop-lim.x.at (c.loop-lim.invariant.f - 1)) s1 c.unary_expr-operand.ensures (record { symbols = c.unary_expr-operand.auto.symbols; head = c.unary_expr-operand.auto.head; load = c.unary_expr-operand.auto.load }) c.in-Done-operand.is in
+    let s3 = goes 0 (Below 5 c.args.depth) (Node 5 c.args.depth c.loop-lim.x.at (c.loop-lim.invariant.f - 1)) s2 c.equality_expr-rhs.ensures (record { symbols = c.equality_expr-rhs.auto.symbols; head = c.equality_expr-rhs.auto.head; load = c.equality_expr-rhs.auto.load }) c.in-Done-rhs.is in
+    ends 5 c.args.depth c.loop-lim.invariant (begins 5 c.args.depth c.requires c.equality_expr-lhs.ensures (record { symbols = c.equality_expr-lhs.auto.symbols; head = c.equality_expr-lhs.auto.head; load = c.equality_expr-lhs.auto.load }) c.in-Done.is) 1 (stops 0 (λ x. push x 22 false 2 c.loop-lim.x.at) (λ x. Turns 5 c.args.depth x (c.loop-lim.invariant.f - 1)) s3 (pushed (ready s3) c.push_node-made.ensures) (not_done _ c.in_default-made.not-Done))
 
 pub and_expr-loop-lim-smaller : goal.and_expr-loop-lim-smaller
 and_expr-loop-lim-smaller t c =
     let s1 = signs 5 c.args.depth c.loop-lim.invariant.is (c.loop-lim.invariant.f - 1) (ap looseness (sym c.kind_at.ensures) ∙ sym c.looseness.ensures ∙ c.if-looseness-ne6.false) c.consume-passed.ensures c.in-Done-passed.is in
-    let s2 = goes 1 (Operand 5 c.args.depth) (Rest 5 c.args.depth c.loop-lim.x.at (c.loop-lim.invariant.f - 1)) s1 c.unary_expr-operand.ensures (kept c.unary_expr-operand.auto) c.in-Done-operand.is in
-    let s3 = goes 0 (Below 5 c.args.depth) (Node 5 c.args.depth c.loop-lim.x.at (c.loop-lim.invariant.f - 1)) s2 c.equality_expr-rhs.ensures (kept c.equality_expr-rhs.auto) c.in-Done-rhs.is in
+    let s2 = goes 1 (Operand 5 c.args.depth) (Rest 5 c.args.depth c.loop-lim.x.at (c.loop-lim.invariant.f - 1)) s1 c.unary_expr-operand.ensures (record { symbols = c.unary_expr-operand.auto.symbols; head = c.unary_expr-operand.auto.head; load = c.unary_expr-operand.auto.load }) c.in-Done-operand.is in
+    let s3 = goes 0 (Below 5 c.args.depth) (Node 5 c.args.depth c.loop-lim.x.at (c.loop-lim.invariant.f - 1)) s2 c.equality_expr-rhs.ensures (record { symbols = c.equality_expr-rhs.auto.symbols; head = c.equality_expr-rhs.auto.head; load = c.equality_expr-rhs.auto.load }) c.in-Done-rhs.is in
     let s4 = goes 0 (λ x. push x 22 false 2 c.loop-lim.x.at) (λ x. Turns 5 c.args.depth x (c.loop-lim.invariant.f - 1)) s3 (pushed (ready s3) c.push_node-made.ensures) (kept-nodes c.push_node-made.auto.head c.push_node-made.auto.load) c.in-Done-made.is in
     omega (arith, (at_stage s4).on, (ready s4).stands.here)
 
 pub and_expr-loop-lim-preserved : goal.and_expr-loop-lim-preserved
 and_expr-loop-lim-preserved t c =
     let s1 = signs 5 c.args.depth c.loop-lim.invariant.is (c.loop-lim.invariant.f - 1) (ap looseness (sym c.kind_at.ensures) ∙ sym c.looseness.ensures ∙ c.if-looseness-ne6.false) c.consume-passed.ensures c.in-Done-passed.is in
-    let s2 = goes 1 (Operand 5 c.args.depth) (Rest 5 c.args.depth c.loop-lim.x.at (c.loop-lim.invariant.f - 1)) s1 c.unary_expr-operand.ensures (kept c.unary_expr-operand.auto) c.in-Done-operand.is in
-    let s3 = goes 0 (Below 5 c.args.depth) (Node 5 c.args.depth c.loop-lim.x.at (c.loop-lim.invariant.f - 1)) s2 c.equality_expr-rhs.ensures (kept c.equality_expr-rhs.auto) c.in-Done-rhs.is in
+    let s2 = goes 1 (Operand 5 c.args.depth) (Rest 5 c.args.depth c.loop-lim.x.at (c.loop-lim.invariant.f - 1)) s1 c.unary_expr-operand.ensures (record { symbols = c.unary_expr-operand.auto.symbols; head = c.unary_expr-operand.auto.head; load = c.unary_expr-operand.auto.load }) c.in-Done-operand.is in
+    let s3 = goes 0 (Below 5 c.args.depth) (Node 5 c.args.depth c.loop-lim.x.at (c.loop-lim.invariant.f - 1)) s2 c.equality_expr-rhs.ensures (record { symbols = c.equality_expr-rhs.auto.symbols; head = c.equality_expr-rhs.auto.head; load = c.equality_expr-rhs.auto.load }) c.in-Done-rhs.is in
     let s4 = goes 0 (λ x. push x 22 false 2 c.loop-lim.x.at) (λ x. Turns 5 c.args.depth x (c.loop-lim.invariant.f - 1)) s3 (pushed (ready s3) c.push_node-made.ensures) (kept-nodes c.push_node-made.auto.head c.push_node-made.auto.load) c.in-Done-made.is in
     again 5 c.args.depth c.loop-lim.invariant s4
 
@@ -199,7 +199,7 @@ pub assign_expr-returns-in_default : goal.assign_expr-returns-in_default
 unfolding assign_expr
 assign_expr-returns-in_default t c =
     gives (λ E e. let p0 = by (by (begin 1 (λ x. (walkers x c.args.depth).assign) E e c.requires) (assign-step _ _ _ c.if-depth-eq0.false)) (levels-then _ 7 _ _ _) in
-    stop 1 (λ x. (walkers x (c.args.depth - 1)).unary) _ p0 refl (omega arith) c.unary_expr-operand.ensures (not_done _ c.in_default.in_default-own.keys2))
+    stop 1 (λ x. (walkers x (c.args.depth - 1)).unary) _ p0 refl (omega arith) c.unary_expr-operand.ensures (not_done _ c.in_default.not-Done))
 
 pub assign_expr-or_expr-lhs-requires : goal.assign_expr-or_expr-lhs-requires
 unfolding assign_expr
@@ -207,15 +207,15 @@ assign_expr-or_expr-lhs-requires t c =
     let E = blank c.args.w.errors in
     let e = blanks c.args.w.errors in
     let p0 = by (by (begin 1 (λ x. (walkers x c.args.depth).assign) E e c.requires) (assign-step _ _ _ c.if-depth-eq0.false)) (levels-then _ 7 _ _ _) in
-    let p1 = go 1 (λ x. (walkers x (c.args.depth - 1)).unary) _ p0 refl c.unary_expr-operand.ensures (kept c.unary_expr-operand.auto) c.in-Done.is in
+    let p1 = go 1 (λ x. (walkers x (c.args.depth - 1)).unary) _ p0 refl c.unary_expr-operand.ensures (record { symbols = c.unary_expr-operand.auto.symbols; head = c.unary_expr-operand.auto.head; load = c.unary_expr-operand.auto.load }) c.in-Done.is in
     (omega (arith, c.decreases, c.if-depth-eq0.false), p1.is)
 
 pub assign_expr-returns-in_default-lhs : goal.assign_expr-returns-in_default-lhs
 unfolding assign_expr
 assign_expr-returns-in_default-lhs t c =
     gives (λ E e. let p0 = by (by (begin 1 (λ x. (walkers x c.args.depth).assign) E e c.requires) (assign-step _ _ _ c.if-depth-eq0.false)) (levels-then _ 7 _ _ _) in
-    let p1 = go 1 (λ x. (walkers x (c.args.depth - 1)).unary) _ p0 refl c.unary_expr-operand.ensures (kept c.unary_expr-operand.auto) c.in-Done.is in
-    stop 0 (λ x. rest x 7 (walkers x (c.args.depth - 1)).unary) _ p1 refl (omega arith) c.or_expr-lhs.ensures (not_done _ c.in_default-lhs.in_default-lhs-own.keys2))
+    let p1 = go 1 (λ x. (walkers x (c.args.depth - 1)).unary) _ p0 refl c.unary_expr-operand.ensures (record { symbols = c.unary_expr-operand.auto.symbols; head = c.unary_expr-operand.auto.head; load = c.unary_expr-operand.auto.load }) c.in-Done.is in
+    stop 0 (λ x. rest x 7 (walkers x (c.args.depth - 1)).unary) _ p1 refl (omega arith) c.or_expr-lhs.ensures (not_done _ c.in_default-lhs.not-Done))
 
 pub assign_expr-kind_at-requires : goal.assign_expr-kind_at-requires
 unfolding assign_expr
@@ -223,16 +223,16 @@ assign_expr-kind_at-requires t c =
     let E = blank c.args.w.errors in
     let e = blanks c.args.w.errors in
     let p0 = by (by (begin 1 (λ x. (walkers x c.args.depth).assign) E e c.requires) (assign-step _ _ _ c.if-depth-eq0.false)) (levels-then _ 7 _ _ _) in
-    let p1 = go 1 (λ x. (walkers x (c.args.depth - 1)).unary) _ p0 refl c.unary_expr-operand.ensures (kept c.unary_expr-operand.auto) c.in-Done.is in
-    let p2 = go 0 (λ x. rest x 7 (walkers x (c.args.depth - 1)).unary) _ p1 refl c.or_expr-lhs.ensures (kept c.or_expr-lhs.auto) c.in-Done-lhs.is in
+    let p1 = go 1 (λ x. (walkers x (c.args.depth - 1)).unary) _ p0 refl c.unary_expr-operand.ensures (record { symbols = c.unary_expr-operand.auto.symbols; head = c.unary_expr-operand.auto.head; load = c.unary_expr-operand.auto.load }) c.in-Done.is in
+    let p2 = go 0 (λ x. rest x 7 (walkers x (c.args.depth - 1)).unary) _ p1 refl c.or_expr-lhs.ensures (record { symbols = c.or_expr-lhs.auto.symbols; head = c.or_expr-lhs.auto.head; load = c.or_expr-lhs.auto.load }) c.in-Done-lhs.is in
     p2.is.stands.here
 
 pub assign_expr-returns-then-kind_at-ne-EQ : goal.assign_expr-returns-then-kind_at-ne-EQ
 unfolding assign_expr
 assign_expr-returns-then-kind_at-ne-EQ t c =
     gives (λ E e. let p0 = by (by (begin 1 (λ x. (walkers x c.args.depth).assign) E e c.requires) (assign-step _ _ _ c.if-depth-eq0.false)) (levels-then _ 7 _ _ _) in
-    let p1 = go 1 (λ x. (walkers x (c.args.depth - 1)).unary) _ p0 refl c.unary_expr-operand.ensures (kept c.unary_expr-operand.auto) c.in-Done.is in
-    let p2 = go 0 (λ x. rest x 7 (walkers x (c.args.depth - 1)).unary) _ p1 refl c.or_expr-lhs.ensures (kept c.or_expr-lhs.auto) c.in-Done-lhs.is in
+    let p1 = go 1 (λ x. (walkers x (c.args.depth - 1)).unary) _ p0 refl c.unary_expr-operand.ensures (record { symbols = c.unary_expr-operand.auto.symbols; head = c.unary_expr-operand.auto.head; load = c.unary_expr-operand.auto.load }) c.in-Done.is in
+    let p2 = go 0 (λ x. rest x 7 (walkers x (c.args.depth - 1)).unary) _ p1 refl c.or_expr-lhs.ensures (record { symbols = c.or_expr-lhs.auto.symbols; head = c.or_expr-lhs.auto.head; load = c.or_expr-lhs.auto.load }) c.in-Done-lhs.is in
     let p3 = read _ (read _ (numbered _ (read _ p2))) in
     fin (no _ _ p3 (test (λ k. eqb k 8) p3 (ne_eqb _ _ (λ z. c.if-kind_at-ne-EQ.true (c.kind_at.ensures ∙ z))))))
 
@@ -242,8 +242,8 @@ assign_expr-top-to-requires t c =
     let E = blank c.args.w.errors in
     let e = blanks c.args.w.errors in
     let p0 = by (by (begin 1 (λ x. (walkers x c.args.depth).assign) E e c.requires) (assign-step _ _ _ c.if-depth-eq0.false)) (levels-then _ 7 _ _ _) in
-    let p1 = go 1 (λ x. (walkers x (c.args.depth - 1)).unary) _ p0 refl c.unary_expr-operand.ensures (kept c.unary_expr-operand.auto) c.in-Done.is in
-    let p2 = go 0 (λ x. rest x 7 (walkers x (c.args.depth - 1)).unary) _ p1 refl c.or_expr-lhs.ensures (kept c.or_expr-lhs.auto) c.in-Done-lhs.is in
+    let p1 = go 1 (λ x. (walkers x (c.args.depth - 1)).unary) _ p0 refl c.unary_expr-operand.ensures (record { symbols = c.unary_expr-operand.auto.symbols; head = c.unary_expr-operand.auto.head; load = c.unary_expr-operand.auto.load }) c.in-Done.is in
+    let p2 = go 0 (λ x. rest x 7 (walkers x (c.args.depth - 1)).unary) _ p1 refl c.or_expr-lhs.ensures (record { symbols = c.or_expr-lhs.auto.symbols; head = c.or_expr-lhs.auto.head; load = c.or_expr-lhs.auto.load }) c.in-Done-lhs.is in
     (p2.is.even, p2.is.used)
 
 pub assign_expr-consume-passed-requires : goal.assign_expr-consume-passed-requires
@@ -252,19 +252,19 @@ assign_expr-consume-passed-requires t c =
     let E = blank c.args.w.errors in
     let e = blanks c.args.w.errors in
     let p0 = by (by (begin 1 (λ x. (walkers x c.args.depth).assign) E e c.requires) (assign-step _ _ _ c.if-depth-eq0.false)) (levels-then _ 7 _ _ _) in
-    let p1 = go 1 (λ x. (walkers x (c.args.depth - 1)).unary) _ p0 refl c.unary_expr-operand.ensures (kept c.unary_expr-operand.auto) c.in-Done.is in
-    let p2 = go 0 (λ x. rest x 7 (walkers x (c.args.depth - 1)).unary) _ p1 refl c.or_expr-lhs.ensures (kept c.or_expr-lhs.auto) c.in-Done-lhs.is in
+    let p1 = go 1 (λ x. (walkers x (c.args.depth - 1)).unary) _ p0 refl c.unary_expr-operand.ensures (record { symbols = c.unary_expr-operand.auto.symbols; head = c.unary_expr-operand.auto.head; load = c.unary_expr-operand.auto.load }) c.in-Done.is in
+    let p2 = go 0 (λ x. rest x 7 (walkers x (c.args.depth - 1)).unary) _ p1 refl c.or_expr-lhs.ensures (record { symbols = c.or_expr-lhs.auto.symbols; head = c.or_expr-lhs.auto.head; load = c.or_expr-lhs.auto.load }) c.in-Done-lhs.is in
     p2.is.stands
 
 pub assign_expr-returns-in_default-passed : goal.assign_expr-returns-in_default-passed
 unfolding assign_expr
 assign_expr-returns-in_default-passed t c =
     gives (λ E e. let p0 = by (by (begin 1 (λ x. (walkers x c.args.depth).assign) E e c.requires) (assign-step _ _ _ c.if-depth-eq0.false)) (levels-then _ 7 _ _ _) in
-    let p1 = go 1 (λ x. (walkers x (c.args.depth - 1)).unary) _ p0 refl c.unary_expr-operand.ensures (kept c.unary_expr-operand.auto) c.in-Done.is in
-    let p2 = go 0 (λ x. rest x 7 (walkers x (c.args.depth - 1)).unary) _ p1 refl c.or_expr-lhs.ensures (kept c.or_expr-lhs.auto) c.in-Done-lhs.is in
+    let p1 = go 1 (λ x. (walkers x (c.args.depth - 1)).unary) _ p0 refl c.unary_expr-operand.ensures (record { symbols = c.unary_expr-operand.auto.symbols; head = c.unary_expr-operand.auto.head; load = c.unary_expr-operand.auto.load }) c.in-Done.is in
+    let p2 = go 0 (λ x. rest x 7 (walkers x (c.args.depth - 1)).unary) _ p1 refl c.or_expr-lhs.ensures (record { symbols = c.or_expr-lhs.auto.symbols; head = c.or_expr-lhs.auto.head; load = c.or_expr-lhs.auto.load }) c.in-Done-lhs.is in
     let p3 = read _ (read _ (numbered _ (aimed _ _ p2 c.top-to.ensures))) in
     let p4 = yes _ _ p3 (test (λ k. eqb k 8) p3 (eq-eqb _ _ (sym c.kind_at.ensures ∙ c.if-kind_at-ne-EQ.false))) in
-    stop 0 (λ x. consume x) _ p4 refl (omega arith) (pass-any p4.is c.consume-passed.ensures) (not_done _ c.in_default-passed.in_default-passed-own.keys2))
+    stop 0 (λ x. consume x) _ p4 refl (omega arith) (pass-any p4.is c.consume-passed.ensures) (not_done _ c.in_default-passed.not-Done))
 
 pub assign_expr-assign_expr-rhs-requires : goal.assign_expr-assign_expr-rhs-requires
 unfolding assign_expr
@@ -272,8 +272,8 @@ assign_expr-assign_expr-rhs-requires t c =
     let E = blank c.args.w.errors in
     let e = blanks c.args.w.errors in
     let p0 = by (by (begin 1 (λ x. (walkers x c.args.depth).assign) E e c.requires) (assign-step _ _ _ c.if-depth-eq0.false)) (levels-then _ 7 _ _ _) in
-    let p1 = go 1 (λ x. (walkers x (c.args.depth - 1)).unary) _ p0 refl c.unary_expr-operand.ensures (kept c.unary_expr-operand.auto) c.in-Done.is in
-    let p2 = go 0 (λ x. rest x 7 (walkers x (c.args.depth - 1)).unary) _ p1 refl c.or_expr-lhs.ensures (kept c.or_expr-lhs.auto) c.in-Done-lhs.is in
+    let p1 = go 1 (λ x. (walkers x (c.args.depth - 1)).unary) _ p0 refl c.unary_expr-operand.ensures (record { symbols = c.unary_expr-operand.auto.symbols; head = c.unary_expr-operand.auto.head; load = c.unary_expr-operand.auto.load }) c.in-Done.is in
+    let p2 = go 0 (λ x. rest x 7 (walkers x (c.args.depth - 1)).unary) _ p1 refl c.or_expr-lhs.ensures (record { symbols = c.or_expr-lhs.auto.symbols; head = c.or_expr-lhs.auto.head; load = c.or_expr-lhs.auto.load }) c.in-Done-lhs.is in
     let p3 = read _ (read _ (numbered _ (aimed _ _ p2 c.top-to.ensures))) in
     let p4 = yes _ _ p3 (test (λ k. eqb k 8) p3 (eq-eqb _ _ (sym c.kind_at.ensures ∙ c.if-kind_at-ne-EQ.false))) in
     let p5 = go 0 (λ x. consume x) _ p4 refl (pass-any p4.is c.consume-passed.ensures) same c.in-Done-passed.is in
@@ -283,12 +283,12 @@ pub assign_expr-returns-in_default-rhs : goal.assign_expr-returns-in_default-rhs
 unfolding assign_expr
 assign_expr-returns-in_default-rhs t c =
     gives (λ E e. let p0 = by (by (begin 1 (λ x. (walkers x c.args.depth).assign) E e c.requires) (assign-step _ _ _ c.if-depth-eq0.false)) (levels-then _ 7 _ _ _) in
-    let p1 = go 1 (λ x. (walkers x (c.args.depth - 1)).unary) _ p0 refl c.unary_expr-operand.ensures (kept c.unary_expr-operand.auto) c.in-Done.is in
-    let p2 = go 0 (λ x. rest x 7 (walkers x (c.args.depth - 1)).unary) _ p1 refl c.or_expr-lhs.ensures (kept c.or_expr-lhs.auto) c.in-Done-lhs.is in
+    let p1 = go 1 (λ x. (walkers x (c.args.depth - 1)).unary) _ p0 refl c.unary_expr-operand.ensures (record { symbols = c.unary_expr-operand.auto.symbols; head = c.unary_expr-operand.auto.head; load = c.unary_expr-operand.auto.load }) c.in-Done.is in
+    let p2 = go 0 (λ x. rest x 7 (walkers x (c.args.depth - 1)).unary) _ p1 refl c.or_expr-lhs.ensures (record { symbols = c.or_expr-lhs.auto.symbols; head = c.or_expr-lhs.auto.head; load = c.or_expr-lhs.auto.load }) c.in-Done-lhs.is in
     let p3 = read _ (read _ (numbered _ (aimed _ _ p2 c.top-to.ensures))) in
     let p4 = yes _ _ p3 (test (λ k. eqb k 8) p3 (eq-eqb _ _ (sym c.kind_at.ensures ∙ c.if-kind_at-ne-EQ.false))) in
     let p5 = go 0 (λ x. consume x) _ p4 refl (pass-any p4.is c.consume-passed.ensures) same c.in-Done-passed.is in
-    stop 1 (λ x. (walkers x (c.args.depth - 1)).assign) _ p5 refl (omega arith) c.assign_expr-rhs.ensures (not_done _ c.in_default-rhs.in_default-rhs-own.keys2))
+    stop 1 (λ x. (walkers x (c.args.depth - 1)).assign) _ p5 refl (omega arith) c.assign_expr-rhs.ensures (not_done _ c.in_default-rhs.not-Done))
 
 pub assign_expr-assign_to-requires : goal.assign_expr-assign_to-requires
 unfolding assign_expr
@@ -296,24 +296,24 @@ assign_expr-assign_to-requires t c =
     let E = blank c.args.w.errors in
     let e = blanks c.args.w.errors in
     let p0 = by (by (begin 1 (λ x. (walkers x c.args.depth).assign) E e c.requires) (assign-step _ _ _ c.if-depth-eq0.false)) (levels-then _ 7 _ _ _) in
-    let p1 = go 1 (λ x. (walkers x (c.args.depth - 1)).unary) _ p0 refl c.unary_expr-operand.ensures (kept c.unary_expr-operand.auto) c.in-Done.is in
-    let p2 = go 0 (λ x. rest x 7 (walkers x (c.args.depth - 1)).unary) _ p1 refl c.or_expr-lhs.ensures (kept c.or_expr-lhs.auto) c.in-Done-lhs.is in
+    let p1 = go 1 (λ x. (walkers x (c.args.depth - 1)).unary) _ p0 refl c.unary_expr-operand.ensures (record { symbols = c.unary_expr-operand.auto.symbols; head = c.unary_expr-operand.auto.head; load = c.unary_expr-operand.auto.load }) c.in-Done.is in
+    let p2 = go 0 (λ x. rest x 7 (walkers x (c.args.depth - 1)).unary) _ p1 refl c.or_expr-lhs.ensures (record { symbols = c.or_expr-lhs.auto.symbols; head = c.or_expr-lhs.auto.head; load = c.or_expr-lhs.auto.load }) c.in-Done-lhs.is in
     let p3 = read _ (read _ (numbered _ (aimed _ _ p2 c.top-to.ensures))) in
     let p4 = yes _ _ p3 (test (λ k. eqb k 8) p3 (eq-eqb _ _ (sym c.kind_at.ensures ∙ c.if-kind_at-ne-EQ.false))) in
     let p5 = go 0 (λ x. consume x) _ p4 refl (pass-any p4.is c.consume-passed.ensures) same c.in-Done-passed.is in
-    let p6 = go 1 (λ x. (walkers x (c.args.depth - 1)).assign) _ p5 refl c.assign_expr-rhs.ensures (kept c.assign_expr-rhs.auto) c.in-Done-rhs.is in
+    let p6 = go 1 (λ x. (walkers x (c.args.depth - 1)).assign) _ p5 refl c.assign_expr-rhs.ensures (record { symbols = c.assign_expr-rhs.auto.symbols; head = c.assign_expr-rhs.auto.head; load = c.assign_expr-rhs.auto.load }) c.in-Done-rhs.is in
     p6.is
 
 pub assign_expr-returns : goal.assign_expr-returns
 unfolding assign_expr
 assign_expr-returns t c =
     gives (λ E e. let p0 = by (by (begin 1 (λ x. (walkers x c.args.depth).assign) E e c.requires) (assign-step _ _ _ c.if-depth-eq0.false)) (levels-then _ 7 _ _ _) in
-    let p1 = go 1 (λ x. (walkers x (c.args.depth - 1)).unary) _ p0 refl c.unary_expr-operand.ensures (kept c.unary_expr-operand.auto) c.in-Done.is in
-    let p2 = go 0 (λ x. rest x 7 (walkers x (c.args.depth - 1)).unary) _ p1 refl c.or_expr-lhs.ensures (kept c.or_expr-lhs.auto) c.in-Done-lhs.is in
+    let p1 = go 1 (λ x. (walkers x (c.args.depth - 1)).unary) _ p0 refl c.unary_expr-operand.ensures (record { symbols = c.unary_expr-operand.auto.symbols; head = c.unary_expr-operand.auto.head; load = c.unary_expr-operand.auto.load }) c.in-Done.is in
+    let p2 = go 0 (λ x. rest x 7 (walkers x (c.args.depth - 1)).unary) _ p1 refl c.or_expr-lhs.ensures (record { symbols = c.or_expr-lhs.auto.symbols; head = c.or_expr-lhs.auto.head; load = c.or_expr-lhs.auto.load }) c.in-Done-lhs.is in
     let p3 = read _ (read _ (numbered _ (aimed _ _ p2 c.top-to.ensures))) in
     let p4 = yes _ _ p3 (test (λ k. eqb k 8) p3 (eq-eqb _ _ (sym c.kind_at.ensures ∙ c.if-kind_at-ne-EQ.false))) in
     let p5 = go 0 (λ x. consume x) _ p4 refl (pass-any p4.is c.consume-passed.ensures) same c.in-Done-passed.is in
-    let p6 = go 1 (λ x. (walkers x (c.args.depth - 1)).assign) _ p5 refl c.assign_expr-rhs.ensures (kept c.assign_expr-rhs.auto) c.in-Done-rhs.is in
+    let p6 = go 1 (λ x. (walkers x (c.args.depth - 1)).assign) _ p5 refl c.assign_expr-rhs.ensures (record { symbols = c.assign_expr-rhs.auto.symbols; head = c.assign_expr-rhs.auto.head; load = c.assign_expr-rhs.auto.load }) c.in-Done-rhs.is in
     last 0 (λ x. assign_to x (node_of c.top-to.result) (c.in-Done-lhs.x.nodes - 1) c.in-Done-lhs.x.at) p6 refl (omega arith) c.assign_to.ensures)
 
 pub call-consume-passed-requires : goal.call-consume-passed-requires
@@ -323,7 +323,7 @@ pub call-returns-in_default : goal.call-returns-in_default
 unfolding call_part
 call-returns-in_default t c =
     gives (λ E e. let p0 = begin 0 (λ x. call_part x (walkers x c.args.depth) (node_of c.args.to) c.args.w.at) E e c.requires in
-    stop 0 (λ x. consume x) _ p0 refl (omega arith) (pass-any p0.is c.consume-passed.ensures) (not_done _ c.in_default.in_default-own.keys2))
+    stop 0 (λ x. consume x) _ p0 refl (omega arith) (pass-any p0.is c.consume-passed.ensures) (not_done _ c.in_default.not-Done))
 
 pub call-param_list-items-requires : goal.call-param_list-items-requires
 unfolding call_part
@@ -339,7 +339,7 @@ unfolding call_part
 call-returns-in_default-items t c =
     gives (λ E e. let p0 = begin 0 (λ x. call_part x (walkers x c.args.depth) (node_of c.args.to) c.args.w.at) E e c.requires in
     let p1 = go 0 (λ x. consume x) _ p0 refl (pass-any p0.is c.consume-passed.ensures) same c.in-Done.is in
-    stop 0 (λ x. param_list x (walkers x c.args.depth).assign (fuel x) 0) _ p1 refl (omega arith) c.param_list-items.ensures.0 (not_done _ c.in_default-items.in_default-items-own.keys2))
+    stop 0 (λ x. param_list x (walkers x c.args.depth).assign (fuel x) 0) _ p1 refl (omega arith) c.param_list-items.ensures.0 (not_done _ c.in_default-items.not-Done))
 
 pub call-expect-closed-requires : goal.call-expect-closed-requires
 unfolding call_part
@@ -348,7 +348,7 @@ call-expect-closed-requires t c =
     let e = blanks c.args.w.errors in
     let p0 = begin 0 (λ x. call_part x (walkers x c.args.depth) (node_of c.args.to) c.args.w.at) E e c.requires in
     let p1 = go 0 (λ x. consume x) _ p0 refl (pass-any p0.is c.consume-passed.ensures) same c.in-Done.is in
-    let p2 = go 0 (λ x. param_list x (walkers x c.args.depth).assign (fuel x) 0) _ p1 refl c.param_list-items.ensures.0 (kept c.param_list-items.auto) c.in-Done-items.is in
+    let p2 = go 0 (λ x. param_list x (walkers x c.args.depth).assign (fuel x) 0) _ p1 refl c.param_list-items.ensures.0 (record { symbols = c.param_list-items.auto.symbols; head = c.param_list-items.auto.head; load = c.param_list-items.auto.load }) c.in-Done-items.is in
     p2.is.stands
 
 pub call-returns-in_default-closed : goal.call-returns-in_default-closed
@@ -356,8 +356,8 @@ unfolding call_part
 call-returns-in_default-closed t c =
     gives (λ E e. let p0 = begin 0 (λ x. call_part x (walkers x c.args.depth) (node_of c.args.to) c.args.w.at) E e c.requires in
     let p1 = go 0 (λ x. consume x) _ p0 refl (pass-any p0.is c.consume-passed.ensures) same c.in-Done.is in
-    let p2 = go 0 (λ x. param_list x (walkers x c.args.depth).assign (fuel x) 0) _ p1 refl c.param_list-items.ensures.0 (kept c.param_list-items.auto) c.in-Done-items.is in
-    stop 0 (λ x. expect x 2) _ p2 refl (omega arith) (expected p2.is c.expect-closed.ensures) (not_done _ c.in_default-closed.in_default-closed-own.keys2))
+    let p2 = go 0 (λ x. param_list x (walkers x c.args.depth).assign (fuel x) 0) _ p1 refl c.param_list-items.ensures.0 (record { symbols = c.param_list-items.auto.symbols; head = c.param_list-items.auto.head; load = c.param_list-items.auto.load }) c.in-Done-items.is in
+    stop 0 (λ x. expect x 2) _ p2 refl (omega arith) (expected p2.is c.expect-closed.ensures) (not_done _ c.in_default-closed.not-Done))
 
 pub call-call_named-requires : goal.call-call_named-requires
 unfolding call_part
@@ -366,7 +366,7 @@ call-call_named-requires t c =
     let e = blanks c.args.w.errors in
     let p0 = begin 0 (λ x. call_part x (walkers x c.args.depth) (node_of c.args.to) c.args.w.at) E e c.requires in
     let p1 = go 0 (λ x. consume x) _ p0 refl (pass-any p0.is c.consume-passed.ensures) same c.in-Done.is in
-    let p2 = go 0 (λ x. param_list x (walkers x c.args.depth).assign (fuel x) 0) _ p1 refl c.param_list-items.ensures.0 (kept c.param_list-items.auto) c.in-Done-items.is in
+    let p2 = go 0 (λ x. param_list x (walkers x c.args.depth).assign (fuel x) 0) _ p1 refl c.param_list-items.ensures.0 (record { symbols = c.param_list-items.auto.symbols; head = c.param_list-items.auto.head; load = c.param_list-items.auto.load }) c.in-Done-items.is in
     let p3 = go 0 (λ x. expect x 2) _ p2 refl (expected p2.is c.expect-closed.ensures) same c.in-Done-closed.is in
     (p3.is, c.requires.stands.here, count_at c.param_list-items.ensures.1 c.in-Done-items.is)
 
@@ -375,7 +375,7 @@ unfolding call_part
 call-returns t c =
     gives (λ E e. let p0 = begin 0 (λ x. call_part x (walkers x c.args.depth) (node_of c.args.to) c.args.w.at) E e c.requires in
     let p1 = go 0 (λ x. consume x) _ p0 refl (pass-any p0.is c.consume-passed.ensures) same c.in-Done.is in
-    let p2 = go 0 (λ x. param_list x (walkers x c.args.depth).assign (fuel x) 0) _ p1 refl c.param_list-items.ensures.0 (kept c.param_list-items.auto) c.in-Done-items.is in
+    let p2 = go 0 (λ x. param_list x (walkers x c.args.depth).assign (fuel x) 0) _ p1 refl c.param_list-items.ensures.0 (record { symbols = c.param_list-items.auto.symbols; head = c.param_list-items.auto.head; load = c.param_list-items.auto.load }) c.in-Done-items.is in
     let p3 = go 0 (λ x. expect x 2) _ p2 refl (expected p2.is c.expect-closed.ensures) same c.in-Done-closed.is in
     last 0 (λ x. call_named x (node_of c.args.to) c.args.w.at c.in-Done-items.y.count) p3 refl (omega arith) c.call_named.ensures)
 
@@ -389,22 +389,22 @@ pub compr_expr-add_or_sub_expr-lhs-requires : goal.compr_expr-add_or_sub_expr-lh
 compr_expr-add_or_sub_expr-lhs-requires t c = (omega (arith, c.decreases), c.requires)
 
 pub compr_expr-returns-in_default : goal.compr_expr-returns-in_default
-compr_expr-returns-in_default t c = begins-not 3 c.args.depth c.requires c.add_or_sub_expr-lhs.ensures (not_done _ c.in_default.in_default-own.keys2)
+compr_expr-returns-in_default t c = begins-not 3 c.args.depth c.requires c.add_or_sub_expr-lhs.ensures (not_done _ c.in_default.not-Done)
 
 pub compr_expr-loop-lim-init : goal.compr_expr-loop-lim-init
-compr_expr-loop-lim-init t c = looping (Turns 3 c.args.depth) (ready (begins 3 c.args.depth c.requires c.add_or_sub_expr-lhs.ensures (kept c.add_or_sub_expr-lhs.auto) c.in-Done.is))
+compr_expr-loop-lim-init t c = looping (Turns 3 c.args.depth) (ready (begins 3 c.args.depth c.requires c.add_or_sub_expr-lhs.ensures (record { symbols = c.add_or_sub_expr-lhs.auto.symbols; head = c.add_or_sub_expr-lhs.auto.head; load = c.add_or_sub_expr-lhs.auto.load }) c.in-Done.is))
 
 pub compr_expr-kind_at-requires : goal.compr_expr-kind_at-requires
 compr_expr-kind_at-requires t c = c.loop-lim.invariant.is.stands.here
 
 pub compr_expr-returns-then-looseness-ne4 : goal.compr_expr-returns-then-looseness-ne4
-compr_expr-returns-then-looseness-ne4 t c = ends 3 c.args.depth c.loop-lim.invariant (begins 3 c.args.depth c.requires c.add_or_sub_expr-lhs.ensures (kept c.add_or_sub_expr-lhs.auto) c.in-Done.is) 0 (turns-end 3 c.args.depth c.loop-lim.invariant.is (c.loop-lim.invariant.f - 1) (λ z. c.if-looseness-ne4.true (c.looseness.ensures ∙ ap looseness c.kind_at.ensures ∙ z)))
+compr_expr-returns-then-looseness-ne4 t c = ends 3 c.args.depth c.loop-lim.invariant (begins 3 c.args.depth c.requires c.add_or_sub_expr-lhs.ensures (record { symbols = c.add_or_sub_expr-lhs.auto.symbols; head = c.add_or_sub_expr-lhs.auto.head; load = c.add_or_sub_expr-lhs.auto.load }) c.in-Done.is) 0 (turns-end 3 c.args.depth c.loop-lim.invariant.is (c.loop-lim.invariant.f - 1) (λ z. c.if-looseness-ne4.true (c.looseness.ensures ∙ ap looseness c.kind_at.ensures ∙ z)))
 
 pub compr_expr-consume-passed-requires : goal.compr_expr-consume-passed-requires
 compr_expr-consume-passed-requires t c = c.loop-lim.invariant.is.stands
 
 pub compr_expr-returns-in_default-passed : goal.compr_expr-returns-in_default-passed
-compr_expr-returns-in_default-passed t c = ends 3 c.args.depth c.loop-lim.invariant (begins 3 c.args.depth c.requires c.add_or_sub_expr-lhs.ensures (kept c.add_or_sub_expr-lhs.auto) c.in-Done.is) 1 (signs-not 3 c.args.depth c.loop-lim.invariant.is (c.loop-lim.invariant.f - 1) (ap looseness (sym c.kind_at.ensures) ∙ sym c.looseness.ensures ∙ c.if-looseness-ne4.false) c.consume-passed.ensures (not_done _ c.in_default-passed.in_default-passed-own.keys2))
+compr_expr-returns-in_default-passed t c = ends 3 c.args.depth c.loop-lim.invariant (begins 3 c.args.depth c.requires c.add_or_sub_expr-lhs.ensures (record { symbols = c.add_or_sub_expr-lhs.auto.symbols; head = c.add_or_sub_expr-lhs.auto.head; load = c.add_or_sub_expr-lhs.auto.load }) c.in-Done.is) 1 (signs-not 3 c.args.depth c.loop-lim.invariant.is (c.loop-lim.invariant.f - 1) (ap looseness (sym c.kind_at.ensures) ∙ sym c.looseness.ensures ∙ c.if-looseness-ne4.false) c.consume-passed.ensures (not_done _ c.in_default-passed.not-Done))
 
 pub compr_expr-unary_expr-operand-requires : goal.compr_expr-unary_expr-operand-requires
 compr_expr-unary_expr-operand-requires t c =
@@ -414,19 +414,19 @@ compr_expr-unary_expr-operand-requires t c =
 pub compr_expr-returns-in_default-operand : goal.compr_expr-returns-in_default-operand
 compr_expr-returns-in_default-operand t c =
     let s1 = signs 3 c.args.depth c.loop-lim.invariant.is (c.loop-lim.invariant.f - 1) (ap looseness (sym c.kind_at.ensures) ∙ sym c.looseness.ensures ∙ c.if-looseness-ne4.false) c.consume-passed.ensures c.in-Done-passed.is in
-    ends 3 c.args.depth c.loop-lim.invariant (begins 3 c.args.depth c.requires c.add_or_sub_expr-lhs.ensures (kept c.add_or_sub_expr-lhs.auto) c.in-Done.is) 1 (stops 1 (Operand 3 c.args.depth) (Rest 3 c.args.depth c.loop-lim.x.at (c.loop-lim.invariant.f - 1)) s1 c.unary_expr-operand.ensures (not_done _ c.in_default-operand.in_default-operand-own.keys2))
+    ends 3 c.args.depth c.loop-lim.invariant (begins 3 c.args.depth c.requires c.add_or_sub_expr-lhs.ensures (record { symbols = c.add_or_sub_expr-lhs.auto.symbols; head = c.add_or_sub_expr-lhs.auto.head; load = c.add_or_sub_expr-lhs.auto.load }) c.in-Done.is) 1 (stops 1 (Operand 3 c.args.depth) (Rest 3 c.args.depth c.loop-lim.x.at (c.loop-lim.invariant.f - 1)) s1 c.unary_expr-operand.ensures (not_done _ c.in_default-operand.not-Done))
 
 pub compr_expr-add_or_sub_expr-rhs-requires : goal.compr_expr-add_or_sub_expr-rhs-requires
 compr_expr-add_or_sub_expr-rhs-requires t c =
     let s1 = signs 3 c.args.depth c.loop-lim.invariant.is (c.loop-lim.invariant.f - 1) (ap looseness (sym c.kind_at.ensures) ∙ sym c.looseness.ensures ∙ c.if-looseness-ne4.false) c.consume-passed.ensures c.in-Done-passed.is in
-    let s2 = goes 1 (Operand 3 c.args.depth) (Rest 3 c.args.depth c.loop-lim.x.at (c.loop-lim.invariant.f - 1)) s1 c.unary_expr-operand.ensures (kept c.unary_expr-operand.auto) c.in-Done-operand.is in
+    let s2 = goes 1 (Operand 3 c.args.depth) (Rest 3 c.args.depth c.loop-lim.x.at (c.loop-lim.invariant.f - 1)) s1 c.unary_expr-operand.ensures (record { symbols = c.unary_expr-operand.auto.symbols; head = c.unary_expr-operand.auto.head; load = c.unary_expr-operand.auto.load }) c.in-Done-operand.is in
     (omega (arith, c.decreases), ready s2)
 
 pub compr_expr-returns-in_default-rhs : goal.compr_expr-returns-in_default-rhs
 compr_expr-returns-in_default-rhs t c =
     let s1 = signs 3 c.args.depth c.loop-lim.invariant.is (c.loop-lim.invariant.f - 1) (ap looseness (sym c.kind_at.ensures) ∙ sym c.looseness.ensures ∙ c.if-looseness-ne4.false) c.consume-passed.ensures c.in-Done-passed.is in
-    let s2 = goes 1 (Operand 3 c.args.depth) (Rest 3 c.args.depth c.loop-lim.x.at (c.loop-lim.invariant.f - 1)) s1 c.unary_expr-operand.ensures (kept c.unary_expr-operand.auto) c.in-Done-operand.is in
-    ends 3 c.args.depth c.loop-lim.invariant (begins 3 c.args.depth c.requires c.add_or_sub_expr-lhs.ensures (kept c.add_or_sub_expr-lhs.auto) c.in-Done.is) 1 (stops 0 (Below 3 c.args.depth) (Node 3 c.args.depth c.loop-lim.x.at (c.loop-lim.invariant.f - 1)) s2 c.add_or_sub_expr-rhs.ensures (not_done _ c.in_default-rhs.in_default-rhs-own.keys2))
+    let s2 = goes 1 (Operand 3 c.args.depth) (Rest 3 c.args.depth c.loop-lim.x.at (c.loop-lim.invariant.f - 1)) s1 c.unary_expr-operand.ensures (record { symbols = c.unary_expr-operand.auto.symbols; head = c.unary_expr-operand.auto.head; load = c.unary_expr-operand.auto.load }) c.in-Done-operand.is in
+    ends 3 c.args.depth c.loop-lim.invariant (begins 3 c.args.depth c.requires c.add_or_sub_expr-lhs.ensures (record { symbols = c.add_or_sub_expr-lhs.auto.symbols; head = c.add_or_sub_expr-lhs.auto.head; load = c.add_or_sub_expr-lhs.auto.load }) c.in-Done.is) 1 (stops 0 (Below 3 c.args.depth) (Node 3 c.args.depth c.loop-lim.x.at (c.loop-lim.invariant.f - 1)) s2 c.add_or_sub_expr-rhs.ensures (not_done _ c.in_default-rhs.not-Done))
 
 pub compr_expr-overflow_cast-op : goal.compr_expr-overflow_cast-op
 compr_expr-overflow_cast-op t c = omega (arith, c.loop-lim.invariant.is.stands.here, c.loop-lim.invariant.is.stands.toks.few)
@@ -434,30 +434,30 @@ compr_expr-overflow_cast-op t c = omega (arith, c.loop-lim.invariant.is.stands.h
 pub compr_expr-push_node-made-requires : goal.compr_expr-push_node-made-requires
 compr_expr-push_node-made-requires t c =
     let s1 = signs 3 c.args.depth c.loop-lim.invariant.is (c.loop-lim.invariant.f - 1) (ap looseness (sym c.kind_at.ensures) ∙ sym c.looseness.ensures ∙ c.if-looseness-ne4.false) c.consume-passed.ensures c.in-Done-passed.is in
-    let s2 = goes 1 (Operand 3 c.args.depth) (Rest 3 c.args.depth c.loop-lim.x.at (c.loop-lim.invariant.f - 1)) s1 c.unary_expr-operand.ensures (kept c.unary_expr-operand.auto) c.in-Done-operand.is in
-    let s3 = goes 0 (Below 3 c.args.depth) (Node 3 c.args.depth c.loop-lim.x.at (c.loop-lim.invariant.f - 1)) s2 c.add_or_sub_expr-rhs.ensures (kept c.add_or_sub_expr-rhs.auto) c.in-Done-rhs.is in
+    let s2 = goes 1 (Operand 3 c.args.depth) (Rest 3 c.args.depth c.loop-lim.x.at (c.loop-lim.invariant.f - 1)) s1 c.unary_expr-operand.ensures (record { symbols = c.unary_expr-operand.auto.symbols; head = c.unary_expr-operand.auto.head; load = c.unary_expr-operand.auto.load }) c.in-Done-operand.is in
+    let s3 = goes 0 (Below 3 c.args.depth) (Node 3 c.args.depth c.loop-lim.x.at (c.loop-lim.invariant.f - 1)) s2 c.add_or_sub_expr-rhs.ensures (record { symbols = c.add_or_sub_expr-rhs.auto.symbols; head = c.add_or_sub_expr-rhs.auto.head; load = c.add_or_sub_expr-rhs.auto.load }) c.in-Done-rhs.is in
     ((ready s3).even, (ready s3).used)
 
 pub compr_expr-returns-in_default-made : goal.compr_expr-returns-in_default-made
 compr_expr-returns-in_default-made t c =
     let s1 = signs 3 c.args.depth c.loop-lim.invariant.is (c.loop-lim.invariant.f - 1) (ap looseness (sym c.kind_at.ensures) ∙ sym c.looseness.ensures ∙ c.if-looseness-ne4.false) c.consume-passed.ensures c.in-Done-passed.is in
-    let s2 = goes 1 (Operand 3 c.args.depth) (Rest 3 c.args.depth c.loop-lim.x.at (c.loop-lim.invariant.f - 1)) s1 c.unary_expr-operand.ensures (kept c.unary_expr-operand.auto) c.in-Done-operand.is in
-    let s3 = goes 0 (Below 3 c.args.depth) (Node 3 c.args.depth c.loop-lim.x.at (c.loop-lim.invariant.f - 1)) s2 c.add_or_sub_expr-rhs.ensures (kept c.add_or_sub_expr-rhs.auto) c.in-Done-rhs.is in
-    ends 3 c.args.depth c.loop-lim.invariant (begins 3 c.args.depth c.requires c.add_or_sub_expr-lhs.ensures (kept c.add_or_sub_expr-lhs.auto) c.in-Done.is) 1 (stops 0 (λ x. push x 22 false 2 c.loop-lim.x.at) (λ x. Turns 3 c.args.depth x (c.loop-lim.invariant.f - 1)) s3 (pushed (ready s3) c.push_node-made.ensures) (not_done _ c.in_default-made.in_default-made-own.keys2))
+    let s2 = goes 1 (Operand 3 c.args.depth) (Rest 3 c.args.depth c.loop-lim.x.at (c.loop-lim.invariant.f - 1)) s1 c.unary_expr-operand.ensures (record { symbols = c.unary_expr-operand.auto.symbols; head = c.unary_expr-operand.auto.head; load = c.unary_expr-operand.auto.load }) c.in-Done-operand.is in
+    let s3 = goes 0 (Below 3 c.args.depth) (Node 3 c.args.depth c.loop-lim.x.at (c.loop-lim.invariant.f - 1)) s2 c.add_or_sub_expr-rhs.ensures (record { symbols = c.add_or_sub_expr-rhs.auto.symbols; head = c.add_or_sub_expr-rhs.auto.head; load = c.add_or_sub_expr-rhs.auto.load }) c.in-Done-rhs.is in
+    ends 3 c.args.depth c.loop-lim.invariant (begins 3 c.args.depth c.requires c.add_or_sub_expr-lhs.ensures (record { symbols = c.add_or_sub_expr-lhs.auto.symbols; head = c.add_or_sub_expr-lhs.auto.head; load = c.add_or_sub_expr-lhs.auto.load }) c.in-Done.is) 1 (stops 0 (λ x. push x 22 false 2 c.loop-lim.x.at) (λ x. Turns 3 c.args.depth x (c.loop-lim.invariant.f - 1)) s3 (pushed (ready s3) c.push_node-made.ensures) (not_done _ c.in_default-made.not-Done))
 
 pub compr_expr-loop-lim-smaller : goal.compr_expr-loop-lim-smaller
 compr_expr-loop-lim-smaller t c =
     let s1 = signs 3 c.args.depth c.loop-lim.invariant.is (c.loop-lim.invariant.f - 1) (ap looseness (sym c.kind_at.ensures) ∙ sym c.looseness.ensures ∙ c.if-looseness-ne4.false) c.consume-passed.ensures c.in-Done-passed.is in
-    let s2 = goes 1 (Operand 3 c.args.depth) (Rest 3 c.args.depth c.loop-lim.x.at (c.loop-lim.invariant.f - 1)) s1 c.unary_expr-operand.ensures (kept c.unary_expr-operand.auto) c.in-Done-operand.is in
-    let s3 = goes 0 (Below 3 c.args.depth) (Node 3 c.args.depth c.loop-lim.x.at (c.loop-lim.invariant.f - 1)) s2 c.add_or_sub_expr-rhs.ensures (kept c.add_or_sub_expr-rhs.auto) c.in-Done-rhs.is in
+    let s2 = goes 1 (Operand 3 c.args.depth) (Rest 3 c.args.depth c.loop-lim.x.at (c.loop-lim.invariant.f - 1)) s1 c.unary_expr-operand.ensures (record { symbols = c.unary_expr-operand.auto.symbols; head = c.unary_expr-operand.auto.head; load = c.unary_expr-operand.auto.load }) c.in-Done-operand.is in
+    let s3 = goes 0 (Below 3 c.args.depth) (Node 3 c.args.depth c.loop-lim.x.at (c.loop-lim.invariant.f - 1)) s2 c.add_or_sub_expr-rhs.ensures (record { symbols = c.add_or_sub_expr-rhs.auto.symbols; head = c.add_or_sub_expr-rhs.auto.head; load = c.add_or_sub_expr-rhs.auto.load }) c.in-Done-rhs.is in
     let s4 = goes 0 (λ x. push x 22 false 2 c.loop-lim.x.at) (λ x. Turns 3 c.args.depth x (c.loop-lim.invariant.f - 1)) s3 (pushed (ready s3) c.push_node-made.ensures) (kept-nodes c.push_node-made.auto.head c.push_node-made.auto.load) c.in-Done-made.is in
     omega (arith, (at_stage s4).on, (ready s4).stands.here)
 
 pub compr_expr-loop-lim-preserved : goal.compr_expr-loop-lim-preserved
 compr_expr-loop-lim-preserved t c =
     let s1 = signs 3 c.args.depth c.loop-lim.invariant.is (c.loop-lim.invariant.f - 1) (ap looseness (sym c.kind_at.ensures) ∙ sym c.looseness.ensures ∙ c.if-looseness-ne4.false) c.consume-passed.ensures c.in-Done-passed.is in
-    let s2 = goes 1 (Operand 3 c.args.depth) (Rest 3 c.args.depth c.loop-lim.x.at (c.loop-lim.invariant.f - 1)) s1 c.unary_expr-operand.ensures (kept c.unary_expr-operand.auto) c.in-Done-operand.is in
-    let s3 = goes 0 (Below 3 c.args.depth) (Node 3 c.args.depth c.loop-lim.x.at (c.loop-lim.invariant.f - 1)) s2 c.add_or_sub_expr-rhs.ensures (kept c.add_or_sub_expr-rhs.auto) c.in-Done-rhs.is in
+    let s2 = goes 1 (Operand 3 c.args.depth) (Rest 3 c.args.depth c.loop-lim.x.at (c.loop-lim.invariant.f - 1)) s1 c.unary_expr-operand.ensures (record { symbols = c.unary_expr-operand.auto.symbols; head = c.unary_expr-operand.auto.head; load = c.unary_expr-operand.auto.load }) c.in-Done-operand.is in
+    let s3 = goes 0 (Below 3 c.args.depth) (Node 3 c.args.depth c.loop-lim.x.at (c.loop-lim.invariant.f - 1)) s2 c.add_or_sub_expr-rhs.ensures (record { symbols = c.add_or_sub_expr-rhs.auto.symbols; head = c.add_or_sub_expr-rhs.auto.head; load = c.add_or_sub_expr-rhs.auto.load }) c.in-Done-rhs.is in
     let s4 = goes 0 (λ x. push x 22 false 2 c.loop-lim.x.at) (λ x. Turns 3 c.args.depth x (c.loop-lim.invariant.f - 1)) s3 (pushed (ready s3) c.push_node-made.ensures) (kept-nodes c.push_node-made.auto.head c.push_node-made.auto.load) c.in-Done-made.is in
     again 3 c.args.depth c.loop-lim.invariant s4
 
@@ -468,7 +468,7 @@ pub dot-returns-in_default : goal.dot-returns-in_default
 unfolding dot
 dot-returns-in_default t c =
     gives (λ E e. let p0 = begin 0 (λ x. dot x (walkers x c.args.depth) (node_of c.args.to) c.args.w.at) E e c.requires in
-    stop 0 (λ x. consume x) _ p0 refl (omega arith) (pass-any p0.is c.consume-passed.ensures) (not_done _ c.in_default.in_default-own.keys2))
+    stop 0 (λ x. consume x) _ p0 refl (omega arith) (pass-any p0.is c.consume-passed.ensures) (not_done _ c.in_default.not-Done))
 
 pub dot-assign_expr-field-requires : goal.dot-assign_expr-field-requires
 unfolding dot
@@ -486,7 +486,7 @@ dot-returns-in_default-field t c =
     gives (λ E e. let p0 = begin 0 (λ x. dot x (walkers x c.args.depth) (node_of c.args.to) c.args.w.at) E e c.requires in
     let p1 = go 0 (λ x. consume x) _ p0 refl (pass-any p0.is c.consume-passed.ensures) same c.in-Done.is in
     let p2 = switched false _ p1 c.set_check-off.ensures in
-    stop 1 (λ x. (walkers x c.args.depth).assign) _ p2 refl (omega arith) c.assign_expr-field.ensures (not_done _ c.in_default-field.in_default-field-own.keys2))
+    stop 1 (λ x. (walkers x c.args.depth).assign) _ p2 refl (omega arith) c.assign_expr-field.ensures (not_done _ c.in_default-field.not-Done))
 
 pub dot-end_dot-requires : goal.dot-end_dot-requires
 unfolding dot
@@ -496,7 +496,7 @@ dot-end_dot-requires t c =
     let p0 = begin 0 (λ x. dot x (walkers x c.args.depth) (node_of c.args.to) c.args.w.at) E e c.requires in
     let p1 = go 0 (λ x. consume x) _ p0 refl (pass-any p0.is c.consume-passed.ensures) same c.in-Done.is in
     let p2 = switched false _ p1 c.set_check-off.ensures in
-    let p3 = go 1 (λ x. (walkers x c.args.depth).assign) _ p2 refl c.assign_expr-field.ensures (kept c.assign_expr-field.auto) c.in-Done-field.is in
+    let p3 = go 1 (λ x. (walkers x c.args.depth).assign) _ p2 refl c.assign_expr-field.ensures (record { symbols = c.assign_expr-field.auto.symbols; head = c.assign_expr-field.auto.head; load = c.assign_expr-field.auto.load }) c.in-Done-field.is in
     let p4 = switched true _ p3 refl in
     (omega (arith, c.requires.stands.here, c.requires.stands.toks.even), p4.is.even, p4.is.used)
 
@@ -506,7 +506,7 @@ dot-returns t c =
     gives (λ E e. let p0 = begin 0 (λ x. dot x (walkers x c.args.depth) (node_of c.args.to) c.args.w.at) E e c.requires in
     let p1 = go 0 (λ x. consume x) _ p0 refl (pass-any p0.is c.consume-passed.ensures) same c.in-Done.is in
     let p2 = switched false _ p1 c.set_check-off.ensures in
-    let p3 = go 1 (λ x. (walkers x c.args.depth).assign) _ p2 refl c.assign_expr-field.ensures (kept c.assign_expr-field.auto) c.in-Done-field.is in
+    let p3 = go 1 (λ x. (walkers x c.args.depth).assign) _ p2 refl c.assign_expr-field.ensures (record { symbols = c.assign_expr-field.auto.symbols; head = c.assign_expr-field.auto.head; load = c.assign_expr-field.auto.load }) c.in-Done-field.is in
     let p4 = switched true _ p3 refl in
     last 0 (λ x s. go_on (single x (node_of c.args.to) 4 c.args.w.at s) (λ a. push x 15 false 2 0)) p4 refl (omega arith) (accessed p4.is c.requires.stands.here c.end_dot.ensures))
 
@@ -520,22 +520,22 @@ pub equality_expr-compr_expr-lhs-requires : goal.equality_expr-compr_expr-lhs-re
 equality_expr-compr_expr-lhs-requires t c = (omega (arith, c.decreases), c.requires)
 
 pub equality_expr-returns-in_default : goal.equality_expr-returns-in_default
-equality_expr-returns-in_default t c = begins-not 4 c.args.depth c.requires c.compr_expr-lhs.ensures (not_done _ c.in_default.in_default-own.keys2)
+equality_expr-returns-in_default t c = begins-not 4 c.args.depth c.requires c.compr_expr-lhs.ensures (not_done _ c.in_default.not-Done)
 
 pub equality_expr-loop-lim-init : goal.equality_expr-loop-lim-init
-equality_expr-loop-lim-init t c = looping (Turns 4 c.args.depth) (ready (begins 4 c.args.depth c.requires c.compr_expr-lhs.ensures (kept c.compr_expr-lhs.auto) c.in-Done.is))
+equality_expr-loop-lim-init t c = looping (Turns 4 c.args.depth) (ready (begins 4 c.args.depth c.requires c.compr_expr-lhs.ensures (record { symbols = c.compr_expr-lhs.auto.symbols; head = c.compr_expr-lhs.auto.head; load = c.compr_expr-lhs.auto.load }) c.in-Done.is))
 
 pub equality_expr-kind_at-requires : goal.equality_expr-kind_at-requires
 equality_expr-kind_at-requires t c = c.loop-lim.invariant.is.stands.here
 
 pub equality_expr-returns-then-looseness-ne5 : goal.equality_expr-returns-then-looseness-ne5
-equality_expr-returns-then-looseness-ne5 t c = ends 4 c.args.depth c.loop-lim.invariant (begins 4 c.args.depth c.requires c.compr_expr-lhs.ensures (kept c.compr_expr-lhs.auto) c.in-Done.is) 0 (turns-end 4 c.args.depth c.loop-lim.invariant.is (c.loop-lim.invariant.f - 1) (λ z. c.if-looseness-ne5.true (c.looseness.ensures ∙ ap looseness c.kind_at.ensures ∙ z)))
+equality_expr-returns-then-looseness-ne5 t c = ends 4 c.args.depth c.loop-lim.invariant (begins 4 c.args.depth c.requires c.compr_expr-lhs.ensures (record { symbols = c.compr_expr-lhs.auto.symbols; head = c.compr_expr-lhs.auto.head; load = c.compr_expr-lhs.auto.load }) c.in-Done.is) 0 (turns-end 4 c.args.depth c.loop-lim.invariant.is (c.loop-lim.invariant.f - 1) (λ z. c.if-looseness-ne5.true (c.looseness.ensures ∙ ap looseness c.kind_at.ensures ∙ z)))
 
 pub equality_expr-consume-passed-requires : goal.equality_expr-consume-passed-requires
 equality_expr-consume-passed-requires t c = c.loop-lim.invariant.is.stands
 
 pub equality_expr-returns-in_default-passed : goal.equality_expr-returns-in_default-passed
-equality_expr-returns-in_default-passed t c = ends 4 c.args.depth c.loop-lim.invariant (begins 4 c.args.depth c.requires c.compr_expr-lhs.ensures (kept c.compr_expr-lhs.auto) c.in-Done.is) 1 (signs-not 4 c.args.depth c.loop-lim.invariant.is (c.loop-lim.invariant.f - 1) (ap looseness (sym c.kind_at.ensures) ∙ sym c.looseness.ensures ∙ c.if-looseness-ne5.false) c.consume-passed.ensures (not_done _ c.in_default-passed.in_default-passed-own.keys2))
+equality_expr-returns-in_default-passed t c = ends 4 c.args.depth c.loop-lim.invariant (begins 4 c.args.depth c.requires c.compr_expr-lhs.ensures (record { symbols = c.compr_expr-lhs.auto.symbols; head = c.compr_expr-lhs.auto.head; load = c.compr_expr-lhs.auto.load }) c.in-Done.is) 1 (signs-not 4 c.args.depth c.loop-lim.invariant.is (c.loop-lim.invariant.f - 1) (ap looseness (sym c.kind_at.ensures) ∙ sym c.looseness.ensures ∙ c.if-looseness-ne5.false) c.consume-passed.ensures (not_done _ c.in_default-passed.not-Done))
 
 pub equality_expr-unary_expr-operand-requires : goal.equality_expr-unary_expr-operand-requires
 equality_expr-unary_expr-operand-requires t c =
@@ -545,19 +545,19 @@ equality_expr-unary_expr-operand-requires t c =
 pub equality_expr-returns-in_default-operand : goal.equality_expr-returns-in_default-operand
 equality_expr-returns-in_default-operand t c =
     let s1 = signs 4 c.args.depth c.loop-lim.invariant.is (c.loop-lim.invariant.f - 1) (ap looseness (sym c.kind_at.ensures) ∙ sym c.looseness.ensures ∙ c.if-looseness-ne5.false) c.consume-passed.ensures c.in-Done-passed.is in
-    ends 4 c.args.depth c.loop-lim.invariant (begins 4 c.args.depth c.requires c.compr_expr-lhs.ensures (kept c.compr_expr-lhs.auto) c.in-Done.is) 1 (stops 1 (Operand 4 c.args.depth) (Rest 4 c.args.depth c.loop-lim.x.at (c.loop-lim.invariant.f - 1)) s1 c.unary_expr-operand.ensures (not_done _ c.in_default-operand.in_default-operand-own.keys2))
+    ends 4 c.args.depth c.loop-lim.invariant (begins 4 c.args.depth c.requires c.compr_expr-lhs.ensures (record { symbols = c.compr_expr-lhs.auto.symbols; head = c.compr_expr-lhs.auto.head; load = c.compr_expr-lhs.auto.load }) c.in-Done.is) 1 (stops 1 (Operand 4 c.args.depth) (Rest 4 c.args.depth c.loop-lim.x.at (c.loop-lim.invariant.f - 1)) s1 c.unary_expr-operand.ensures (not_done _ c.in_default-operand.not-Done))
 
 pub equality_expr-compr_expr-rhs-requires : goal.equality_expr-compr_expr-rhs-requires
 equality_expr-compr_expr-rhs-requires t c =
     let s1 = signs 4 c.args.depth c.loop-lim.invariant.is (c.loop-lim.invariant.f - 1) (ap looseness (sym c.kind_at.ensures) ∙ sym c.looseness.ensures ∙ c.if-looseness-ne5.false) c.consume-passed.ensures c.in-Done-passed.is in
-    let s2 = goes 1 (Operand 4 c.args.depth) (Rest 4 c.args.depth c.loop-lim.x.at (c.loop-lim.invariant.f - 1)) s1 c.unary_expr-operand.ensures (kept c.unary_expr-operand.auto) c.in-Done-operand.is in
+    let s2 = goes 1 (Operand 4 c.args.depth) (Rest 4 c.args.depth c.loop-lim.x.at (c.loop-lim.invariant.f - 1)) s1 c.unary_expr-operand.ensures (record { symbols = c.unary_expr-operand.auto.symbols; head = c.unary_expr-operand.auto.head; load = c.unary_expr-operand.auto.load }) c.in-Done-operand.is in
     (omega (arith, c.decreases), ready s2)
 
 pub equality_expr-returns-in_default-rhs : goal.equality_expr-returns-in_default-rhs
 equality_expr-returns-in_default-rhs t c =
     let s1 = signs 4 c.args.depth c.loop-lim.invariant.is (c.loop-lim.invariant.f - 1) (ap looseness (sym c.kind_at.ensures) ∙ sym c.looseness.ensures ∙ c.if-looseness-ne5.false) c.consume-passed.ensures c.in-Done-passed.is in
-    let s2 = goes 1 (Operand 4 c.args.depth) (Rest 4 c.args.depth c.loop-lim.x.at (c.loop-lim.invariant.f - 1)) s1 c.unary_expr-operand.ensures (kept c.unary_expr-operand.auto) c.in-Done-operand.is in
-    ends 4 c.args.depth c.loop-lim.invariant (begins 4 c.args.depth c.requires c.compr_expr-lhs.ensures (kept c.compr_expr-lhs.auto) c.in-Done.is) 1 (stops 0 (Below 4 c.args.depth) (Node 4 c.args.depth c.loop-lim.x.at (c.loop-lim.invariant.f - 1)) s2 c.compr_expr-rhs.ensures (not_done _ c.in_default-rhs.in_default-rhs-own.keys2))
+    let s2 = goes 1 (Operand 4 c.args.depth) (Rest 4 c.args.depth c.loop-lim.x.at (c.loop-lim.invariant.f - 1)) s1 c.unary_expr-operand.ensures (record { symbols = c.unary_expr-operand.auto.symbols; head = c.unary_expr-operand.auto.head; load = c.unary_expr-operand.auto.load }) c.in-Done-operand.is in
+    ends 4 c.args.depth c.loop-lim.invariant (begins 4 c.args.depth c.requires c.compr_expr-lhs.ensures (record { symbols = c.compr_expr-lhs.auto.symbols; head = c.compr_expr-lhs.auto.head; load = c.compr_expr-lhs.auto.load }) c.in-Done.is) 1 (stops 0 (Below 4 c.args.depth) (Node 4 c.args.depth c.loop-lim.x.at (c.loop-lim.invariant.f - 1)) s2 c.compr_expr-rhs.ensures (not_done _ c.in_default-rhs.not-Done))
 
 pub equality_expr-overflow_cast-op : goal.equality_expr-overflow_cast-op
 equality_expr-overflow_cast-op t c = omega (arith, c.loop-lim.invariant.is.stands.here, c.loop-lim.invariant.is.stands.toks.few)
@@ -565,30 +565,30 @@ equality_expr-overflow_cast-op t c = omega (arith, c.loop-lim.invariant.is.stand
 pub equality_expr-push_node-made-requires : goal.equality_expr-push_node-made-requires
 equality_expr-push_node-made-requires t c =
     let s1 = signs 4 c.args.depth c.loop-lim.invariant.is (c.loop-lim.invariant.f - 1) (ap looseness (sym c.kind_at.ensures) ∙ sym c.looseness.ensures ∙ c.if-looseness-ne5.false) c.consume-passed.ensures c.in-Done-passed.is in
-    let s2 = goes 1 (Operand 4 c.args.depth) (Rest 4 c.args.depth c.loop-lim.x.at (c.loop-lim.invariant.f - 1)) s1 c.unary_expr-operand.ensures (kept c.unary_expr-operand.auto) c.in-Done-operand.is in
-    let s3 = goes 0 (Below 4 c.args.depth) (Node 4 c.args.depth c.loop-lim.x.at (c.loop-lim.invariant.f - 1)) s2 c.compr_expr-rhs.ensures (kept c.compr_expr-rhs.auto) c.in-Done-rhs.is in
+    let s2 = goes 1 (Operand 4 c.args.depth) (Rest 4 c.args.depth c.loop-lim.x.at (c.loop-lim.invariant.f - 1)) s1 c.unary_expr-operand.ensures (record { symbols = c.unary_expr-operand.auto.symbols; head = c.unary_expr-operand.auto.head; load = c.unary_expr-operand.auto.load }) c.in-Done-operand.is in
+    let s3 = goes 0 (Below 4 c.args.depth) (Node 4 c.args.depth c.loop-lim.x.at (c.loop-lim.invariant.f - 1)) s2 c.compr_expr-rhs.ensures (record { symbols = c.compr_expr-rhs.auto.symbols; head = c.compr_expr-rhs.auto.head; load = c.compr_expr-rhs.auto.load }) c.in-Done-rhs.is in
     ((ready s3).even, (ready s3).used)
 
 pub equality_expr-returns-in_default-made : goal.equality_expr-returns-in_default-made
 equality_expr-returns-in_default-made t c =
     let s1 = signs 4 c.args.depth c.loop-lim.invariant.is (c.loop-lim.invariant.f - 1) (ap looseness (sym c.kind_at.ensures) ∙ sym c.looseness.ensures ∙ c.if-looseness-ne5.false) c.consume-passed.ensures c.in-Done-passed.is in
-    let s2 = goes 1 (Operand 4 c.args.depth) (Rest 4 c.args.depth c.loop-lim.x.at (c.loop-lim.invariant.f - 1)) s1 c.unary_expr-operand.ensures (kept c.unary_expr-operand.auto) c.in-Done-operand.is in
-    let s3 = goes 0 (Below 4 c.args.depth) (Node 4 c.args.depth c.loop-lim.x.at (c.loop-lim.invariant.f - 1)) s2 c.compr_expr-rhs.ensures (kept c.compr_expr-rhs.auto) c.in-Done-rhs.is in
-    ends 4 c.args.depth c.loop-lim.invariant (begins 4 c.args.depth c.requires c.compr_expr-lhs.ensures (kept c.compr_expr-lhs.auto) c.in-Done.is) 1 (stops 0 (λ x. push x 22 false 2 c.loop-lim.x.at) (λ x. Turns 4 c.args.depth x (c.loop-lim.invariant.f - 1)) s3 (pushed (ready s3) c.push_node-made.ensures) (not_done _ c.in_default-made.in_default-made-own.keys2))
+    let s2 = goes 1 (Operand 4 c.args.depth) (Rest 4 c.args.depth c.loop-lim.x.at (c.loop-lim.invariant.f - 1)) s1 c.unary_expr-operand.ensures (record { symbols = c.unary_expr-operand.auto.symbols; head = c.unary_expr-operand.auto.head; load = c.unary_expr-operand.auto.load }) c.in-Done-operand.is in
+    let s3 = goes 0 (Below 4 c.args.depth) (Node 4 c.args.depth c.loop-lim.x.at (c.loop-lim.invariant.f - 1)) s2 c.compr_expr-rhs.ensures (record { symbols = c.compr_expr-rhs.auto.symbols; head = c.compr_expr-rhs.auto.head; load = c.compr_expr-rhs.auto.load }) c.in-Done-rhs.is in
+    ends 4 c.args.depth c.loop-lim.invariant (begins 4 c.args.depth c.requires c.compr_expr-lhs.ensures (record { symbols = c.compr_expr-lhs.auto.symbols; head = c.compr_expr-lhs.auto.head; load = c.compr_expr-lhs.auto.load }) c.in-Done.is) 1 (stops 0 (λ x. push x 22 false 2 c.loop-lim.x.at) (λ x. Turns 4 c.args.depth x (c.loop-lim.invariant.f - 1)) s3 (pushed (ready s3) c.push_node-made.ensures) (not_done _ c.in_default-made.not-Done))
 
 pub equality_expr-loop-lim-smaller : goal.equality_expr-loop-lim-smaller
 equality_expr-loop-lim-smaller t c =
     let s1 = signs 4 c.args.depth c.loop-lim.invariant.is (c.loop-lim.invariant.f - 1) (ap looseness (sym c.kind_at.ensures) ∙ sym c.looseness.ensures ∙ c.if-looseness-ne5.false) c.consume-passed.ensures c.in-Done-passed.is in
-    let s2 = goes 1 (Operand 4 c.args.depth) (Rest 4 c.args.depth c.loop-lim.x.at (c.loop-lim.invariant.f - 1)) s1 c.unary_expr-operand.ensures (kept c.unary_expr-operand.auto) c.in-Done-operand.is in
-    let s3 = goes 0 (Below 4 c.args.depth) (Node 4 c.args.depth c.loop-lim.x.at (c.loop-lim.invariant.f - 1)) s2 c.compr_expr-rhs.ensures (kept c.compr_expr-rhs.auto) c.in-Done-rhs.is in
+    let s2 = goes 1 (Operand 4 c.args.depth) (Rest 4 c.args.depth c.loop-lim.x.at (c.loop-lim.invariant.f - 1)) s1 c.unary_expr-operand.ensures (record { symbols = c.unary_expr-operand.auto.symbols; head = c.unary_expr-operand.auto.head; load = c.unary_expr-operand.auto.load }) c.in-Done-operand.is in
+    let s3 = goes 0 (Below 4 c.args.depth) (Node 4 c.args.depth c.loop-lim.x.at (c.loop-lim.invariant.f - 1)) s2 c.compr_expr-rhs.ensures (record { symbols = c.compr_expr-rhs.auto.symbols; head = c.compr_expr-rhs.auto.head; load = c.compr_expr-rhs.auto.load }) c.in-Done-rhs.is in
     let s4 = goes 0 (λ x. push x 22 false 2 c.loop-lim.x.at) (λ x. Turns 4 c.args.depth x (c.loop-lim.invariant.f - 1)) s3 (pushed (ready s3) c.push_node-made.ensures) (kept-nodes c.push_node-made.auto.head c.push_node-made.auto.load) c.in-Done-made.is in
     omega (arith, (at_stage s4).on, (ready s4).stands.here)
 
 pub equality_expr-loop-lim-preserved : goal.equality_expr-loop-lim-preserved
 equality_expr-loop-lim-preserved t c =
     let s1 = signs 4 c.args.depth c.loop-lim.invariant.is (c.loop-lim.invariant.f - 1) (ap looseness (sym c.kind_at.ensures) ∙ sym c.looseness.ensures ∙ c.if-looseness-ne5.false) c.consume-passed.ensures c.in-Done-passed.is in
-    let s2 = goes 1 (Operand 4 c.args.depth) (Rest 4 c.args.depth c.loop-lim.x.at (c.loop-lim.invariant.f - 1)) s1 c.unary_expr-operand.ensures (kept c.unary_expr-operand.auto) c.in-Done-operand.is in
-    let s3 = goes 0 (Below 4 c.args.depth) (Node 4 c.args.depth c.loop-lim.x.at (c.loop-lim.invariant.f - 1)) s2 c.compr_expr-rhs.ensures (kept c.compr_expr-rhs.auto) c.in-Done-rhs.is in
+    let s2 = goes 1 (Operand 4 c.args.depth) (Rest 4 c.args.depth c.loop-lim.x.at (c.loop-lim.invariant.f - 1)) s1 c.unary_expr-operand.ensures (record { symbols = c.unary_expr-operand.auto.symbols; head = c.unary_expr-operand.auto.head; load = c.unary_expr-operand.auto.load }) c.in-Done-operand.is in
+    let s3 = goes 0 (Below 4 c.args.depth) (Node 4 c.args.depth c.loop-lim.x.at (c.loop-lim.invariant.f - 1)) s2 c.compr_expr-rhs.ensures (record { symbols = c.compr_expr-rhs.auto.symbols; head = c.compr_expr-rhs.auto.head; load = c.compr_expr-rhs.auto.load }) c.in-Done-rhs.is in
     let s4 = goes 0 (λ x. push x 22 false 2 c.loop-lim.x.at) (λ x. Turns 4 c.args.depth x (c.loop-lim.invariant.f - 1)) s3 (pushed (ready s3) c.push_node-made.ensures) (kept-nodes c.push_node-made.auto.head c.push_node-made.auto.load) c.in-Done-made.is in
     again 4 c.args.depth c.loop-lim.invariant s4
 
@@ -605,7 +605,7 @@ pub fn_call_expr-returns-in_default : goal.fn_call_expr-returns-in_default
 unfolding fn_call_expr
 fn_call_expr-returns-in_default t c =
     gives (λ E e. let p0 = by (begin 1 (λ x. (walkers x c.args.depth).call) E e c.requires) (call_step _ _ _ c.if-depth-eq0.false) in
-    stop 1 (λ x. primary_expr x (walkers x (c.args.depth - 1))) _ p0 refl (omega arith) c.primary_expr-first.ensures (not_done _ c.in_default.in_default-own.keys2))
+    stop 1 (λ x. primary_expr x (walkers x (c.args.depth - 1))) _ p0 refl (omega arith) c.primary_expr-first.ensures (not_done _ c.in_default.not-Done))
 
 pub fn_call_expr-top-to-requires : goal.fn_call_expr-top-to-requires
 unfolding fn_call_expr
@@ -613,7 +613,7 @@ fn_call_expr-top-to-requires t c =
     let E = blank c.args.w.errors in
     let e = blanks c.args.w.errors in
     let p0 = by (begin 1 (λ x. (walkers x c.args.depth).call) E e c.requires) (call_step _ _ _ c.if-depth-eq0.false) in
-    let p1 = go 1 (λ x. primary_expr x (walkers x (c.args.depth - 1))) _ p0 refl c.primary_expr-first.ensures (kept c.primary_expr-first.auto) c.in-Done.is in
+    let p1 = go 1 (λ x. primary_expr x (walkers x (c.args.depth - 1))) _ p0 refl c.primary_expr-first.ensures (record { symbols = c.primary_expr-first.auto.symbols; head = c.primary_expr-first.auto.head; load = c.primary_expr-first.auto.load }) c.in-Done.is in
     (p1.is.even, p1.is.used)
 
 pub fn_call_expr-kind_at-k-requires : goal.fn_call_expr-kind_at-k-requires
@@ -622,7 +622,7 @@ fn_call_expr-kind_at-k-requires t c =
     let E = blank c.args.w.errors in
     let e = blanks c.args.w.errors in
     let p0 = by (begin 1 (λ x. (walkers x c.args.depth).call) E e c.requires) (call_step _ _ _ c.if-depth-eq0.false) in
-    let p1 = go 1 (λ x. primary_expr x (walkers x (c.args.depth - 1))) _ p0 refl c.primary_expr-first.ensures (kept c.primary_expr-first.auto) c.in-Done.is in
+    let p1 = go 1 (λ x. primary_expr x (walkers x (c.args.depth - 1))) _ p0 refl c.primary_expr-first.ensures (record { symbols = c.primary_expr-first.auto.symbols; head = c.primary_expr-first.auto.head; load = c.primary_expr-first.auto.load }) c.in-Done.is in
     p1.is.stands.here
 
 pub fn_call_expr-call-requires : goal.fn_call_expr-call-requires
@@ -631,14 +631,14 @@ fn_call_expr-call-requires t c =
     let E = blank c.args.w.errors in
     let e = blanks c.args.w.errors in
     let p0 = by (begin 1 (λ x. (walkers x c.args.depth).call) E e c.requires) (call_step _ _ _ c.if-depth-eq0.false) in
-    let p1 = go 1 (λ x. primary_expr x (walkers x (c.args.depth - 1))) _ p0 refl c.primary_expr-first.ensures (kept c.primary_expr-first.auto) c.in-Done.is in
+    let p1 = go 1 (λ x. primary_expr x (walkers x (c.args.depth - 1))) _ p0 refl c.primary_expr-first.ensures (record { symbols = c.primary_expr-first.auto.symbols; head = c.primary_expr-first.auto.head; load = c.primary_expr-first.auto.load }) c.in-Done.is in
     (omega (arith, c.decreases, c.if-depth-eq0.false), p1.is)
 
 pub fn_call_expr-returns-then-k-eq-LEFT_PAREN : goal.fn_call_expr-returns-then-k-eq-LEFT_PAREN
 unfolding fn_call_expr postfix
 fn_call_expr-returns-then-k-eq-LEFT_PAREN t c =
     gives (λ E e. let p0 = by (begin 1 (λ x. (walkers x c.args.depth).call) E e c.requires) (call_step _ _ _ c.if-depth-eq0.false) in
-    let p1 = go 1 (λ x. primary_expr x (walkers x (c.args.depth - 1))) _ p0 refl c.primary_expr-first.ensures (kept c.primary_expr-first.auto) c.in-Done.is in
+    let p1 = go 1 (λ x. primary_expr x (walkers x (c.args.depth - 1))) _ p0 refl c.primary_expr-first.ensures (record { symbols = c.primary_expr-first.auto.symbols; head = c.primary_expr-first.auto.head; load = c.primary_expr-first.auto.load }) c.in-Done.is in
     let p2 = read _ (read _ (aimed _ _ p1 c.top-to.ensures)) in
     last 0 (λ x. call_part x (walkers x (c.args.depth - 1)) (node_of c.top-to.result) c.in-Done.x.at) (yes _ _ p2 (test (λ k. eqb k 1) p2 (eq-eqb _ _ (sym c.kind_at-k.ensures ∙ c.if-k-eq-LEFT_PAREN.true)))) refl (omega arith) c.call.ensures)
 
@@ -648,14 +648,14 @@ fn_call_expr-dot-requires t c =
     let E = blank c.args.w.errors in
     let e = blanks c.args.w.errors in
     let p0 = by (begin 1 (λ x. (walkers x c.args.depth).call) E e c.requires) (call_step _ _ _ c.if-depth-eq0.false) in
-    let p1 = go 1 (λ x. primary_expr x (walkers x (c.args.depth - 1))) _ p0 refl c.primary_expr-first.ensures (kept c.primary_expr-first.auto) c.in-Done.is in
+    let p1 = go 1 (λ x. primary_expr x (walkers x (c.args.depth - 1))) _ p0 refl c.primary_expr-first.ensures (record { symbols = c.primary_expr-first.auto.symbols; head = c.primary_expr-first.auto.head; load = c.primary_expr-first.auto.load }) c.in-Done.is in
     (omega (arith, c.decreases, c.if-depth-eq0.false), p1.is)
 
 pub fn_call_expr-returns-then-k-eq-PERIOD : goal.fn_call_expr-returns-then-k-eq-PERIOD
 unfolding fn_call_expr postfix
 fn_call_expr-returns-then-k-eq-PERIOD t c =
     gives (λ E e. let p0 = by (begin 1 (λ x. (walkers x c.args.depth).call) E e c.requires) (call_step _ _ _ c.if-depth-eq0.false) in
-    let p1 = go 1 (λ x. primary_expr x (walkers x (c.args.depth - 1))) _ p0 refl c.primary_expr-first.ensures (kept c.primary_expr-first.auto) c.in-Done.is in
+    let p1 = go 1 (λ x. primary_expr x (walkers x (c.args.depth - 1))) _ p0 refl c.primary_expr-first.ensures (record { symbols = c.primary_expr-first.auto.symbols; head = c.primary_expr-first.auto.head; load = c.primary_expr-first.auto.load }) c.in-Done.is in
     let p2 = read _ (read _ (aimed _ _ p1 c.top-to.ensures)) in
     let n1 = no _ _ p2 (test (λ k. eqb k 1) p2 (ne_eqb _ _ (λ z. c.if-k-eq-LEFT_PAREN.false (c.kind_at-k.ensures ∙ z)))) in
     last 0 (λ x. dot x (walkers x (c.args.depth - 1)) (node_of c.top-to.result) c.in-Done.x.at) (yes _ _ n1 (test (λ k. eqb k 11) n1 (eq-eqb _ _ (sym c.kind_at-k.ensures ∙ c.if-k-eq-PERIOD.true)))) refl (omega arith) c.dot.ensures)
@@ -666,14 +666,14 @@ fn_call_expr-index-requires t c =
     let E = blank c.args.w.errors in
     let e = blanks c.args.w.errors in
     let p0 = by (begin 1 (λ x. (walkers x c.args.depth).call) E e c.requires) (call_step _ _ _ c.if-depth-eq0.false) in
-    let p1 = go 1 (λ x. primary_expr x (walkers x (c.args.depth - 1))) _ p0 refl c.primary_expr-first.ensures (kept c.primary_expr-first.auto) c.in-Done.is in
+    let p1 = go 1 (λ x. primary_expr x (walkers x (c.args.depth - 1))) _ p0 refl c.primary_expr-first.ensures (record { symbols = c.primary_expr-first.auto.symbols; head = c.primary_expr-first.auto.head; load = c.primary_expr-first.auto.load }) c.in-Done.is in
     (omega (arith, c.decreases, c.if-depth-eq0.false), p1.is)
 
 pub fn_call_expr-returns-then-k-eq-LEFT_BRACKET : goal.fn_call_expr-returns-then-k-eq-LEFT_BRACKET
 unfolding fn_call_expr postfix
 fn_call_expr-returns-then-k-eq-LEFT_BRACKET t c =
     gives (λ E e. let p0 = by (begin 1 (λ x. (walkers x c.args.depth).call) E e c.requires) (call_step _ _ _ c.if-depth-eq0.false) in
-    let p1 = go 1 (λ x. primary_expr x (walkers x (c.args.depth - 1))) _ p0 refl c.primary_expr-first.ensures (kept c.primary_expr-first.auto) c.in-Done.is in
+    let p1 = go 1 (λ x. primary_expr x (walkers x (c.args.depth - 1))) _ p0 refl c.primary_expr-first.ensures (record { symbols = c.primary_expr-first.auto.symbols; head = c.primary_expr-first.auto.head; load = c.primary_expr-first.auto.load }) c.in-Done.is in
     let p2 = read _ (read _ (aimed _ _ p1 c.top-to.ensures)) in
     let n1 = no _ _ p2 (test (λ k. eqb k 1) p2 (ne_eqb _ _ (λ z. c.if-k-eq-LEFT_PAREN.false (c.kind_at-k.ensures ∙ z)))) in
     let n2 = no _ _ n1 (test (λ k. eqb k 11) n1 (ne_eqb _ _ (λ z. c.if-k-eq-PERIOD.false (c.kind_at-k.ensures ∙ z)))) in
@@ -683,7 +683,7 @@ pub fn_call_expr-returns : goal.fn_call_expr-returns
 unfolding fn_call_expr postfix
 fn_call_expr-returns t c =
     gives (λ E e. let p0 = by (begin 1 (λ x. (walkers x c.args.depth).call) E e c.requires) (call_step _ _ _ c.if-depth-eq0.false) in
-    let p1 = go 1 (λ x. primary_expr x (walkers x (c.args.depth - 1))) _ p0 refl c.primary_expr-first.ensures (kept c.primary_expr-first.auto) c.in-Done.is in
+    let p1 = go 1 (λ x. primary_expr x (walkers x (c.args.depth - 1))) _ p0 refl c.primary_expr-first.ensures (record { symbols = c.primary_expr-first.auto.symbols; head = c.primary_expr-first.auto.head; load = c.primary_expr-first.auto.load }) c.in-Done.is in
     let p2 = read _ (read _ (aimed _ _ p1 c.top-to.ensures)) in
     let n1 = no _ _ p2 (test (λ k. eqb k 1) p2 (ne_eqb _ _ (λ z. c.if-k-eq-LEFT_PAREN.false (c.kind_at-k.ensures ∙ z)))) in
     let n2 = no _ _ n1 (test (λ k. eqb k 11) n1 (ne_eqb _ _ (λ z. c.if-k-eq-PERIOD.false (c.kind_at-k.ensures ∙ z)))) in
@@ -697,7 +697,7 @@ pub group_expr-returns-in_default : goal.group_expr-returns-in_default
 unfolding group_expr
 group_expr-returns-in_default t c =
     gives (λ E e. let p0 = begin 1 (λ x. group_expr x (walkers x c.args.depth)) E e c.requires in
-    halt 0 (λ x. consume x) _ p0 refl (pass-any p0.is c.consume-passed.ensures) c.consume-passed.ensures.sure (not_done _ c.in_default.in_default-own.keys2))
+    halt 0 (λ x. consume x) _ p0 refl (pass-any p0.is c.consume-passed.ensures) c.consume-passed.ensures.sure (not_done _ c.in_default.not-Done))
 
 pub group_expr-assign_expr-inner-requires : goal.group_expr-assign_expr-inner-requires
 unfolding group_expr
@@ -713,7 +713,7 @@ unfolding group_expr
 group_expr-returns-in_default-inner t c =
     gives (λ E e. let p0 = begin 1 (λ x. group_expr x (walkers x c.args.depth)) E e c.requires in
     let p1 = go 0 (λ x. consume x) _ p0 refl (pass-any p0.is c.consume-passed.ensures) same c.in-Done.is in
-    stop 1 (λ x. (walkers x c.args.depth).assign) _ p1 refl (omega arith) c.assign_expr-inner.ensures (not_done _ c.in_default-inner.in_default-inner-own.keys2))
+    stop 1 (λ x. (walkers x c.args.depth).assign) _ p1 refl (omega arith) c.assign_expr-inner.ensures (not_done _ c.in_default-inner.not-Done))
 
 pub group_expr-expect-requires : goal.group_expr-expect-requires
 unfolding group_expr
@@ -722,7 +722,7 @@ group_expr-expect-requires t c =
     let e = blanks c.args.w.errors in
     let p0 = begin 1 (λ x. group_expr x (walkers x c.args.depth)) E e c.requires in
     let p1 = go 0 (λ x. consume x) _ p0 refl (pass-any p0.is c.consume-passed.ensures) same c.in-Done.is in
-    let p2 = go 1 (λ x. (walkers x c.args.depth).assign) _ p1 refl c.assign_expr-inner.ensures (kept c.assign_expr-inner.auto) c.in-Done-inner.is in
+    let p2 = go 1 (λ x. (walkers x c.args.depth).assign) _ p1 refl c.assign_expr-inner.ensures (record { symbols = c.assign_expr-inner.auto.symbols; head = c.assign_expr-inner.auto.head; load = c.assign_expr-inner.auto.load }) c.in-Done-inner.is in
     p2.is.stands
 
 pub group_expr-returns : goal.group_expr-returns
@@ -730,7 +730,7 @@ unfolding group_expr
 group_expr-returns t c =
     gives (λ E e. let p0 = begin 1 (λ x. group_expr x (walkers x c.args.depth)) E e c.requires in
     let p1 = go 0 (λ x. consume x) _ p0 refl (pass-any p0.is c.consume-passed.ensures) same c.in-Done.is in
-    let p2 = go 1 (λ x. (walkers x c.args.depth).assign) _ p1 refl c.assign_expr-inner.ensures (kept c.assign_expr-inner.auto) c.in-Done-inner.is in
+    let p2 = go 1 (λ x. (walkers x c.args.depth).assign) _ p1 refl c.assign_expr-inner.ensures (record { symbols = c.assign_expr-inner.auto.symbols; head = c.assign_expr-inner.auto.head; load = c.assign_expr-inner.auto.load }) c.in-Done-inner.is in
     last 0 (λ x. expect x 2) p2 refl (omega arith) (expected p2.is c.expect.ensures))
 
 pub index-consume-passed-requires : goal.index-consume-passed-requires
@@ -740,7 +740,7 @@ pub index-returns-in_default : goal.index-returns-in_default
 unfolding index
 index-returns-in_default t c =
     gives (λ E e. let p0 = begin 0 (λ x. index x (walkers x c.args.depth) (node_of c.args.to) c.args.w.at) E e c.requires in
-    stop 0 (λ x. consume x) _ p0 refl (omega arith) (pass-any p0.is c.consume-passed.ensures) (not_done _ c.in_default.in_default-own.keys2))
+    stop 0 (λ x. consume x) _ p0 refl (omega arith) (pass-any p0.is c.consume-passed.ensures) (not_done _ c.in_default.not-Done))
 
 pub index-assign_expr-inner-requires : goal.index-assign_expr-inner-requires
 unfolding index
@@ -756,7 +756,7 @@ unfolding index
 index-returns-in_default-inner t c =
     gives (λ E e. let p0 = begin 0 (λ x. index x (walkers x c.args.depth) (node_of c.args.to) c.args.w.at) E e c.requires in
     let p1 = go 0 (λ x. consume x) _ p0 refl (pass-any p0.is c.consume-passed.ensures) same c.in-Done.is in
-    stop 1 (λ x. (walkers x c.args.depth).assign) _ p1 refl (omega arith) c.assign_expr-inner.ensures (not_done _ c.in_default-inner.in_default-inner-own.keys2))
+    stop 1 (λ x. (walkers x c.args.depth).assign) _ p1 refl (omega arith) c.assign_expr-inner.ensures (not_done _ c.in_default-inner.not-Done))
 
 pub index-expect-closed-requires : goal.index-expect-closed-requires
 unfolding index
@@ -765,7 +765,7 @@ index-expect-closed-requires t c =
     let e = blanks c.args.w.errors in
     let p0 = begin 0 (λ x. index x (walkers x c.args.depth) (node_of c.args.to) c.args.w.at) E e c.requires in
     let p1 = go 0 (λ x. consume x) _ p0 refl (pass-any p0.is c.consume-passed.ensures) same c.in-Done.is in
-    let p2 = go 1 (λ x. (walkers x c.args.depth).assign) _ p1 refl c.assign_expr-inner.ensures (kept c.assign_expr-inner.auto) c.in-Done-inner.is in
+    let p2 = go 1 (λ x. (walkers x c.args.depth).assign) _ p1 refl c.assign_expr-inner.ensures (record { symbols = c.assign_expr-inner.auto.symbols; head = c.assign_expr-inner.auto.head; load = c.assign_expr-inner.auto.load }) c.in-Done-inner.is in
     p2.is.stands
 
 pub index-returns-in_default-closed : goal.index-returns-in_default-closed
@@ -773,8 +773,8 @@ unfolding index
 index-returns-in_default-closed t c =
     gives (λ E e. let p0 = begin 0 (λ x. index x (walkers x c.args.depth) (node_of c.args.to) c.args.w.at) E e c.requires in
     let p1 = go 0 (λ x. consume x) _ p0 refl (pass-any p0.is c.consume-passed.ensures) same c.in-Done.is in
-    let p2 = go 1 (λ x. (walkers x c.args.depth).assign) _ p1 refl c.assign_expr-inner.ensures (kept c.assign_expr-inner.auto) c.in-Done-inner.is in
-    stop 0 (λ x. expect x 6) _ p2 refl (omega arith) (expected p2.is c.expect-closed.ensures) (not_done _ c.in_default-closed.in_default-closed-own.keys2))
+    let p2 = go 1 (λ x. (walkers x c.args.depth).assign) _ p1 refl c.assign_expr-inner.ensures (record { symbols = c.assign_expr-inner.auto.symbols; head = c.assign_expr-inner.auto.head; load = c.assign_expr-inner.auto.load }) c.in-Done-inner.is in
+    stop 0 (λ x. expect x 6) _ p2 refl (omega arith) (expected p2.is c.expect-closed.ensures) (not_done _ c.in_default-closed.not-Done))
 
 pub index-end_index-requires : goal.index-end_index-requires
 unfolding index
@@ -783,7 +783,7 @@ index-end_index-requires t c =
     let e = blanks c.args.w.errors in
     let p0 = begin 0 (λ x. index x (walkers x c.args.depth) (node_of c.args.to) c.args.w.at) E e c.requires in
     let p1 = go 0 (λ x. consume x) _ p0 refl (pass-any p0.is c.consume-passed.ensures) same c.in-Done.is in
-    let p2 = go 1 (λ x. (walkers x c.args.depth).assign) _ p1 refl c.assign_expr-inner.ensures (kept c.assign_expr-inner.auto) c.in-Done-inner.is in
+    let p2 = go 1 (λ x. (walkers x c.args.depth).assign) _ p1 refl c.assign_expr-inner.ensures (record { symbols = c.assign_expr-inner.auto.symbols; head = c.assign_expr-inner.auto.head; load = c.assign_expr-inner.auto.load }) c.in-Done-inner.is in
     let p3 = go 0 (λ x. expect x 6) _ p2 refl (expected p2.is c.expect-closed.ensures) same c.in-Done-closed.is in
     (omega (arith, c.requires.stands.here, c.requires.stands.toks.even), p3.is.even, p3.is.used)
 
@@ -792,7 +792,7 @@ unfolding index
 index-returns t c =
     gives (λ E e. let p0 = begin 0 (λ x. index x (walkers x c.args.depth) (node_of c.args.to) c.args.w.at) E e c.requires in
     let p1 = go 0 (λ x. consume x) _ p0 refl (pass-any p0.is c.consume-passed.ensures) same c.in-Done.is in
-    let p2 = go 1 (λ x. (walkers x c.args.depth).assign) _ p1 refl c.assign_expr-inner.ensures (kept c.assign_expr-inner.auto) c.in-Done-inner.is in
+    let p2 = go 1 (λ x. (walkers x c.args.depth).assign) _ p1 refl c.assign_expr-inner.ensures (record { symbols = c.assign_expr-inner.auto.symbols; head = c.assign_expr-inner.auto.head; load = c.assign_expr-inner.auto.load }) c.in-Done-inner.is in
     let p3 = go 0 (λ x. expect x 6) _ p2 refl (expected p2.is c.expect-closed.ensures) same c.in-Done-closed.is in
     last 0 (λ x s. go_on (single x (node_of c.args.to) 5 c.args.w.at s) (λ a. push x 18 false 2 0)) p3 refl (omega arith) (accessed p3.is c.requires.stands.here c.end_index.ensures))
 
@@ -809,7 +809,7 @@ pub mod_expr-consume-passed-requires : goal.mod_expr-consume-passed-requires
 mod_expr-consume-passed-requires t c = c.loop-lim.invariant.is.stands
 
 pub mod_expr-returns-in_default : goal.mod_expr-returns-in_default
-mod_expr-returns-in_default t c = ends 0 c.args.depth c.loop-lim.invariant (begins 0 c.args.depth c.requires (idle c.args.depth c.requires) same refl) 1 (signs-not 0 c.args.depth c.loop-lim.invariant.is (c.loop-lim.invariant.f - 1) (ap looseness (sym c.kind_at.ensures) ∙ sym c.looseness.ensures ∙ c.if-looseness-ne1.false) c.consume-passed.ensures (not_done _ c.in_default.in_default-own.keys2))
+mod_expr-returns-in_default t c = ends 0 c.args.depth c.loop-lim.invariant (begins 0 c.args.depth c.requires (idle c.args.depth c.requires) same refl) 1 (signs-not 0 c.args.depth c.loop-lim.invariant.is (c.loop-lim.invariant.f - 1) (ap looseness (sym c.kind_at.ensures) ∙ sym c.looseness.ensures ∙ c.if-looseness-ne1.false) c.consume-passed.ensures (not_done _ c.in_default.not-Done))
 
 pub mod_expr-unary_expr-operand-requires : goal.mod_expr-unary_expr-operand-requires
 mod_expr-unary_expr-operand-requires t c =
@@ -819,7 +819,7 @@ mod_expr-unary_expr-operand-requires t c =
 pub mod_expr-returns-in_default-operand : goal.mod_expr-returns-in_default-operand
 mod_expr-returns-in_default-operand t c =
     let s1 = signs 0 c.args.depth c.loop-lim.invariant.is (c.loop-lim.invariant.f - 1) (ap looseness (sym c.kind_at.ensures) ∙ sym c.looseness.ensures ∙ c.if-looseness-ne1.false) c.consume-passed.ensures c.in-Done.is in
-    ends 0 c.args.depth c.loop-lim.invariant (begins 0 c.args.depth c.requires (idle c.args.depth c.requires) same refl) 1 (stops 1 (Operand 0 c.args.depth) (Rest 0 c.args.depth c.loop-lim.x.at (c.loop-lim.invariant.f - 1)) s1 c.unary_expr-operand.ensures (not_done _ c.in_default-operand.in_default-operand-own.keys2))
+    ends 0 c.args.depth c.loop-lim.invariant (begins 0 c.args.depth c.requires (idle c.args.depth c.requires) same refl) 1 (stops 1 (Operand 0 c.args.depth) (Rest 0 c.args.depth c.loop-lim.x.at (c.loop-lim.invariant.f - 1)) s1 c.unary_expr-operand.ensures (not_done _ c.in_default-operand.not-Done))
 
 pub mod_expr-overflow_cast-op : goal.mod_expr-overflow_cast-op
 mod_expr-overflow_cast-op t c = omega (arith, c.loop-lim.invariant.is.stands.here, c.loop-lim.invariant.is.stands.toks.few)
@@ -827,21 +827,21 @@ mod_expr-overflow_cast-op t c = omega (arith, c.loop-lim.invariant.is.stands.her
 pub mod_expr-push_node-made-requires : goal.mod_expr-push_node-made-requires
 mod_expr-push_node-made-requires t c =
     let s1 = signs 0 c.args.depth c.loop-lim.invariant.is (c.loop-lim.invariant.f - 1) (ap looseness (sym c.kind_at.ensures) ∙ sym c.looseness.ensures ∙ c.if-looseness-ne1.false) c.consume-passed.ensures c.in-Done.is in
-    let s2 = goes 1 (Operand 0 c.args.depth) (Rest 0 c.args.depth c.loop-lim.x.at (c.loop-lim.invariant.f - 1)) s1 c.unary_expr-operand.ensures (kept c.unary_expr-operand.auto) c.in-Done-operand.is in
+    let s2 = goes 1 (Operand 0 c.args.depth) (Rest 0 c.args.depth c.loop-lim.x.at (c.loop-lim.invariant.f - 1)) s1 c.unary_expr-operand.ensures (record { symbols = c.unary_expr-operand.auto.symbols; head = c.unary_expr-operand.auto.head; load = c.unary_expr-operand.auto.load }) c.in-Done-operand.is in
     let s3 = goes 0 (Below 0 c.args.depth) (Node 0 c.args.depth c.loop-lim.x.at (c.loop-lim.invariant.f - 1)) s2 (idle c.args.depth (ready s2)) same refl in
     ((ready s3).even, (ready s3).used)
 
 pub mod_expr-returns-in_default-made : goal.mod_expr-returns-in_default-made
 mod_expr-returns-in_default-made t c =
     let s1 = signs 0 c.args.depth c.loop-lim.invariant.is (c.loop-lim.invariant.f - 1) (ap looseness (sym c.kind_at.ensures) ∙ sym c.looseness.ensures ∙ c.if-looseness-ne1.false) c.consume-passed.ensures c.in-Done.is in
-    let s2 = goes 1 (Operand 0 c.args.depth) (Rest 0 c.args.depth c.loop-lim.x.at (c.loop-lim.invariant.f - 1)) s1 c.unary_expr-operand.ensures (kept c.unary_expr-operand.auto) c.in-Done-operand.is in
+    let s2 = goes 1 (Operand 0 c.args.depth) (Rest 0 c.args.depth c.loop-lim.x.at (c.loop-lim.invariant.f - 1)) s1 c.unary_expr-operand.ensures (record { symbols = c.unary_expr-operand.auto.symbols; head = c.unary_expr-operand.auto.head; load = c.unary_expr-operand.auto.load }) c.in-Done-operand.is in
     let s3 = goes 0 (Below 0 c.args.depth) (Node 0 c.args.depth c.loop-lim.x.at (c.loop-lim.invariant.f - 1)) s2 (idle c.args.depth (ready s2)) same refl in
-    ends 0 c.args.depth c.loop-lim.invariant (begins 0 c.args.depth c.requires (idle c.args.depth c.requires) same refl) 1 (stops 0 (λ x. push x 22 false 2 c.loop-lim.x.at) (λ x. Turns 0 c.args.depth x (c.loop-lim.invariant.f - 1)) s3 (pushed (ready s3) c.push_node-made.ensures) (not_done _ c.in_default-made.in_default-made-own.keys2))
+    ends 0 c.args.depth c.loop-lim.invariant (begins 0 c.args.depth c.requires (idle c.args.depth c.requires) same refl) 1 (stops 0 (λ x. push x 22 false 2 c.loop-lim.x.at) (λ x. Turns 0 c.args.depth x (c.loop-lim.invariant.f - 1)) s3 (pushed (ready s3) c.push_node-made.ensures) (not_done _ c.in_default-made.not-Done))
 
 pub mod_expr-loop-lim-smaller : goal.mod_expr-loop-lim-smaller
 mod_expr-loop-lim-smaller t c =
     let s1 = signs 0 c.args.depth c.loop-lim.invariant.is (c.loop-lim.invariant.f - 1) (ap looseness (sym c.kind_at.ensures) ∙ sym c.looseness.ensures ∙ c.if-looseness-ne1.false) c.consume-passed.ensures c.in-Done.is in
-    let s2 = goes 1 (Operand 0 c.args.depth) (Rest 0 c.args.depth c.loop-lim.x.at (c.loop-lim.invariant.f - 1)) s1 c.unary_expr-operand.ensures (kept c.unary_expr-operand.auto) c.in-Done-operand.is in
+    let s2 = goes 1 (Operand 0 c.args.depth) (Rest 0 c.args.depth c.loop-lim.x.at (c.loop-lim.invariant.f - 1)) s1 c.unary_expr-operand.ensures (record { symbols = c.unary_expr-operand.auto.symbols; head = c.unary_expr-operand.auto.head; load = c.unary_expr-operand.auto.load }) c.in-Done-operand.is in
     let s3 = goes 0 (Below 0 c.args.depth) (Node 0 c.args.depth c.loop-lim.x.at (c.loop-lim.invariant.f - 1)) s2 (idle c.args.depth (ready s2)) same refl in
     let s4 = goes 0 (λ x. push x 22 false 2 c.loop-lim.x.at) (λ x. Turns 0 c.args.depth x (c.loop-lim.invariant.f - 1)) s3 (pushed (ready s3) c.push_node-made.ensures) (kept-nodes c.push_node-made.auto.head c.push_node-made.auto.load) c.in-Done-made.is in
     omega (arith, (at_stage s4).on, (ready s4).stands.here)
@@ -849,7 +849,7 @@ mod_expr-loop-lim-smaller t c =
 pub mod_expr-loop-lim-preserved : goal.mod_expr-loop-lim-preserved
 mod_expr-loop-lim-preserved t c =
     let s1 = signs 0 c.args.depth c.loop-lim.invariant.is (c.loop-lim.invariant.f - 1) (ap looseness (sym c.kind_at.ensures) ∙ sym c.looseness.ensures ∙ c.if-looseness-ne1.false) c.consume-passed.ensures c.in-Done.is in
-    let s2 = goes 1 (Operand 0 c.args.depth) (Rest 0 c.args.depth c.loop-lim.x.at (c.loop-lim.invariant.f - 1)) s1 c.unary_expr-operand.ensures (kept c.unary_expr-operand.auto) c.in-Done-operand.is in
+    let s2 = goes 1 (Operand 0 c.args.depth) (Rest 0 c.args.depth c.loop-lim.x.at (c.loop-lim.invariant.f - 1)) s1 c.unary_expr-operand.ensures (record { symbols = c.unary_expr-operand.auto.symbols; head = c.unary_expr-operand.auto.head; load = c.unary_expr-operand.auto.load }) c.in-Done-operand.is in
     let s3 = goes 0 (Below 0 c.args.depth) (Node 0 c.args.depth c.loop-lim.x.at (c.loop-lim.invariant.f - 1)) s2 (idle c.args.depth (ready s2)) same refl in
     let s4 = goes 0 (λ x. push x 22 false 2 c.loop-lim.x.at) (λ x. Turns 0 c.args.depth x (c.loop-lim.invariant.f - 1)) s3 (pushed (ready s3) c.push_node-made.ensures) (kept-nodes c.push_node-made.auto.head c.push_node-made.auto.load) c.in-Done-made.is in
     again 0 c.args.depth c.loop-lim.invariant s4
@@ -864,22 +864,22 @@ pub mul_or_div_expr-mod_expr-lhs-requires : goal.mul_or_div_expr-mod_expr-lhs-re
 mul_or_div_expr-mod_expr-lhs-requires t c = (omega (arith, c.decreases), c.requires)
 
 pub mul_or_div_expr-returns-in_default : goal.mul_or_div_expr-returns-in_default
-mul_or_div_expr-returns-in_default t c = begins-not 1 c.args.depth c.requires c.mod_expr-lhs.ensures (not_done _ c.in_default.in_default-own.keys2)
+mul_or_div_expr-returns-in_default t c = begins-not 1 c.args.depth c.requires c.mod_expr-lhs.ensures (not_done _ c.in_default.not-Done)
 
 pub mul_or_div_expr-loop-lim-init : goal.mul_or_div_expr-loop-lim-init
-mul_or_div_expr-loop-lim-init t c = looping (Turns 1 c.args.depth) (ready (begins 1 c.args.depth c.requires c.mod_expr-lhs.ensures (kept c.mod_expr-lhs.auto) c.in-Done.is))
+mul_or_div_expr-loop-lim-init t c = looping (Turns 1 c.args.depth) (ready (begins 1 c.args.depth c.requires c.mod_expr-lhs.ensures (record { symbols = c.mod_expr-lhs.auto.symbols; head = c.mod_expr-lhs.auto.head; load = c.mod_expr-lhs.auto.load }) c.in-Done.is))
 
 pub mul_or_div_expr-kind_at-requires : goal.mul_or_div_expr-kind_at-requires
 mul_or_div_expr-kind_at-requires t c = c.loop-lim.invariant.is.stands.here
 
 pub mul_or_div_expr-returns-then-looseness-ne2 : goal.mul_or_div_expr-returns-then-looseness-ne2
-mul_or_div_expr-returns-then-looseness-ne2 t c = ends 1 c.args.depth c.loop-lim.invariant (begins 1 c.args.depth c.requires c.mod_expr-lhs.ensures (kept c.mod_expr-lhs.auto) c.in-Done.is) 0 (turns-end 1 c.args.depth c.loop-lim.invariant.is (c.loop-lim.invariant.f - 1) (λ z. c.if-looseness-ne2.true (c.looseness.ensures ∙ ap looseness c.kind_at.ensures ∙ z)))
+mul_or_div_expr-returns-then-looseness-ne2 t c = ends 1 c.args.depth c.loop-lim.invariant (begins 1 c.args.depth c.requires c.mod_expr-lhs.ensures (record { symbols = c.mod_expr-lhs.auto.symbols; head = c.mod_expr-lhs.auto.head; load = c.mod_expr-lhs.auto.load }) c.in-Done.is) 0 (turns-end 1 c.args.depth c.loop-lim.invariant.is (c.loop-lim.invariant.f - 1) (λ z. c.if-looseness-ne2.true (c.looseness.ensures ∙ ap looseness c.kind_at.ensures ∙ z)))
 
 pub mul_or_div_expr-consume-passed-requires : goal.mul_or_div_expr-consume-passed-requires
 mul_or_div_expr-consume-passed-requires t c = c.loop-lim.invariant.is.stands
 
 pub mul_or_div_expr-returns-in_default-passed : goal.mul_or_div_expr-returns-in_default-passed
-mul_or_div_expr-returns-in_default-passed t c = ends 1 c.args.depth c.loop-lim.invariant (begins 1 c.args.depth c.requires c.mod_expr-lhs.ensures (kept c.mod_expr-lhs.auto) c.in-Done.is) 1 (signs-not 1 c.args.depth c.loop-lim.invariant.is (c.loop-lim.invariant.f - 1) (ap looseness (sym c.kind_at.ensures) ∙ sym c.looseness.ensures ∙ c.if-looseness-ne2.false) c.consume-passed.ensures (not_done _ c.in_default-passed.in_default-passed-own.keys2))
+mul_or_div_expr-returns-in_default-passed t c = ends 1 c.args.depth c.loop-lim.invariant (begins 1 c.args.depth c.requires c.mod_expr-lhs.ensures (record { symbols = c.mod_expr-lhs.auto.symbols; head = c.mod_expr-lhs.auto.head; load = c.mod_expr-lhs.auto.load }) c.in-Done.is) 1 (signs-not 1 c.args.depth c.loop-lim.invariant.is (c.loop-lim.invariant.f - 1) (ap looseness (sym c.kind_at.ensures) ∙ sym c.looseness.ensures ∙ c.if-looseness-ne2.false) c.consume-passed.ensures (not_done _ c.in_default-passed.not-Done))
 
 pub mul_or_div_expr-unary_expr-operand-requires : goal.mul_or_div_expr-unary_expr-operand-requires
 mul_or_div_expr-unary_expr-operand-requires t c =
@@ -889,19 +889,19 @@ mul_or_div_expr-unary_expr-operand-requires t c =
 pub mul_or_div_expr-returns-in_default-operand : goal.mul_or_div_expr-returns-in_default-operand
 mul_or_div_expr-returns-in_default-operand t c =
     let s1 = signs 1 c.args.depth c.loop-lim.invariant.is (c.loop-lim.invariant.f - 1) (ap looseness (sym c.kind_at.ensures) ∙ sym c.looseness.ensures ∙ c.if-looseness-ne2.false) c.consume-passed.ensures c.in-Done-passed.is in
-    ends 1 c.args.depth c.loop-lim.invariant (begins 1 c.args.depth c.requires c.mod_expr-lhs.ensures (kept c.mod_expr-lhs.auto) c.in-Done.is) 1 (stops 1 (Operand 1 c.args.depth) (Rest 1 c.args.depth c.loop-lim.x.at (c.loop-lim.invariant.f - 1)) s1 c.unary_expr-operand.ensures (not_done _ c.in_default-operand.in_default-operand-own.keys2))
+    ends 1 c.args.depth c.loop-lim.invariant (begins 1 c.args.depth c.requires c.mod_expr-lhs.ensures (record { symbols = c.mod_expr-lhs.auto.symbols; head = c.mod_expr-lhs.auto.head; load = c.mod_expr-lhs.auto.load }) c.in-Done.is) 1 (stops 1 (Operand 1 c.args.depth) (Rest 1 c.args.depth c.loop-lim.x.at (c.loop-lim.invariant.f - 1)) s1 c.unary_expr-operand.ensures (not_done _ c.in_default-operand.not-Done))
 
 pub mul_or_div_expr-mod_expr-rhs-requires : goal.mul_or_div_expr-mod_expr-rhs-requires
 mul_or_div_expr-mod_expr-rhs-requires t c =
     let s1 = signs 1 c.args.depth c.loop-lim.invariant.is (c.loop-lim.invariant.f - 1) (ap looseness (sym c.kind_at.ensures) ∙ sym c.looseness.ensures ∙ c.if-looseness-ne2.false) c.consume-passed.ensures c.in-Done-passed.is in
-    let s2 = goes 1 (Operand 1 c.args.depth) (Rest 1 c.args.depth c.loop-lim.x.at (c.loop-lim.invariant.f - 1)) s1 c.unary_expr-operand.ensures (kept c.unary_expr-operand.auto) c.in-Done-operand.is in
+    let s2 = goes 1 (Operand 1 c.args.depth) (Rest 1 c.args.depth c.loop-lim.x.at (c.loop-lim.invariant.f - 1)) s1 c.unary_expr-operand.ensures (record { symbols = c.unary_expr-operand.auto.symbols; head = c.unary_expr-operand.auto.head; load = c.unary_expr-operand.auto.load }) c.in-Done-operand.is in
     (omega (arith, c.decreases), ready s2)
 
 pub mul_or_div_expr-returns-in_default-rhs : goal.mul_or_div_expr-returns-in_default-rhs
 mul_or_div_expr-returns-in_default-rhs t c =
     let s1 = signs 1 c.args.depth c.loop-lim.invariant.is (c.loop-lim.invariant.f - 1) (ap looseness (sym c.kind_at.ensures) ∙ sym c.looseness.ensures ∙ c.if-looseness-ne2.false) c.consume-passed.ensures c.in-Done-passed.is in
-    let s2 = goes 1 (Operand 1 c.args.depth) (Rest 1 c.args.depth c.loop-lim.x.at (c.loop-lim.invariant.f - 1)) s1 c.unary_expr-operand.ensures (kept c.unary_expr-operand.auto) c.in-Done-operand.is in
-    ends 1 c.args.depth c.loop-lim.invariant (begins 1 c.args.depth c.requires c.mod_expr-lhs.ensures (kept c.mod_expr-lhs.auto) c.in-Done.is) 1 (stops 0 (Below 1 c.args.depth) (Node 1 c.args.depth c.loop-lim.x.at (c.loop-lim.invariant.f - 1)) s2 c.mod_expr-rhs.ensures (not_done _ c.in_default-rhs.in_default-rhs-own.keys2))
+    let s2 = goes 1 (Operand 1 c.args.depth) (Rest 1 c.args.depth c.loop-lim.x.at (c.loop-lim.invariant.f - 1)) s1 c.unary_expr-operand.ensures (record { symbols = c.unary_expr-operand.auto.symbols; head = c.unary_expr-operand.auto.head; load = c.unary_expr-operand.auto.load }) c.in-Done-operand.is in
+    ends 1 c.args.depth c.loop-lim.invariant (begins 1 c.args.depth c.requires c.mod_expr-lhs.ensures (record { symbols = c.mod_expr-lhs.auto.symbols; head = c.mod_expr-lhs.auto.head; load = c.mod_expr-lhs.auto.load }) c.in-Done.is) 1 (stops 0 (Below 1 c.args.depth) (Node 1 c.args.depth c.loop-lim.x.at (c.loop-lim.invariant.f - 1)) s2 c.mod_expr-rhs.ensures (not_done _ c.in_default-rhs.not-Done))
 
 pub mul_or_div_expr-overflow_cast-op : goal.mul_or_div_expr-overflow_cast-op
 mul_or_div_expr-overflow_cast-op t c = omega (arith, c.loop-lim.invariant.is.stands.here, c.loop-lim.invariant.is.stands.toks.few)
@@ -909,30 +909,30 @@ mul_or_div_expr-overflow_cast-op t c = omega (arith, c.loop-lim.invariant.is.sta
 pub mul_or_div_expr-push_node-made-requires : goal.mul_or_div_expr-push_node-made-requires
 mul_or_div_expr-push_node-made-requires t c =
     let s1 = signs 1 c.args.depth c.loop-lim.invariant.is (c.loop-lim.invariant.f - 1) (ap looseness (sym c.kind_at.ensures) ∙ sym c.looseness.ensures ∙ c.if-looseness-ne2.false) c.consume-passed.ensures c.in-Done-passed.is in
-    let s2 = goes 1 (Operand 1 c.args.depth) (Rest 1 c.args.depth c.loop-lim.x.at (c.loop-lim.invariant.f - 1)) s1 c.unary_expr-operand.ensures (kept c.unary_expr-operand.auto) c.in-Done-operand.is in
-    let s3 = goes 0 (Below 1 c.args.depth) (Node 1 c.args.depth c.loop-lim.x.at (c.loop-lim.invariant.f - 1)) s2 c.mod_expr-rhs.ensures (kept c.mod_expr-rhs.auto) c.in-Done-rhs.is in
+    let s2 = goes 1 (Operand 1 c.args.depth) (Rest 1 c.args.depth c.loop-lim.x.at (c.loop-lim.invariant.f - 1)) s1 c.unary_expr-operand.ensures (record { symbols = c.unary_expr-operand.auto.symbols; head = c.unary_expr-operand.auto.head; load = c.unary_expr-operand.auto.load }) c.in-Done-operand.is in
+    let s3 = goes 0 (Below 1 c.args.depth) (Node 1 c.args.depth c.loop-lim.x.at (c.loop-lim.invariant.f - 1)) s2 c.mod_expr-rhs.ensures (record { symbols = c.mod_expr-rhs.auto.symbols; head = c.mod_expr-rhs.auto.head; load = c.mod_expr-rhs.auto.load }) c.in-Done-rhs.is in
     ((ready s3).even, (ready s3).used)
 
 pub mul_or_div_expr-returns-in_default-made : goal.mul_or_div_expr-returns-in_default-made
 mul_or_div_expr-returns-in_default-made t c =
     let s1 = signs 1 c.args.depth c.loop-lim.invariant.is (c.loop-lim.invariant.f - 1) (ap looseness (sym c.kind_at.ensures) ∙ sym c.looseness.ensures ∙ c.if-looseness-ne2.false) c.consume-passed.ensures c.in-Done-passed.is in
-    let s2 = goes 1 (Operand 1 c.args.depth) (Rest 1 c.args.depth c.loop-lim.x.at (c.loop-lim.invariant.f - 1)) s1 c.unary_expr-operand.ensures (kept c.unary_expr-operand.auto) c.in-Done-operand.is in
-    let s3 = goes 0 (Below 1 c.args.depth) (Node 1 c.args.depth c.loop-lim.x.at (c.loop-lim.invariant.f - 1)) s2 c.mod_expr-rhs.ensures (kept c.mod_expr-rhs.auto) c.in-Done-rhs.is in
-    ends 1 c.args.depth c.loop-lim.invariant (begins 1 c.args.depth c.requires c.mod_expr-lhs.ensures (kept c.mod_expr-lhs.auto) c.in-Done.is) 1 (stops 0 (λ x. push x 22 false 2 c.loop-lim.x.at) (λ x. Turns 1 c.args.depth x (c.loop-lim.invariant.f - 1)) s3 (pushed (ready s3) c.push_node-made.ensures) (not_done _ c.in_default-made.in_default-made-own.keys2))
+    let s2 = goes 1 (Operand 1 c.args.depth) (Rest 1 c.args.depth c.loop-lim.x.at (c.loop-lim.invariant.f - 1)) s1 c.unary_expr-operand.ensures (record { symbols = c.unary_expr-operand.auto.symbols; head = c.unary_expr-operand.auto.head; load = c.unary_expr-operand.auto.load }) c.in-Done-operand.is in
+    let s3 = goes 0 (Below 1 c.args.depth) (Node 1 c.args.depth c.loop-lim.x.at (c.loop-lim.invariant.f - 1)) s2 c.mod_expr-rhs.ensures (record { symbols = c.mod_expr-rhs.auto.symbols; head = c.mod_expr-rhs.auto.head; load = c.mod_expr-rhs.auto.load }) c.in-Done-rhs.is in
+    ends 1 c.args.depth c.loop-lim.invariant (begins 1 c.args.depth c.requires c.mod_expr-lhs.ensures (record { symbols = c.mod_expr-lhs.auto.symbols; head = c.mod_expr-lhs.auto.head; load = c.mod_expr-lhs.auto.load }) c.in-Done.is) 1 (stops 0 (λ x. push x 22 false 2 c.loop-lim.x.at) (λ x. Turns 1 c.args.depth x (c.loop-lim.invariant.f - 1)) s3 (pushed (ready s3) c.push_node-made.ensures) (not_done _ c.in_default-made.not-Done))
 
 pub mul_or_div_expr-loop-lim-smaller : goal.mul_or_div_expr-loop-lim-smaller
 mul_or_div_expr-loop-lim-smaller t c =
     let s1 = signs 1 c.args.depth c.loop-lim.invariant.is (c.loop-lim.invariant.f - 1) (ap looseness (sym c.kind_at.ensures) ∙ sym c.looseness.ensures ∙ c.if-looseness-ne2.false) c.consume-passed.ensures c.in-Done-passed.is in
-    let s2 = goes 1 (Operand 1 c.args.depth) (Rest 1 c.args.depth c.loop-lim.x.at (c.loop-lim.invariant.f - 1)) s1 c.unary_expr-operand.ensures (kept c.unary_expr-operand.auto) c.in-Done-operand.is in
-    let s3 = goes 0 (Below 1 c.args.depth) (Node 1 c.args.depth c.loop-lim.x.at (c.loop-lim.invariant.f - 1)) s2 c.mod_expr-rhs.ensures (kept c.mod_expr-rhs.auto) c.in-Done-rhs.is in
+    let s2 = goes 1 (Operand 1 c.args.depth) (Rest 1 c.args.depth c.loop-lim.x.at (c.loop-lim.invariant.f - 1)) s1 c.unary_expr-operand.ensures (record { symbols = c.unary_expr-operand.auto.symbols; head = c.unary_expr-operand.auto.head; load = c.unary_expr-operand.auto.load }) c.in-Done-operand.is in
+    let s3 = goes 0 (Below 1 c.args.depth) (Node 1 c.args.depth c.loop-lim.x.at (c.loop-lim.invariant.f - 1)) s2 c.mod_expr-rhs.ensures (record { symbols = c.mod_expr-rhs.auto.symbols; head = c.mod_expr-rhs.auto.head; load = c.mod_expr-rhs.auto.load }) c.in-Done-rhs.is in
     let s4 = goes 0 (λ x. push x 22 false 2 c.loop-lim.x.at) (λ x. Turns 1 c.args.depth x (c.loop-lim.invariant.f - 1)) s3 (pushed (ready s3) c.push_node-made.ensures) (kept-nodes c.push_node-made.auto.head c.push_node-made.auto.load) c.in-Done-made.is in
     omega (arith, (at_stage s4).on, (ready s4).stands.here)
 
 pub mul_or_div_expr-loop-lim-preserved : goal.mul_or_div_expr-loop-lim-preserved
 mul_or_div_expr-loop-lim-preserved t c =
     let s1 = signs 1 c.args.depth c.loop-lim.invariant.is (c.loop-lim.invariant.f - 1) (ap looseness (sym c.kind_at.ensures) ∙ sym c.looseness.ensures ∙ c.if-looseness-ne2.false) c.consume-passed.ensures c.in-Done-passed.is in
-    let s2 = goes 1 (Operand 1 c.args.depth) (Rest 1 c.args.depth c.loop-lim.x.at (c.loop-lim.invariant.f - 1)) s1 c.unary_expr-operand.ensures (kept c.unary_expr-operand.auto) c.in-Done-operand.is in
-    let s3 = goes 0 (Below 1 c.args.depth) (Node 1 c.args.depth c.loop-lim.x.at (c.loop-lim.invariant.f - 1)) s2 c.mod_expr-rhs.ensures (kept c.mod_expr-rhs.auto) c.in-Done-rhs.is in
+    let s2 = goes 1 (Operand 1 c.args.depth) (Rest 1 c.args.depth c.loop-lim.x.at (c.loop-lim.invariant.f - 1)) s1 c.unary_expr-operand.ensures (record { symbols = c.unary_expr-operand.auto.symbols; head = c.unary_expr-operand.auto.head; load = c.unary_expr-operand.auto.load }) c.in-Done-operand.is in
+    let s3 = goes 0 (Below 1 c.args.depth) (Node 1 c.args.depth c.loop-lim.x.at (c.loop-lim.invariant.f - 1)) s2 c.mod_expr-rhs.ensures (record { symbols = c.mod_expr-rhs.auto.symbols; head = c.mod_expr-rhs.auto.head; load = c.mod_expr-rhs.auto.load }) c.in-Done-rhs.is in
     let s4 = goes 0 (λ x. push x 22 false 2 c.loop-lim.x.at) (λ x. Turns 1 c.args.depth x (c.loop-lim.invariant.f - 1)) s3 (pushed (ready s3) c.push_node-made.ensures) (kept-nodes c.push_node-made.auto.head c.push_node-made.auto.load) c.in-Done-made.is in
     again 1 c.args.depth c.loop-lim.invariant s4
 
@@ -946,22 +946,22 @@ pub or_expr-and_expr-lhs-requires : goal.or_expr-and_expr-lhs-requires
 or_expr-and_expr-lhs-requires t c = (omega (arith, c.decreases), c.requires)
 
 pub or_expr-returns-in_default : goal.or_expr-returns-in_default
-or_expr-returns-in_default t c = begins-not 6 c.args.depth c.requires c.and_expr-lhs.ensures (not_done _ c.in_default.in_default-own.keys2)
+or_expr-returns-in_default t c = begins-not 6 c.args.depth c.requires c.and_expr-lhs.ensures (not_done _ c.in_default.not-Done)
 
 pub or_expr-loop-lim-init : goal.or_expr-loop-lim-init
-or_expr-loop-lim-init t c = looping (Turns 6 c.args.depth) (ready (begins 6 c.args.depth c.requires c.and_expr-lhs.ensures (kept c.and_expr-lhs.auto) c.in-Done.is))
+or_expr-loop-lim-init t c = looping (Turns 6 c.args.depth) (ready (begins 6 c.args.depth c.requires c.and_expr-lhs.ensures (record { symbols = c.and_expr-lhs.auto.symbols; head = c.and_expr-lhs.auto.head; load = c.and_expr-lhs.auto.load }) c.in-Done.is))
 
 pub or_expr-kind_at-requires : goal.or_expr-kind_at-requires
 or_expr-kind_at-requires t c = c.loop-lim.invariant.is.stands.here
 
 pub or_expr-returns-then-looseness-ne7 : goal.or_expr-returns-then-looseness-ne7
-or_expr-returns-then-looseness-ne7 t c = ends 6 c.args.depth c.loop-lim.invariant (begins 6 c.args.depth c.requires c.and_expr-lhs.ensures (kept c.and_expr-lhs.auto) c.in-Done.is) 0 (turns-end 6 c.args.depth c.loop-lim.invariant.is (c.loop-lim.invariant.f - 1) (λ z. c.if-looseness-ne7.true (c.looseness.ensures ∙ ap looseness c.kind_at.ensures ∙ z)))
+or_expr-returns-then-looseness-ne7 t c = ends 6 c.args.depth c.loop-lim.invariant (begins 6 c.args.depth c.requires c.and_expr-lhs.ensures (record { symbols = c.and_expr-lhs.auto.symbols; head = c.and_expr-lhs.auto.head; load = c.and_expr-lhs.auto.load }) c.in-Done.is) 0 (turns-end 6 c.args.depth c.loop-lim.invariant.is (c.loop-lim.invariant.f - 1) (λ z. c.if-looseness-ne7.true (c.looseness.ensures ∙ ap looseness c.kind_at.ensures ∙ z)))
 
 pub or_expr-consume-passed-requires : goal.or_expr-consume-passed-requires
 or_expr-consume-passed-requires t c = c.loop-lim.invariant.is.stands
 
 pub or_expr-returns-in_default-passed : goal.or_expr-returns-in_default-passed
-or_expr-returns-in_default-passed t c = ends 6 c.args.depth c.loop-lim.invariant (begins 6 c.args.depth c.requires c.and_expr-lhs.ensures (kept c.and_expr-lhs.auto) c.in-Done.is) 1 (signs-not 6 c.args.depth c.loop-lim.invariant.is (c.loop-lim.invariant.f - 1) (ap looseness (sym c.kind_at.ensures) ∙ sym c.looseness.ensures ∙ c.if-looseness-ne7.false) c.consume-passed.ensures (not_done _ c.in_default-passed.in_default-passed-own.keys2))
+or_expr-returns-in_default-passed t c = ends 6 c.args.depth c.loop-lim.invariant (begins 6 c.args.depth c.requires c.and_expr-lhs.ensures (record { symbols = c.and_expr-lhs.auto.symbols; head = c.and_expr-lhs.auto.head; load = c.and_expr-lhs.auto.load }) c.in-Done.is) 1 (signs-not 6 c.args.depth c.loop-lim.invariant.is (c.loop-lim.invariant.f - 1) (ap looseness (sym c.kind_at.ensures) ∙ sym c.looseness.ensures ∙ c.if-looseness-ne7.false) c.consume-passed.ensures (not_done _ c.in_default-passed.not-Done))
 
 pub or_expr-unary_expr-operand-requires : goal.or_expr-unary_expr-operand-requires
 or_expr-unary_expr-operand-requires t c =
@@ -971,19 +971,19 @@ or_expr-unary_expr-operand-requires t c =
 pub or_expr-returns-in_default-operand : goal.or_expr-returns-in_default-operand
 or_expr-returns-in_default-operand t c =
     let s1 = signs 6 c.args.depth c.loop-lim.invariant.is (c.loop-lim.invariant.f - 1) (ap looseness (sym c.kind_at.ensures) ∙ sym c.looseness.ensures ∙ c.if-looseness-ne7.false) c.consume-passed.ensures c.in-Done-passed.is in
-    ends 6 c.args.depth c.loop-lim.invariant (begins 6 c.args.depth c.requires c.and_expr-lhs.ensures (kept c.and_expr-lhs.auto) c.in-Done.is) 1 (stops 1 (Operand 6 c.args.depth) (Rest 6 c.args.depth c.loop-lim.x.at (c.loop-lim.invariant.f - 1)) s1 c.unary_expr-operand.ensures (not_done _ c.in_default-operand.in_default-operand-own.keys2))
+    ends 6 c.args.depth c.loop-lim.invariant (begins 6 c.args.depth c.requires c.and_expr-lhs.ensures (record { symbols = c.and_expr-lhs.auto.symbols; head = c.and_expr-lhs.auto.head; load = c.and_expr-lhs.auto.load }) c.in-Done.is) 1 (stops 1 (Operand 6 c.args.depth) (Rest 6 c.args.depth c.loop-lim.x.at (c.loop-lim.invariant.f - 1)) s1 c.unary_expr-operand.ensures (not_done _ c.in_default-operand.not-Done))
 
 pub or_expr-and_expr-rhs-requires : goal.or_expr-and_expr-rhs-requires
 or_expr-and_expr-rhs-requires t c =
     let s1 = signs 6 c.args.depth c.loop-lim.invariant.is (c.loop-lim.invariant.f - 1) (ap looseness (sym c.kind_at.ensures) ∙ sym c.looseness.ensures ∙ c.if-looseness-ne7.false) c.consume-passed.ensures c.in-Done-passed.is in
-    let s2 = goes 1 (Operand 6 c.args.depth) (Rest 6 c.args.depth c.loop-lim.x.at (c.loop-lim.invariant.f - 1)) s1 c.unary_expr-operand.ensures (kept c.unary_expr-operand.auto) c.in-Done-operand.is in
+    let s2 = goes 1 (Operand 6 c.args.depth) (Rest 6 c.args.depth c.loop-lim.x.at (c.loop-lim.invariant.f - 1)) s1 c.unary_expr-operand.ensures (record { symbols = c.unary_expr-operand.auto.symbols; head = c.unary_expr-operand.auto.head; load = c.unary_expr-operand.auto.load }) c.in-Done-operand.is in
     (omega (arith, c.decreases), ready s2)
 
 pub or_expr-returns-in_default-rhs : goal.or_expr-returns-in_default-rhs
 or_expr-returns-in_default-rhs t c =
     let s1 = signs 6 c.args.depth c.loop-lim.invariant.is (c.loop-lim.invariant.f - 1) (ap looseness (sym c.kind_at.ensures) ∙ sym c.looseness.ensures ∙ c.if-looseness-ne7.false) c.consume-passed.ensures c.in-Done-passed.is in
-    let s2 = goes 1 (Operand 6 c.args.depth) (Rest 6 c.args.depth c.loop-lim.x.at (c.loop-lim.invariant.f - 1)) s1 c.unary_expr-operand.ensures (kept c.unary_expr-operand.auto) c.in-Done-operand.is in
-    ends 6 c.args.depth c.loop-lim.invariant (begins 6 c.args.depth c.requires c.and_expr-lhs.ensures (kept c.and_expr-lhs.auto) c.in-Done.is) 1 (stops 0 (Below 6 c.args.depth) (Node 6 c.args.depth c.loop-lim.x.at (c.loop-lim.invariant.f - 1)) s2 c.and_expr-rhs.ensures (not_done _ c.in_default-rhs.in_default-rhs-own.keys2))
+    let s2 = goes 1 (Operand 6 c.args.depth) (Rest 6 c.args.depth c.loop-lim.x.at (c.loop-lim.invariant.f - 1)) s1 c.unary_expr-operand.ensures (record { symbols = c.unary_expr-operand.auto.symbols; head = c.unary_expr-operand.auto.head; load = c.unary_expr-operand.auto.load }) c.in-Done-operand.is in
+    ends 6 c.args.depth c.loop-lim.invariant (begins 6 c.args.depth c.requires c.and_expr-lhs.ensures (record { symbols = c.and_expr-lhs.auto.symbols; head = c.and_expr-lhs.auto.head; load = c.and_expr-lhs.auto.load }) c.in-Done.is) 1 (stops 0 (Below 6 c.args.depth) (Node 6 c.args.depth c.loop-lim.x.at (c.loop-lim.invariant.f - 1)) s2 c.and_expr-rhs.ensures (not_done _ c.in_default-rhs.not-Done))
 
 pub or_expr-overflow_cast-op : goal.or_expr-overflow_cast-op
 or_expr-overflow_cast-op t c = omega (arith, c.loop-lim.invariant.is.stands.here, c.loop-lim.invariant.is.stands.toks.few)
@@ -991,30 +991,30 @@ or_expr-overflow_cast-op t c = omega (arith, c.loop-lim.invariant.is.stands.here
 pub or_expr-push_node-made-requires : goal.or_expr-push_node-made-requires
 or_expr-push_node-made-requires t c =
     let s1 = signs 6 c.args.depth c.loop-lim.invariant.is (c.loop-lim.invariant.f - 1) (ap looseness (sym c.kind_at.ensures) ∙ sym c.looseness.ensures ∙ c.if-looseness-ne7.false) c.consume-passed.ensures c.in-Done-passed.is in
-    let s2 = goes 1 (Operand 6 c.args.depth) (Rest 6 c.args.depth c.loop-lim.x.at (c.loop-lim.invariant.f - 1)) s1 c.unary_expr-operand.ensures (kept c.unary_expr-operand.auto) c.in-Done-operand.is in
-    let s3 = goes 0 (Below 6 c.args.depth) (Node 6 c.args.depth c.loop-lim.x.at (c.loop-lim.invariant.f - 1)) s2 c.and_expr-rhs.ensures (kept c.and_expr-rhs.auto) c.in-Done-rhs.is in
+    let s2 = goes 1 (Operand 6 c.args.depth) (Rest 6 c.args.depth c.loop-lim.x.at (c.loop-lim.invariant.f - 1)) s1 c.unary_expr-operand.ensures (record { symbols = c.unary_expr-operand.auto.symbols; head = c.unary_expr-operand.auto.head; load = c.unary_expr-operand.auto.load }) c.in-Done-operand.is in
+    let s3 = goes 0 (Below 6 c.args.depth) (Node 6 c.args.depth c.loop-lim.x.at (c.loop-lim.invariant.f - 1)) s2 c.and_expr-rhs.ensures (record { symbols = c.and_expr-rhs.auto.symbols; head = c.and_expr-rhs.auto.head; load = c.and_expr-rhs.auto.load }) c.in-Done-rhs.is in
     ((ready s3).even, (ready s3).used)
 
 pub or_expr-returns-in_default-made : goal.or_expr-returns-in_default-made
 or_expr-returns-in_default-made t c =
     let s1 = signs 6 c.args.depth c.loop-lim.invariant.is (c.loop-lim.invariant.f - 1) (ap looseness (sym c.kind_at.ensures) ∙ sym c.looseness.ensures ∙ c.if-looseness-ne7.false) c.consume-passed.ensures c.in-Done-passed.is in
-    let s2 = goes 1 (Operand 6 c.args.depth) (Rest 6 c.args.depth c.loop-lim.x.at (c.loop-lim.invariant.f - 1)) s1 c.unary_expr-operand.ensures (kept c.unary_expr-operand.auto) c.in-Done-operand.is in
-    let s3 = goes 0 (Below 6 c.args.depth) (Node 6 c.args.depth c.loop-lim.x.at (c.loop-lim.invariant.f - 1)) s2 c.and_expr-rhs.ensures (kept c.and_expr-rhs.auto) c.in-Done-rhs.is in
-    ends 6 c.args.depth c.loop-lim.invariant (begins 6 c.args.depth c.requires c.and_expr-lhs.ensures (kept c.and_expr-lhs.auto) c.in-Done.is) 1 (stops 0 (λ x. push x 22 false 2 c.loop-lim.x.at) (λ x. Turns 6 c.args.depth x (c.loop-lim.invariant.f - 1)) s3 (pushed (ready s3) c.push_node-made.ensures) (not_done _ c.in_default-made.in_default-made-own.keys2))
+    let s2 = goes 1 (Operand 6 c.args.depth) (Rest 6 c.args.depth c.loop-lim.x.at (c.loop-lim.invariant.f - 1)) s1 c.unary_expr-operand.ensures (record { symbols = c.unary_expr-operand.auto.symbols; head = c.unary_expr-operand.auto.head; load = c.unary_expr-operand.auto.load }) c.in-Done-operand.is in
+    let s3 = goes 0 (Below 6 c.args.depth) (Node 6 c.args.depth c.loop-lim.x.at (c.loop-lim.invariant.f - 1)) s2 c.and_expr-rhs.ensures (record { symbols = c.and_expr-rhs.auto.symbols; head = c.and_expr-rhs.auto.head; load = c.and_expr-rhs.auto.load }) c.in-Done-rhs.is in
+    ends 6 c.args.depth c.loop-lim.invariant (begins 6 c.args.depth c.requires c.and_expr-lhs.ensures (record { symbols = c.and_expr-lhs.auto.symbols; head = c.and_expr-lhs.auto.head; load = c.and_expr-lhs.auto.load }) c.in-Done.is) 1 (stops 0 (λ x. push x 22 false 2 c.loop-lim.x.at) (λ x. Turns 6 c.args.depth x (c.loop-lim.invariant.f - 1)) s3 (pushed (ready s3) c.push_node-made.ensures) (not_done _ c.in_default-made.not-Done))
 
 pub or_expr-loop-lim-smaller : goal.or_expr-loop-lim-smaller
 or_expr-loop-lim-smaller t c =
     let s1 = signs 6 c.args.depth c.loop-lim.invariant.is (c.loop-lim.invariant.f - 1) (ap looseness (sym c.kind_at.ensures) ∙ sym c.looseness.ensures ∙ c.if-looseness-ne7.false) c.consume-passed.ensures c.in-Done-passed.is in
-    let s2 = goes 1 (Operand 6 c.args.depth) (Rest 6 c.args.depth c.loop-lim.x.at (c.loop-lim.invariant.f - 1)) s1 c.unary_expr-operand.ensures (kept c.unary_expr-operand.auto) c.in-Done-operand.is in
-    let s3 = goes 0 (Below 6 c.args.depth) (Node 6 c.args.depth c.loop-lim.x.at (c.loop-lim.invariant.f - 1)) s2 c.and_expr-rhs.ensures (kept c.and_expr-rhs.auto) c.in-Done-rhs.is in
+    let s2 = goes 1 (Operand 6 c.args.depth) (Rest 6 c.args.depth c.loop-lim.x.at (c.loop-lim.invariant.f - 1)) s1 c.unary_expr-operand.ensures (record { symbols = c.unary_expr-operand.auto.symbols; head = c.unary_expr-operand.auto.head; load = c.unary_expr-operand.auto.load }) c.in-Done-operand.is in
+    let s3 = goes 0 (Below 6 c.args.depth) (Node 6 c.args.depth c.loop-lim.x.at (c.loop-lim.invariant.f - 1)) s2 c.and_expr-rhs.ensures (record { symbols = c.and_expr-rhs.auto.symbols; head = c.and_expr-rhs.auto.head; load = c.and_expr-rhs.auto.load }) c.in-Done-rhs.is in
     let s4 = goes 0 (λ x. push x 22 false 2 c.loop-lim.x.at) (λ x. Turns 6 c.args.depth x (c.loop-lim.invariant.f - 1)) s3 (pushed (ready s3) c.push_node-made.ensures) (kept-nodes c.push_node-made.auto.head c.push_node-made.auto.load) c.in-Done-made.is in
     omega (arith, (at_stage s4).on, (ready s4).stands.here)
 
 pub or_expr-loop-lim-preserved : goal.or_expr-loop-lim-preserved
 or_expr-loop-lim-preserved t c =
     let s1 = signs 6 c.args.depth c.loop-lim.invariant.is (c.loop-lim.invariant.f - 1) (ap looseness (sym c.kind_at.ensures) ∙ sym c.looseness.ensures ∙ c.if-looseness-ne7.false) c.consume-passed.ensures c.in-Done-passed.is in
-    let s2 = goes 1 (Operand 6 c.args.depth) (Rest 6 c.args.depth c.loop-lim.x.at (c.loop-lim.invariant.f - 1)) s1 c.unary_expr-operand.ensures (kept c.unary_expr-operand.auto) c.in-Done-operand.is in
-    let s3 = goes 0 (Below 6 c.args.depth) (Node 6 c.args.depth c.loop-lim.x.at (c.loop-lim.invariant.f - 1)) s2 c.and_expr-rhs.ensures (kept c.and_expr-rhs.auto) c.in-Done-rhs.is in
+    let s2 = goes 1 (Operand 6 c.args.depth) (Rest 6 c.args.depth c.loop-lim.x.at (c.loop-lim.invariant.f - 1)) s1 c.unary_expr-operand.ensures (record { symbols = c.unary_expr-operand.auto.symbols; head = c.unary_expr-operand.auto.head; load = c.unary_expr-operand.auto.load }) c.in-Done-operand.is in
+    let s3 = goes 0 (Below 6 c.args.depth) (Node 6 c.args.depth c.loop-lim.x.at (c.loop-lim.invariant.f - 1)) s2 c.and_expr-rhs.ensures (record { symbols = c.and_expr-rhs.auto.symbols; head = c.and_expr-rhs.auto.head; load = c.and_expr-rhs.auto.load }) c.in-Done-rhs.is in
     let s4 = goes 0 (λ x. push x 22 false 2 c.loop-lim.x.at) (λ x. Turns 6 c.args.depth x (c.loop-lim.invariant.f - 1)) s3 (pushed (ready s3) c.push_node-made.ensures) (kept-nodes c.push_node-made.auto.head c.push_node-made.auto.load) c.in-Done-made.is in
     again 6 c.args.depth c.loop-lim.invariant s4
 
@@ -1071,8 +1071,8 @@ param_list-returns-in_default t c = (
       let p2 = no _ _ p1 (test (λ k. eqb k 2) p1 (ne_eqb _ _ (λ z. c.if-k-eq-RIGHT_PAREN.false (c.kind_at-k.ensures ∙ z)))) in
       let p3 = no _ _ p2 (lt-leb _ _ c.if-n-ge-FN_PARAM_MAX_LEN.false) in
       let p4 = no _ _ p3 (test (λ k. eqb k 47) p3 (ne_eqb _ _ (λ z. c.if-k-eq-EOF.false (c.kind_at-k.ensures ∙ z)))) in
-      stop 1 (λ x. (walkers x c.args.depth).assign) _ p4 refl (omega arith) c.assign_expr-item.ensures (not_done _ c.in_default.in_default-own.keys2)),
-  none-counted c.assign_expr-item.ensures (not_done _ c.in_default.in_default-own.keys2),
+      stop 1 (λ x. (walkers x c.args.depth).assign) _ p4 refl (omega arith) c.assign_expr-item.ensures (not_done _ c.in_default.not-Done)),
+  none-counted c.assign_expr-item.ensures (not_done _ c.in_default.not-Done),
 )
 
 pub param_list-separator-comma-requires : goal.param_list-separator-comma-requires
@@ -1085,7 +1085,7 @@ param_list-separator-comma-requires t c =
     let p2 = no _ _ p1 (test (λ k. eqb k 2) p1 (ne_eqb _ _ (λ z. c.if-k-eq-RIGHT_PAREN.false (c.kind_at-k.ensures ∙ z)))) in
     let p3 = no _ _ p2 (lt-leb _ _ c.if-n-ge-FN_PARAM_MAX_LEN.false) in
     let p4 = no _ _ p3 (test (λ k. eqb k 47) p3 (ne_eqb _ _ (λ z. c.if-k-eq-EOF.false (c.kind_at-k.ensures ∙ z)))) in
-    let p5 = go 1 (λ x. (walkers x c.args.depth).assign) _ p4 refl c.assign_expr-item.ensures (kept c.assign_expr-item.auto) c.in-Done.is in
+    let p5 = go 1 (λ x. (walkers x c.args.depth).assign) _ p4 refl c.assign_expr-item.ensures (record { symbols = c.assign_expr-item.auto.symbols; head = c.assign_expr-item.auto.head; load = c.assign_expr-item.auto.load }) c.in-Done.is in
     p5.is.stands
 
 pub param_list-returns-in_default-comma : goal.param_list-returns-in_default-comma
@@ -1096,9 +1096,9 @@ param_list-returns-in_default-comma t c = (
       let p2 = no _ _ p1 (test (λ k. eqb k 2) p1 (ne_eqb _ _ (λ z. c.if-k-eq-RIGHT_PAREN.false (c.kind_at-k.ensures ∙ z)))) in
       let p3 = no _ _ p2 (lt-leb _ _ c.if-n-ge-FN_PARAM_MAX_LEN.false) in
       let p4 = no _ _ p3 (test (λ k. eqb k 47) p3 (ne_eqb _ _ (λ z. c.if-k-eq-EOF.false (c.kind_at-k.ensures ∙ z)))) in
-      let p5 = go 1 (λ x. (walkers x c.args.depth).assign) _ p4 refl c.assign_expr-item.ensures (kept c.assign_expr-item.auto) c.in-Done.is in
-      stop 0 (λ x. separator x) _ p5 refl (omega arith) (separated p5.is c.separator-comma.ensures) (not_done _ c.in_default-comma.in_default-comma-own.keys2)),
-  none-separated c.separator-comma.ensures (not_done _ c.in_default-comma.in_default-comma-own.keys2),
+      let p5 = go 1 (λ x. (walkers x c.args.depth).assign) _ p4 refl c.assign_expr-item.ensures (record { symbols = c.assign_expr-item.auto.symbols; head = c.assign_expr-item.auto.head; load = c.assign_expr-item.auto.load }) c.in-Done.is in
+      stop 0 (λ x. separator x) _ p5 refl (omega arith) (separated p5.is c.separator-comma.ensures) (not_done _ c.in_default-comma.not-Done)),
+  none-separated c.separator-comma.ensures (not_done _ c.in_default-comma.not-Done),
 )
 
 pub param_list-overflow_add-n : goal.param_list-overflow_add-n
@@ -1114,7 +1114,7 @@ param_list-loop-lim-smaller t c =
     let p2 = no _ _ p1 (test (λ k. eqb k 2) p1 (ne_eqb _ _ (λ z. c.if-k-eq-RIGHT_PAREN.false (c.kind_at-k.ensures ∙ z)))) in
     let p3 = no _ _ p2 (lt-leb _ _ c.if-n-ge-FN_PARAM_MAX_LEN.false) in
     let p4 = no _ _ p3 (test (λ k. eqb k 47) p3 (ne_eqb _ _ (λ z. c.if-k-eq-EOF.false (c.kind_at-k.ensures ∙ z)))) in
-    let p5 = go 1 (λ x. (walkers x c.args.depth).assign) _ p4 refl c.assign_expr-item.ensures (kept c.assign_expr-item.auto) c.in-Done.is in
+    let p5 = go 1 (λ x. (walkers x c.args.depth).assign) _ p4 refl c.assign_expr-item.ensures (record { symbols = c.assign_expr-item.auto.symbols; head = c.assign_expr-item.auto.head; load = c.assign_expr-item.auto.load }) c.in-Done.is in
     let p6 = go 0 (λ x. separator x) _ p5 refl (separated p5.is c.separator-comma.ensures) same c.in-Done-comma.is in
     omega (arith, ahead_of c.assign_expr-item.ensures c.in-Done.is, ahead_of (separated p5.is c.separator-comma.ensures) c.in-Done-comma.is, p6.is.stands.here)
 
@@ -1128,13 +1128,13 @@ param_list-loop-lim-preserved t c = (
       let p2 = no _ _ p1 (test (λ k. eqb k 2) p1 (ne_eqb _ _ (λ z. c.if-k-eq-RIGHT_PAREN.false (c.kind_at-k.ensures ∙ z)))) in
       let p3 = no _ _ p2 (lt-leb _ _ c.if-n-ge-FN_PARAM_MAX_LEN.false) in
       let p4 = no _ _ p3 (test (λ k. eqb k 47) p3 (ne_eqb _ _ (λ z. c.if-k-eq-EOF.false (c.kind_at-k.ensures ∙ z)))) in
-      let p5 = go 1 (λ x. (walkers x c.args.depth).assign) _ p4 refl c.assign_expr-item.ensures (kept c.assign_expr-item.auto) c.in-Done.is in
+      let p5 = go 1 (λ x. (walkers x c.args.depth).assign) _ p4 refl c.assign_expr-item.ensures (record { symbols = c.assign_expr-item.auto.symbols; head = c.assign_expr-item.auto.head; load = c.assign_expr-item.auto.load }) c.in-Done.is in
       omega (arith, ahead_of c.assign_expr-item.ensures c.in-Done.is, ahead_of (separated p5.is c.separator-comma.ensures) c.in-Done-comma.is)) (λ E e. let p0 = turn-own c.loop-lim.invariant.0 E e in
       let p1 = read _ p0 in
       let p2 = no _ _ p1 (test (λ k. eqb k 2) p1 (ne_eqb _ _ (λ z. c.if-k-eq-RIGHT_PAREN.false (c.kind_at-k.ensures ∙ z)))) in
       let p3 = no _ _ p2 (lt-leb _ _ c.if-n-ge-FN_PARAM_MAX_LEN.false) in
       let p4 = no _ _ p3 (test (λ k. eqb k 47) p3 (ne_eqb _ _ (λ z. c.if-k-eq-EOF.false (c.kind_at-k.ensures ∙ z)))) in
-      let p5 = go 1 (λ x. (walkers x c.args.depth).assign) _ p4 refl c.assign_expr-item.ensures (kept c.assign_expr-item.auto) c.in-Done.is in
+      let p5 = go 1 (λ x. (walkers x c.args.depth).assign) _ p4 refl c.assign_expr-item.ensures (record { symbols = c.assign_expr-item.auto.symbols; head = c.assign_expr-item.auto.head; load = c.assign_expr-item.auto.load }) c.in-Done.is in
       let p6 = go 0 (λ x. separator x) _ p5 refl (separated p5.is c.separator-comma.ensures) same c.in-Done-comma.is in
       p6)),
   omega (arith, c.if-n-ge-FN_PARAM_MAX_LEN.false),
@@ -1201,7 +1201,7 @@ primary_expr-returns-in_default t c =
     let n2 = no _ _ n1 (test (λ k. eqb k 31) n1 (ne_eqb _ _ (λ z. c.if-k-eq-IDENT.false (c.kind_at-k.ensures ∙ z)))) in
     let n3 = no _ _ n2 (test (λ k. eqb k 1) n2 (ne_eqb _ _ (λ z. c.if-k-eq-LEFT_PAREN.false (c.kind_at-k.ensures ∙ z)))) in
     let a0 = yes _ _ n3 (test (λ k. eqb k 21) n3 (eq-eqb _ _ (sym c.kind_at-k.ensures ∙ c.if-k-ne-AT.false))) in
-    stop 1 (λ x. consume x) _ a0 refl (omega arith) (pass a0.is c.consume-passed.ensures (not-eof (λ k. eqb k 21) (eq-eqb _ _ (sym c.kind_at-k.ensures ∙ c.if-k-ne-AT.false)) refl)) (not_done _ c.in_default.in_default-own.keys2))
+    stop 1 (λ x. consume x) _ a0 refl (omega arith) (pass a0.is c.consume-passed.ensures (not-eof (λ k. eqb k 21) (eq-eqb _ _ (sym c.kind_at-k.ensures ∙ c.if-k-ne-AT.false)) refl)) (not_done _ c.in_default.not-Done))
 
 pub primary_expr-fn_call_expr-requires : goal.primary_expr-fn_call_expr-requires
 unfolding primary_expr at_expr
@@ -1257,7 +1257,7 @@ unary_expr-returns-in_default t c =
     gives (λ E e. let p0 = by (begin 1 (λ x. (walkers x c.args.depth).unary) E e c.requires) (unary-step _ _ _ c.if-depth-eq0.false) in
     let p1 = read _ (read _ p0) in
     let u0 = yes _ _ p1 (test is_unary p1 (ap is_unary (sym c.kind_at.ensures) ∙ sym c.is_unary.ensures ∙ c.if-not-is_unary.false)) in
-    stop 1 (λ x. consume x) _ u0 refl (omega arith) (pass u0.is c.consume-passed.ensures (not-eof is_unary (ap is_unary (sym c.kind_at.ensures) ∙ sym c.is_unary.ensures ∙ c.if-not-is_unary.false) unary-eof)) (not_done _ c.in_default.in_default-own.keys2))
+    stop 1 (λ x. consume x) _ u0 refl (omega arith) (pass u0.is c.consume-passed.ensures (not-eof is_unary (ap is_unary (sym c.kind_at.ensures) ∙ sym c.is_unary.ensures ∙ c.if-not-is_unary.false) unary-eof)) (not_done _ c.in_default.not-Done))
 
 pub unary_expr-unary_expr-rhs-requires : goal.unary_expr-unary_expr-rhs-requires
 unfolding unary_expr
@@ -1277,7 +1277,7 @@ unary_expr-returns-in_default-rhs t c =
     let p1 = read _ (read _ p0) in
     let u0 = yes _ _ p1 (test is_unary p1 (ap is_unary (sym c.kind_at.ensures) ∙ sym c.is_unary.ensures ∙ c.if-not-is_unary.false)) in
     let u1 = go 1 (λ x. consume x) _ u0 refl (pass u0.is c.consume-passed.ensures (not-eof is_unary (ap is_unary (sym c.kind_at.ensures) ∙ sym c.is_unary.ensures ∙ c.if-not-is_unary.false) unary-eof)) same c.in-Done.is in
-    stop 1 (λ x. (walkers x (c.args.depth - 1)).unary) _ u1 refl (omega arith) c.unary_expr-rhs.ensures (not_done _ c.in_default-rhs.in_default-rhs-own.keys2))
+    stop 1 (λ x. (walkers x (c.args.depth - 1)).unary) _ u1 refl (omega arith) c.unary_expr-rhs.ensures (not_done _ c.in_default-rhs.not-Done))
 
 pub unary_expr-overflow_cast-at : goal.unary_expr-overflow_cast-at
 unary_expr-overflow_cast-at t c = omega (arith, c.requires.stands.here, c.requires.stands.toks.few)
@@ -1291,7 +1291,7 @@ unary_expr-push_node-requires t c =
     let p1 = read _ (read _ p0) in
     let u0 = yes _ _ p1 (test is_unary p1 (ap is_unary (sym c.kind_at.ensures) ∙ sym c.is_unary.ensures ∙ c.if-not-is_unary.false)) in
     let u1 = go 1 (λ x. consume x) _ u0 refl (pass u0.is c.consume-passed.ensures (not-eof is_unary (ap is_unary (sym c.kind_at.ensures) ∙ sym c.is_unary.ensures ∙ c.if-not-is_unary.false) unary-eof)) same c.in-Done.is in
-    let u2 = go 1 (λ x. (walkers x (c.args.depth - 1)).unary) _ u1 refl c.unary_expr-rhs.ensures (kept c.unary_expr-rhs.auto) c.in-Done-rhs.is in
+    let u2 = go 1 (λ x. (walkers x (c.args.depth - 1)).unary) _ u1 refl c.unary_expr-rhs.ensures (record { symbols = c.unary_expr-rhs.auto.symbols; head = c.unary_expr-rhs.auto.head; load = c.unary_expr-rhs.auto.load }) c.in-Done-rhs.is in
     (u2.is.even, u2.is.used)
 
 pub unary_expr-returns : goal.unary_expr-returns
@@ -1301,5 +1301,5 @@ unary_expr-returns t c =
     let p1 = read _ (read _ p0) in
     let u0 = yes _ _ p1 (test is_unary p1 (ap is_unary (sym c.kind_at.ensures) ∙ sym c.is_unary.ensures ∙ c.if-not-is_unary.false)) in
     let u1 = go 1 (λ x. consume x) _ u0 refl (pass u0.is c.consume-passed.ensures (not-eof is_unary (ap is_unary (sym c.kind_at.ensures) ∙ sym c.is_unary.ensures ∙ c.if-not-is_unary.false) unary-eof)) same c.in-Done.is in
-    let u2 = go 1 (λ x. (walkers x (c.args.depth - 1)).unary) _ u1 refl c.unary_expr-rhs.ensures (kept c.unary_expr-rhs.auto) c.in-Done-rhs.is in
+    let u2 = go 1 (λ x. (walkers x (c.args.depth - 1)).unary) _ u1 refl c.unary_expr-rhs.ensures (record { symbols = c.unary_expr-rhs.auto.symbols; head = c.unary_expr-rhs.auto.head; load = c.unary_expr-rhs.auto.load }) c.in-Done-rhs.is in
     last 0 (λ x. push x 23 false 1 c.args.w.at) u2 refl (omega arith) (pushed u2.is c.push_node.ensures))

@@ -42,7 +42,7 @@ block-returns-in_default t c =
       does = λ j jl jn. record {
         tells = λ E e t. let p0 = by (begin j (λ x. (walkers x c.args.depth).block c.args.body (names_of c.args.names c.args.load.now)) E e c.requires.0) (block-step _ _ _ _ _ c.if-depth-eq0.false) in
             told t (stop j (λ x. expect x 3) _ p0 refl (omega arith) (c.expect-begun.ensures.does j _ _ jl jn (λ z. absurd (let v : ⊥ = omega arith in
-            v)) p0.is) (not_done _ c.in_default.in_default-own.keys2));
+            v)) p0.is) (not_done _ c.in_default.not-Done));
       };
     }
 
@@ -73,7 +73,7 @@ block-returns-in_default-bound t c =
             let p1 = go j (λ x. expect x 3) _ p0 refl (c.expect-begun.ensures.does j _ _ jl jn (λ z. absurd (let v : ⊥ = omega arith in
             v)) p0.is) same c.in-Done.is in
             let p2 = scoped _ p1 (expect-level 3 (λ z. omega arith) c.requires.0 (expected c.requires.0 c.expect-begun.ensures) c.in-Done.is c.requires.0.level) c.init_scope-inside.ensures in
-            told t (stop 0 (λ x. bind_of x (names_of c.args.names c.args.load.now)) _ p2 refl (omega arith) c.bind-bound.ensures (not_done _ c.in_default-bound.in_default-bound-own.keys2));
+            told t (stop 0 (λ x. bind_of x (names_of c.args.names c.args.load.now)) _ p2 refl (omega arith) c.bind-bound.ensures (not_done _ c.in_default-bound.not-Done));
       };
     }
 
@@ -103,7 +103,7 @@ block-returns-in_default-all t c =
             v)) p0.is) same c.in-Done.is in
             let p2 = scoped _ p1 (expect-level 3 (λ z. omega arith) c.requires.0 (expected c.requires.0 c.expect-begun.ensures) c.in-Done.is c.requires.0.level) c.init_scope-inside.ensures in
             let p3 = go 0 (λ x. bind_of x (names_of c.args.names c.args.load.now)) _ p2 refl c.bind-bound.ensures (kept-symbols c.bind-bound.auto.symbols) c.in-Done-bound.is in
-            stops 0 (λ x. decls_of x (walkers x (c.args.depth - 1)) (fuel x) 0) _ p3 refl (omega arith) t c.decls-all.ensures.0 (not_done _ c.in_default-all.in_default-all-own.keys2);
+            stops 0 (λ x. decls_of x (walkers x (c.args.depth - 1)) (fuel x) 0) _ p3 refl (omega arith) t c.decls-all.ensures.0 (not_done _ c.in_default-all.not-Done);
       };
     }
 
@@ -121,7 +121,7 @@ block-end_block-requires t c =
     v)) p0.is) same c.in-Done.is in
     let p2 = scoped _ p1 (expect-level 3 (λ z. omega arith) c.requires.0 (expected c.requires.0 c.expect-begun.ensures) c.in-Done.is c.requires.0.level) c.init_scope-inside.ensures in
     let p3 = go 0 (λ x. bind_of x (names_of c.args.names c.args.load.now)) _ p2 refl c.bind-bound.ensures (kept-symbols c.bind-bound.auto.symbols) c.in-Done-bound.is in
-    let g4 = goes 0 (λ x. decls_of x (walkers x (c.args.depth - 1)) (fuel x) 0) _ p3 refl t c.decls-all.ensures.0 (kept c.decls-all.auto) c.in-Done-all.is in
+    let g4 = goes 0 (λ x. decls_of x (walkers x (c.args.depth - 1)) (fuel x) 0) _ p3 refl t c.decls-all.ensures.0 (record { symbols = c.decls-all.auto.symbols; head = c.decls-all.auto.head; load = c.decls-all.auto.load }) c.in-Done-all.is in
     (g4.at.is, count-below c.decls-all.ensures.1 c.in-Done-all.is)
 
 pub block-returns : goal.block-returns
@@ -134,7 +134,7 @@ block-returns t c =
             v)) p0.is) same c.in-Done.is in
             let p2 = scoped _ p1 (expect-level 3 (λ z. omega arith) c.requires.0 (expected c.requires.0 c.expect-begun.ensures) c.in-Done.is c.requires.0.level) c.init_scope-inside.ensures in
             let p3 = go 0 (λ x. bind_of x (names_of c.args.names c.args.load.now)) _ p2 refl c.bind-bound.ensures (kept-symbols c.bind-bound.auto.symbols) c.in-Done-bound.is in
-            let g4 = goes 0 (λ x. decls_of x (walkers x (c.args.depth - 1)) (fuel x) 0) _ p3 refl t c.decls-all.ensures.0 (kept c.decls-all.auto) c.in-Done-all.is in
+            let g4 = goes 0 (λ x. decls_of x (walkers x (c.args.depth - 1)) (fuel x) 0) _ p3 refl t c.decls-all.ensures.0 (record { symbols = c.decls-all.auto.symbols; head = c.decls-all.auto.head; load = c.decls-all.auto.load }) c.in-Done-all.is in
             told g4.notes (last 0 (λ x. end_block x c.args.body c.in-Done-all.z.count) g4.at refl (omega arith) c.end_block.ensures);
       };
     }
@@ -155,7 +155,7 @@ branches-returns-in_default t c =
       tells = λ E e t. let g0 = turns c.loop-symbols.invariant.0 (begin 0 (λ x. branches_of x (walkers x c.args.depth) (fuel x) 0 0) E e c.requires.0) t in
           let p1 = read _ g0.at in
           let y1 = yes _ _ p1 (test (λ k. eqb k 40) p1 (eq-eqb _ _ (sym c.kind_at-k.ensures ∙ c.if-k-eq-ELIF.true))) in
-          stops 1 (λ x. elif_stmt x (walkers x c.args.depth)) _ y1 refl (omega arith) g0.notes c.elif_stmt-one.ensures (not_done _ c.in_default.in_default-own.keys2);
+          stops 1 (λ x. elif_stmt x (walkers x c.args.depth)) _ y1 refl (omega arith) g0.notes c.elif_stmt-one.ensures (not_done _ c.in_default.not-Done);
     }
 
 pub branches-overflow_add-n : goal.branches-overflow_add-n
@@ -170,7 +170,7 @@ branches-loop-symbols-preserved-then-k-eq-ELIF t c = (
   retold (λ x f n. branches_of x (walkers x c.args.depth) f n c.loop-symbols.elses) c.loop-symbols.n (onwards c.loop-symbols.invariant.0 (λ x f. branches_of x (walkers x c.args.depth) f (suc c.loop-symbols.n) c.loop-symbols.elses) (omega (arith, (aheads 1 (λ x. elif_stmt x (walkers x c.args.depth)) c.loop-symbols.invariant.0.book c.loop-symbols.invariant.0.is c.elif_stmt-one.ensures c.in-Done.is))) c.elif_stmt-one.auto.places c.elif_stmt-one.auto.reasons (λ E e t. let g0 = turns-own c.loop-symbols.invariant.0 E e t in
       let p1 = read _ g0.at in
       let y1 = yes _ _ p1 (test (λ k. eqb k 40) p1 (eq-eqb _ _ (sym c.kind_at-k.ensures ∙ c.if-k-eq-ELIF.true))) in
-      let g2 = goes 1 (λ x. elif_stmt x (walkers x c.args.depth)) _ y1 refl g0.notes c.elif_stmt-one.ensures (kept c.elif_stmt-one.auto) c.in-Done.is in
+      let g2 = goes 1 (λ x. elif_stmt x (walkers x c.args.depth)) _ y1 refl g0.notes c.elif_stmt-one.ensures (record { symbols = c.elif_stmt-one.auto.symbols; head = c.elif_stmt-one.auto.head; load = c.elif_stmt-one.auto.load }) c.in-Done.is in
       g2)),
   omega (arith, (aheads 1 (λ x. elif_stmt x (walkers x c.args.depth)) c.loop-symbols.invariant.0.book c.loop-symbols.invariant.0.is c.elif_stmt-one.ensures c.in-Done.is), c.loop-symbols.invariant.1),
   omega (arith, c.loop-symbols.invariant.2),
@@ -201,7 +201,7 @@ branches-returns-in_default-other t c =
           let p1 = read _ g0.at in
           let n1 = no _ _ p1 (test (λ k. eqb k 40) p1 (ne_eqb _ _ (λ z. c.if-k-eq-ELIF.false (c.kind_at-k.ensures ∙ z)))) in
           let e1 = yes _ _ n1 (test (λ k. eqb k 41) n1 (eq-eqb _ _ (sym c.kind_at-k.ensures ∙ c.if-k-ne-ELSE.false))) in
-          stops 1 (λ x. else_block x (walkers x c.args.depth)) _ e1 refl (omega arith) g0.notes c.else_block-other.ensures (not_done _ c.in_default-other.in_default-other-own.keys2);
+          stops 1 (λ x. else_block x (walkers x c.args.depth)) _ e1 refl (omega arith) g0.notes c.else_block-other.ensures (not_done _ c.in_default-other.not-Done);
     }
 
 pub branches-overflow_add-n-else-k-eq-ELIF : goal.branches-overflow_add-n-else-k-eq-ELIF
@@ -220,7 +220,7 @@ branches-loop-symbols-preserved t c = (
       let p1 = read _ g0.at in
       let n1 = no _ _ p1 (test (λ k. eqb k 40) p1 (ne_eqb _ _ (λ z. c.if-k-eq-ELIF.false (c.kind_at-k.ensures ∙ z)))) in
       let e1 = yes _ _ n1 (test (λ k. eqb k 41) n1 (eq-eqb _ _ (sym c.kind_at-k.ensures ∙ c.if-k-ne-ELSE.false))) in
-      let g2 = goes 1 (λ x. else_block x (walkers x c.args.depth)) _ e1 refl g0.notes c.else_block-other.ensures (kept c.else_block-other.auto) c.in-Done-other.is in
+      let g2 = goes 1 (λ x. else_block x (walkers x c.args.depth)) _ e1 refl g0.notes c.else_block-other.ensures (record { symbols = c.else_block-other.auto.symbols; head = c.else_block-other.auto.head; load = c.else_block-other.auto.load }) c.in-Done-other.is in
       g2)),
   omega (arith, (aheads 1 (λ x. else_block x (walkers x c.args.depth)) c.loop-symbols.invariant.0.book c.loop-symbols.invariant.0.is c.else_block-other.ensures c.in-Done-other.is), c.loop-symbols.invariant.1),
   omega (arith, c.loop-symbols.invariant.2),
@@ -295,9 +295,9 @@ decls-returns-in_default t c = (
     tells = λ E e t. let g0 = turns c.loop-lim.invariant.0 (begin 0 (λ x. decls_of x (walkers x c.args.depth) (fuel x) 0) E e c.requires.0) t in
         let p1 = read _ g0.at in
         let p2 = no _ _ p1 (test (λ k. eqb k 4 || eqb k 47) p1 (ap (λ k. eqb k 4 || eqb k 47) (sym c.kind_at.ensures) ∙ sym c.ends_decls.ensures ∙ c.if-ends_decls.false)) in
-        stops 1 (λ x. decl_of x (walkers x c.args.depth)) _ p2 refl (omega arith) g0.notes c.decl-one.ensures (not_done _ c.in_default.in_default-own.keys2);
+        stops 1 (λ x. decl_of x (walkers x c.args.depth)) _ p2 refl (omega arith) g0.notes c.decl-one.ensures (not_done _ c.in_default.not-Done);
   },
-  none_below c.decl-one.result (not_done _ c.in_default.in_default-own.keys2),
+  none_below c.decl-one.result (not_done _ c.in_default.not-Done),
 )
 
 pub decls-overflow_add-n : goal.decls-overflow_add-n
@@ -312,7 +312,7 @@ decls-loop-lim-preserved t c = (
   retold (λ x f n. decls_of x (walkers x c.args.depth) f n) c.loop-lim.n (onwards c.loop-lim.invariant.0 (λ x f. decls_of x (walkers x c.args.depth) f (suc c.loop-lim.n)) (omega (arith, (aheads 1 (λ x. decl_of x (walkers x c.args.depth)) c.loop-lim.invariant.0.book c.loop-lim.invariant.0.is c.decl-one.ensures c.in-Done.is))) c.decl-one.auto.places c.decl-one.auto.reasons (λ E e t. let g0 = turns-own c.loop-lim.invariant.0 E e t in
       let p1 = read _ g0.at in
       let p2 = no _ _ p1 (test (λ k. eqb k 4 || eqb k 47) p1 (ap (λ k. eqb k 4 || eqb k 47) (sym c.kind_at.ensures) ∙ sym c.ends_decls.ensures ∙ c.if-ends_decls.false)) in
-      let g3 = goes 1 (λ x. decl_of x (walkers x c.args.depth)) _ p2 refl g0.notes c.decl-one.ensures (kept c.decl-one.auto) c.in-Done.is in
+      let g3 = goes 1 (λ x. decl_of x (walkers x c.args.depth)) _ p2 refl g0.notes c.decl-one.ensures (record { symbols = c.decl-one.auto.symbols; head = c.decl-one.auto.head; load = c.decl-one.auto.load }) c.in-Done.is in
       g3)),
   omega (arith, (aheads 1 (λ x. decl_of x (walkers x c.args.depth)) c.loop-lim.invariant.0.book c.loop-lim.invariant.0.is c.decl-one.ensures c.in-Done.is), c.loop-lim.invariant.1),
 )
@@ -326,7 +326,7 @@ elif_stmt-returns-in_default t c =
     record {
       tells = λ E e t. let p0 = begin 1 (λ x. elif_stmt x (walkers x c.args.depth)) E e c.requires.0 in
           told t (stop 1 (λ x. consume x) _ p0 refl (omega arith) (pass p0.is c.consume-passed.ensures (λ z. let v : ⊥ = omega (arith, c.requires.2, z) in
-          v)) (not_done _ c.in_default.in_default-own.keys2));
+          v)) (not_done _ c.in_default.not-Done));
     }
 
 pub elif_stmt-expr-test-requires : goal.elif_stmt-expr-test-requires
@@ -347,7 +347,7 @@ elif_stmt-returns-in_default-test t c =
       tells = λ E e t. let p0 = begin 1 (λ x. elif_stmt x (walkers x c.args.depth)) E e c.requires.0 in
           let p1 = go 1 (λ x. consume x) _ p0 refl (pass p0.is c.consume-passed.ensures (λ z. let v : ⊥ = omega (arith, c.requires.2, z) in
           v)) same c.in-Done.is in
-          told t (stop 1 (λ x. (walkers x c.args.depth).assign) _ p1 refl (omega arith) c.expr-test.ensures (not_done _ c.in_default-test.in_default-test-own.keys2));
+          told t (stop 1 (λ x. (walkers x c.args.depth).assign) _ p1 refl (omega arith) c.expr-test.ensures (not_done _ c.in_default-test.not-Done));
     }
 
 pub elif_stmt-block-body-requires : goal.elif_stmt-block-body-requires
@@ -359,7 +359,7 @@ elif_stmt-block-body-requires t c =
     let p0 = begin 1 (λ x. elif_stmt x (walkers x c.args.depth)) E e c.requires.0 in
     let p1 = go 1 (λ x. consume x) _ p0 refl (pass p0.is c.consume-passed.ensures (λ z. let v : ⊥ = omega (arith, c.requires.2, z) in
     v)) same c.in-Done.is in
-    let p2 = go 1 (λ x. (walkers x c.args.depth).assign) _ p1 refl c.expr-test.ensures (kept c.expr-test.auto) c.in-Done-test.is in
+    let p2 = go 1 (λ x. (walkers x c.args.depth).assign) _ p1 refl c.expr-test.ensures (record { symbols = c.expr-test.auto.symbols; head = c.expr-test.auto.head; load = c.expr-test.auto.load }) c.in-Done-test.is in
     (omega (arith, c.decreases), (p2.is, book c.requires.1 t p2, tt))
 
 pub elif_stmt-returns-in_default-body : goal.elif_stmt-returns-in_default-body
@@ -369,8 +369,8 @@ elif_stmt-returns-in_default-body t c =
       tells = λ E e t. let p0 = begin 1 (λ x. elif_stmt x (walkers x c.args.depth)) E e c.requires.0 in
           let p1 = go 1 (λ x. consume x) _ p0 refl (pass p0.is c.consume-passed.ensures (λ z. let v : ⊥ = omega (arith, c.requires.2, z) in
           v)) same c.in-Done.is in
-          let p2 = go 1 (λ x. (walkers x c.args.depth).assign) _ p1 refl c.expr-test.ensures (kept c.expr-test.auto) c.in-Done-test.is in
-          stops 0 (λ x. (walkers x c.args.depth).block false []) _ p2 refl (omega arith) t (c.block-body.ensures.does 0 (omega arith) (λ z. refl)) (not_done _ c.in_default-body.in_default-body-own.keys2);
+          let p2 = go 1 (λ x. (walkers x c.args.depth).assign) _ p1 refl c.expr-test.ensures (record { symbols = c.expr-test.auto.symbols; head = c.expr-test.auto.head; load = c.expr-test.auto.load }) c.in-Done-test.is in
+          stops 0 (λ x. (walkers x c.args.depth).block false []) _ p2 refl (omega arith) t (c.block-body.ensures.does 0 (omega arith) (λ z. refl)) (not_done _ c.in_default-body.not-Done);
     }
 
 pub elif_stmt-push_node-requires : goal.elif_stmt-push_node-requires
@@ -382,8 +382,8 @@ elif_stmt-push_node-requires t c =
     let p0 = begin 1 (λ x. elif_stmt x (walkers x c.args.depth)) E e c.requires.0 in
     let p1 = go 1 (λ x. consume x) _ p0 refl (pass p0.is c.consume-passed.ensures (λ z. let v : ⊥ = omega (arith, c.requires.2, z) in
     v)) same c.in-Done.is in
-    let p2 = go 1 (λ x. (walkers x c.args.depth).assign) _ p1 refl c.expr-test.ensures (kept c.expr-test.auto) c.in-Done-test.is in
-    let g3 = goes 0 (λ x. (walkers x c.args.depth).block false []) _ p2 refl t (c.block-body.ensures.does 0 (omega arith) (λ z. refl)) (kept c.block-body.auto) c.in-Done-body.is in
+    let p2 = go 1 (λ x. (walkers x c.args.depth).assign) _ p1 refl c.expr-test.ensures (record { symbols = c.expr-test.auto.symbols; head = c.expr-test.auto.head; load = c.expr-test.auto.load }) c.in-Done-test.is in
+    let g3 = goes 0 (λ x. (walkers x c.args.depth).block false []) _ p2 refl t (c.block-body.ensures.does 0 (omega arith) (λ z. refl)) (record { symbols = c.block-body.auto.symbols; head = c.block-body.auto.head; load = c.block-body.auto.load }) c.in-Done-body.is in
     (g3.at.is.even, g3.at.is.used)
 
 pub elif_stmt-returns : goal.elif_stmt-returns
@@ -393,8 +393,8 @@ elif_stmt-returns t c =
       tells = λ E e t. let p0 = begin 1 (λ x. elif_stmt x (walkers x c.args.depth)) E e c.requires.0 in
           let p1 = go 1 (λ x. consume x) _ p0 refl (pass p0.is c.consume-passed.ensures (λ z. let v : ⊥ = omega (arith, c.requires.2, z) in
           v)) same c.in-Done.is in
-          let p2 = go 1 (λ x. (walkers x c.args.depth).assign) _ p1 refl c.expr-test.ensures (kept c.expr-test.auto) c.in-Done-test.is in
-          let g3 = goes 0 (λ x. (walkers x c.args.depth).block false []) _ p2 refl t (c.block-body.ensures.does 0 (omega arith) (λ z. refl)) (kept c.block-body.auto) c.in-Done-body.is in
+          let p2 = go 1 (λ x. (walkers x c.args.depth).assign) _ p1 refl c.expr-test.ensures (record { symbols = c.expr-test.auto.symbols; head = c.expr-test.auto.head; load = c.expr-test.auto.load }) c.in-Done-test.is in
+          let g3 = goes 0 (λ x. (walkers x c.args.depth).block false []) _ p2 refl t (c.block-body.ensures.does 0 (omega arith) (λ z. refl)) (record { symbols = c.block-body.auto.symbols; head = c.block-body.auto.head; load = c.block-body.auto.load }) c.in-Done-body.is in
           told g3.notes (last 0 (λ x. push x 4 false 2 0) g3.at refl (omega arith) (pushed g3.at.is c.push_node.ensures));
     }
 
@@ -407,7 +407,7 @@ else_block-returns-in_default t c =
     record {
       tells = λ E e t. let p0 = begin 1 (λ x. else_block x (walkers x c.args.depth)) E e c.requires.0 in
           told t (stop 1 (λ x. consume x) _ p0 refl (omega arith) (pass p0.is c.consume-passed.ensures (λ z. let v : ⊥ = omega (arith, c.requires.2, z) in
-          v)) (not_done _ c.in_default.in_default-own.keys2));
+          v)) (not_done _ c.in_default.not-Done));
     }
 
 pub else_block-block-requires : goal.else_block-block-requires
@@ -439,7 +439,7 @@ unfolding fn_decl
 fn_decl-returns-in_default t c =
     record {
       tells = λ E e t. let p0 = begin 1 (λ x. fn_decl x (walkers x c.args.depth)) E e c.requires.0 in
-          told t (stop 1 (λ x. expect x 35) _ p0 refl (omega arith) (taken p0.is c.expect-begun.ensures c.requires.2 (λ z. omega arith)) (not_done _ c.in_default.in_default-own.keys2));
+          told t (stop 1 (λ x. expect x 35) _ p0 refl (omega arith) (taken p0.is c.expect-begun.ensures c.requires.2 (λ z. omega arith)) (not_done _ c.in_default.not-Done));
     }
 
 pub fn_decl-match_ident-named-requires : goal.fn_decl-match_ident-named-requires
@@ -458,7 +458,7 @@ fn_decl-returns-in_default-named t c =
     record {
       tells = λ E e t. let p0 = begin 1 (λ x. fn_decl x (walkers x c.args.depth)) E e c.requires.0 in
           let p1 = go 1 (λ x. expect x 35) _ p0 refl (taken p0.is c.expect-begun.ensures c.requires.2 (λ z. omega arith)) same c.in-Done.is in
-          told t (stop 0 (λ x. ident x ExpectedIdent) _ p1 refl (omega arith) (named ExpectedIdent p1.is c.match_ident-named.ensures refl) (not_done _ c.in_default-named.in_default-named-own.keys2));
+          told t (stop 0 (λ x. ident x ExpectedIdent) _ p1 refl (omega arith) (named ExpectedIdent p1.is c.match_ident-named.ensures refl) (not_done _ c.in_default-named.not-Done));
     }
 
 pub fn_decl-store_name-stored-requires : goal.fn_decl-store_name-stored-requires
@@ -479,7 +479,7 @@ fn_decl-returns-in_default-stored t c =
       tells = λ E e t. let p0 = begin 1 (λ x. fn_decl x (walkers x c.args.depth)) E e c.requires.0 in
           let p1 = go 1 (λ x. expect x 35) _ p0 refl (taken p0.is c.expect-begun.ensures c.requires.2 (λ z. omega arith)) same c.in-Done.is in
           let p2 = go 0 (λ x. ident x ExpectedIdent) _ p1 refl (named ExpectedIdent p1.is c.match_ident-named.ensures refl) same c.in-Done-named.is in
-          told t (stop 0 (λ x. store x c.in-Done.x.at Placeholder) _ p2 refl (omega arith) (put p2.is c.store_name-stored.ensures) (not_done _ c.in_default-stored.in_default-stored-own.keys2));
+          told t (stop 0 (λ x. store x c.in-Done.x.at Placeholder) _ p2 refl (omega arith) (put p2.is c.store_name-stored.ensures) (not_done _ c.in_default-stored.not-Done));
     }
 
 pub fn_decl-expect-paren-requires : goal.fn_decl-expect-paren-requires
@@ -502,7 +502,7 @@ fn_decl-returns-in_default-paren t c =
           let p1 = go 1 (λ x. expect x 35) _ p0 refl (taken p0.is c.expect-begun.ensures c.requires.2 (λ z. omega arith)) same c.in-Done.is in
           let p2 = go 0 (λ x. ident x ExpectedIdent) _ p1 refl (named ExpectedIdent p1.is c.match_ident-named.ensures refl) same c.in-Done-named.is in
           let p3 = go 0 (λ x. store x c.in-Done.x.at Placeholder) _ p2 refl (put p2.is c.store_name-stored.ensures) (kept-symbols c.store_name-stored.auto.symbols) c.in-Done-stored.is in
-          told t (stop 0 (λ x. expect x 1) _ p3 refl (omega arith) (expected p3.is c.expect-paren.ensures) (not_done _ c.in_default-paren.in_default-paren-own.keys2));
+          told t (stop 0 (λ x. expect x 1) _ p3 refl (omega arith) (expected p3.is c.expect-paren.ensures) (not_done _ c.in_default-paren.not-Done));
     }
 
 pub fn_decl-param_list-params-requires : goal.fn_decl-param_list-params-requires
@@ -527,7 +527,7 @@ fn_decl-returns-in_default-params t c =
           let p2 = go 0 (λ x. ident x ExpectedIdent) _ p1 refl (named ExpectedIdent p1.is c.match_ident-named.ensures refl) same c.in-Done-named.is in
           let p3 = go 0 (λ x. store x c.in-Done.x.at Placeholder) _ p2 refl (put p2.is c.store_name-stored.ensures) (kept-symbols c.store_name-stored.auto.symbols) c.in-Done-stored.is in
           let p4 = go 0 (λ x. expect x 1) _ p3 refl (expected p3.is c.expect-paren.ensures) same c.in-Done-paren.is in
-          told t (stop 0 (λ x. param_list x (param x) (fuel x) 0) _ p4 refl (omega arith) c.param_list-params.ensures.0 (not_done _ c.in_default-params.in_default-params-own.keys2));
+          told t (stop 0 (λ x. param_list x (param x) (fuel x) 0) _ p4 refl (omega arith) c.param_list-params.ensures.0 (not_done _ c.in_default-params.not-Done));
     }
 
 pub fn_decl-fn_rest-requires : goal.fn_decl-fn_rest-requires
@@ -541,7 +541,7 @@ fn_decl-fn_rest-requires t c =
     let p2 = go 0 (λ x. ident x ExpectedIdent) _ p1 refl (named ExpectedIdent p1.is c.match_ident-named.ensures refl) same c.in-Done-named.is in
     let p3 = go 0 (λ x. store x c.in-Done.x.at Placeholder) _ p2 refl (put p2.is c.store_name-stored.ensures) (kept-symbols c.store_name-stored.auto.symbols) c.in-Done-stored.is in
     let p4 = go 0 (λ x. expect x 1) _ p3 refl (expected p3.is c.expect-paren.ensures) same c.in-Done-paren.is in
-    let p5 = go 0 (λ x. param_list x (param x) (fuel x) 0) _ p4 refl c.param_list-params.ensures.0 (kept c.param_list-params.auto) c.in-Done-params.is in
+    let p5 = go 0 (λ x. param_list x (param x) (fuel x) 0) _ p4 refl c.param_list-params.ensures.0 (record { symbols = c.param_list-params.auto.symbols; head = c.param_list-params.auto.head; load = c.param_list-params.auto.load }) c.in-Done-params.is in
     (omega (arith, c.decreases), (p5.is, book c.requires.1 t p5, omega (arith, p1.is.stands.here, p1.is.stands.toks.few), count_at c.param_list-params.ensures.1 c.in-Done-params.is, count-used c.param_list-params.ensures.2 c.in-Done-params.is))
 
 pub fn_decl-returns : goal.fn_decl-returns
@@ -553,7 +553,7 @@ fn_decl-returns t c =
           let p2 = go 0 (λ x. ident x ExpectedIdent) _ p1 refl (named ExpectedIdent p1.is c.match_ident-named.ensures refl) same c.in-Done-named.is in
           let p3 = go 0 (λ x. store x c.in-Done.x.at Placeholder) _ p2 refl (put p2.is c.store_name-stored.ensures) (kept-symbols c.store_name-stored.auto.symbols) c.in-Done-stored.is in
           let p4 = go 0 (λ x. expect x 1) _ p3 refl (expected p3.is c.expect-paren.ensures) same c.in-Done-paren.is in
-          let p5 = go 0 (λ x. param_list x (param x) (fuel x) 0) _ p4 refl c.param_list-params.ensures.0 (kept c.param_list-params.auto) c.in-Done-params.is in
+          let p5 = go 0 (λ x. param_list x (param x) (fuel x) 0) _ p4 refl c.param_list-params.ensures.0 (record { symbols = c.param_list-params.auto.symbols; head = c.param_list-params.auto.head; load = c.param_list-params.auto.load }) c.in-Done-params.is in
           lasts 0 (λ x. fn_rest x (walkers x c.args.depth) c.in-Done.x.at c.in-Done-params.v.count) p5 refl (omega arith) t c.fn_rest.ensures;
     }
 
@@ -571,7 +571,7 @@ fn_rest-returns-in_default t c =
     record {
       tells = λ E e t. let p0 = begin 0 (λ x. fn_rest x (walkers x c.args.depth) c.args.i c.args.n) E e c.requires.0 in
           let p1 = read _ p0 in
-          told t (stop 0 (λ x. push x 10 false c.args.n 0) _ p1 refl (omega arith) (pushed-as p1.is c.head_word.ensures c.push_node-made.ensures) (not_done _ c.in_default.in_default-own.keys2));
+          told t (stop 0 (λ x. push x 10 false c.args.n 0) _ p1 refl (omega arith) (pushed-as p1.is c.head_word.ensures c.push_node-made.ensures) (not_done _ c.in_default.not-Done));
     }
 
 pub fn_rest-expect-paren-requires : goal.fn_rest-expect-paren-requires
@@ -590,7 +590,7 @@ fn_rest-returns-in_default-paren t c =
       tells = λ E e t. let p0 = begin 0 (λ x. fn_rest x (walkers x c.args.depth) c.args.i c.args.n) E e c.requires.0 in
           let p1 = read _ p0 in
           let p2 = go 0 (λ x. push x 10 false c.args.n 0) _ p1 refl (pushed-as p1.is c.head_word.ensures c.push_node-made.ensures) (kept-nodes c.push_node-made.auto.head c.push_node-made.auto.load) c.in-Done.is in
-          told t (stop 0 (λ x. expect x 2) _ p2 refl (omega arith) (expected p2.is c.expect-paren.ensures) (not_done _ c.in_default-paren.in_default-paren-own.keys2));
+          told t (stop 0 (λ x. expect x 2) _ p2 refl (omega arith) (expected p2.is c.expect-paren.ensures) (not_done _ c.in_default-paren.not-Done));
     }
 
 pub fn_rest-block-body-requires : goal.fn_rest-block-body-requires
@@ -612,7 +612,7 @@ fn_rest-returns-in_default-body t c =
           let p2 = go 0 (λ x. push x 10 false c.args.n 0) _ p1 refl (pushed-as p1.is c.head_word.ensures c.push_node-made.ensures) (kept-nodes c.push_node-made.auto.head c.push_node-made.auto.load) c.in-Done.is in
           let p3 = go 0 (λ x. expect x 2) _ p2 refl (expected p2.is c.expect-paren.ensures) same c.in-Done-paren.is in
           let p4 = block-named c.args.depth true _ _ p3 (names-kept 10 c.args.n 0 false c.args.n c.requires.0 (pushed-as c.requires.0 c.head_word.ensures c.push_node-made.ensures) c.in-Done.is c.requires.4) in
-          stops 0 _ _ p4 refl (omega arith) t (c.block-body.ensures.does 0 (omega arith) (λ z. refl)) (not_done _ c.in_default-body.in_default-body-own.keys2);
+          stops 0 _ _ p4 refl (omega arith) t (c.block-body.ensures.does 0 (omega arith) (λ z. refl)) (not_done _ c.in_default-body.not-Done);
     }
 
 pub fn_rest-overflow_cast-i : goal.fn_rest-overflow_cast-i
@@ -628,7 +628,7 @@ fn_rest-push_node-done-requires t c =
     let p2 = go 0 (λ x. push x 10 false c.args.n 0) _ p1 refl (pushed-as p1.is c.head_word.ensures c.push_node-made.ensures) (kept-nodes c.push_node-made.auto.head c.push_node-made.auto.load) c.in-Done.is in
     let p3 = go 0 (λ x. expect x 2) _ p2 refl (expected p2.is c.expect-paren.ensures) same c.in-Done-paren.is in
     let p4 = block-named c.args.depth true _ _ p3 (names-kept 10 c.args.n 0 false c.args.n c.requires.0 (pushed-as c.requires.0 c.head_word.ensures c.push_node-made.ensures) c.in-Done.is c.requires.4) in
-    let g5 = goes 0 _ _ p4 refl t (c.block-body.ensures.does 0 (omega arith) (λ z. refl)) (kept c.block-body.auto) c.in-Done-body.is in
+    let g5 = goes 0 _ _ p4 refl t (c.block-body.ensures.does 0 (omega arith) (λ z. refl)) (record { symbols = c.block-body.auto.symbols; head = c.block-body.auto.head; load = c.block-body.auto.load }) c.in-Done-body.is in
     (g5.at.is.even, g5.at.is.used)
 
 pub fn_rest-returns-in_default-done : goal.fn_rest-returns-in_default-done
@@ -639,8 +639,8 @@ fn_rest-returns-in_default-done t c =
           let p2 = go 0 (λ x. push x 10 false c.args.n 0) _ p1 refl (pushed-as p1.is c.head_word.ensures c.push_node-made.ensures) (kept-nodes c.push_node-made.auto.head c.push_node-made.auto.load) c.in-Done.is in
           let p3 = go 0 (λ x. expect x 2) _ p2 refl (expected p2.is c.expect-paren.ensures) same c.in-Done-paren.is in
           let p4 = block-named c.args.depth true _ _ p3 (names-kept 10 c.args.n 0 false c.args.n c.requires.0 (pushed-as c.requires.0 c.head_word.ensures c.push_node-made.ensures) c.in-Done.is c.requires.4) in
-          let g5 = goes 0 _ _ p4 refl t (c.block-body.ensures.does 0 (omega arith) (λ z. refl)) (kept c.block-body.auto) c.in-Done-body.is in
-          told g5.notes (stop 0 (λ x. push x 9 false 2 c.args.i) _ g5.at refl (omega arith) (pushed g5.at.is c.push_node-done.ensures) (not_done _ c.in_default-done.in_default-done-own.keys2));
+          let g5 = goes 0 _ _ p4 refl t (c.block-body.ensures.does 0 (omega arith) (λ z. refl)) (record { symbols = c.block-body.auto.symbols; head = c.block-body.auto.head; load = c.block-body.auto.load }) c.in-Done-body.is in
+          told g5.notes (stop 0 (λ x. push x 9 false 2 c.args.i) _ g5.at refl (omega arith) (pushed g5.at.is c.push_node-done.ensures) (not_done _ c.in_default-done.not-Done));
     }
 
 pub fn_rest-store_name-requires : goal.fn_rest-store_name-requires
@@ -653,7 +653,7 @@ fn_rest-store_name-requires t c =
     let p2 = go 0 (λ x. push x 10 false c.args.n 0) _ p1 refl (pushed-as p1.is c.head_word.ensures c.push_node-made.ensures) (kept-nodes c.push_node-made.auto.head c.push_node-made.auto.load) c.in-Done.is in
     let p3 = go 0 (λ x. expect x 2) _ p2 refl (expected p2.is c.expect-paren.ensures) same c.in-Done-paren.is in
     let p4 = block-named c.args.depth true _ _ p3 (names-kept 10 c.args.n 0 false c.args.n c.requires.0 (pushed-as c.requires.0 c.head_word.ensures c.push_node-made.ensures) c.in-Done.is c.requires.4) in
-    let g5 = goes 0 _ _ p4 refl t (c.block-body.ensures.does 0 (omega arith) (λ z. refl)) (kept c.block-body.auto) c.in-Done-body.is in
+    let g5 = goes 0 _ _ p4 refl t (c.block-body.ensures.does 0 (omega arith) (λ z. refl)) (record { symbols = c.block-body.auto.symbols; head = c.block-body.auto.head; load = c.block-body.auto.load }) c.in-Done-body.is in
     let p6 = go 0 (λ x. push x 9 false 2 c.args.i) _ g5.at refl (pushed g5.at.is c.push_node-done.ensures) (kept-nodes c.push_node-done.auto.head c.push_node-done.auto.load) c.in-Done-done.is in
     fits-function p6.is c.requires.2 c.requires.3
 
@@ -665,7 +665,7 @@ fn_rest-returns t c =
           let p2 = go 0 (λ x. push x 10 false c.args.n 0) _ p1 refl (pushed-as p1.is c.head_word.ensures c.push_node-made.ensures) (kept-nodes c.push_node-made.auto.head c.push_node-made.auto.load) c.in-Done.is in
           let p3 = go 0 (λ x. expect x 2) _ p2 refl (expected p2.is c.expect-paren.ensures) same c.in-Done-paren.is in
           let p4 = block-named c.args.depth true _ _ p3 (names-kept 10 c.args.n 0 false c.args.n c.requires.0 (pushed-as c.requires.0 c.head_word.ensures c.push_node-made.ensures) c.in-Done.is c.requires.4) in
-          let g5 = goes 0 _ _ p4 refl t (c.block-body.ensures.does 0 (omega arith) (λ z. refl)) (kept c.block-body.auto) c.in-Done-body.is in
+          let g5 = goes 0 _ _ p4 refl t (c.block-body.ensures.does 0 (omega arith) (λ z. refl)) (record { symbols = c.block-body.auto.symbols; head = c.block-body.auto.head; load = c.block-body.auto.load }) c.in-Done-body.is in
           let p6 = go 0 (λ x. push x 9 false 2 c.args.i) _ g5.at refl (pushed g5.at.is c.push_node-done.ensures) (kept-nodes c.push_node-done.auto.head c.push_node-done.auto.load) c.in-Done-done.is in
           told g5.notes (last 0 (λ x. store x c.args.i (Function c.args.n)) p6 refl (omega arith) (put p6.is c.store_name.ensures));
     }
@@ -677,7 +677,7 @@ pub for_rest-returns-in_default : goal.for_rest-returns-in_default
 for_rest-returns-in_default t c =
     record {
       tells = λ E e t. let p0 = begin 0 (λ x. for_rest x (walkers x c.args.depth) c.args.i c.args.j) E e c.requires.0 in
-          told t (stop 1 (λ x. (walkers x c.args.depth).assign) _ p0 refl (omega arith) c.expr-range.ensures (not_done _ c.in_default.in_default-own.keys2));
+          told t (stop 1 (λ x. (walkers x c.args.depth).assign) _ p0 refl (omega arith) c.expr-range.ensures (not_done _ c.in_default.not-Done));
     }
 
 pub for_rest-block-body-requires : goal.for_rest-block-body-requires
@@ -686,15 +686,15 @@ for_rest-block-body-requires t c =
     let e = c.requires.1.count in
     let t = c.requires.1.notes in
     let p0 = begin 0 (λ x. for_rest x (walkers x c.args.depth) c.args.i c.args.j) E e c.requires.0 in
-    let p1 = go 1 (λ x. (walkers x c.args.depth).assign) _ p0 refl c.expr-range.ensures (kept c.expr-range.auto) c.in-Done.is in
+    let p1 = go 1 (λ x. (walkers x c.args.depth).assign) _ p0 refl c.expr-range.ensures (record { symbols = c.expr-range.auto.symbols; head = c.expr-range.auto.head; load = c.expr-range.auto.load }) c.in-Done.is in
     (omega (arith, c.decreases), (p1.is, book c.requires.1 t p1, (c.requires.2, c.requires.3)))
 
 pub for_rest-returns-in_default-body : goal.for_rest-returns-in_default-body
 for_rest-returns-in_default-body t c =
     record {
       tells = λ E e t. let p0 = begin 0 (λ x. for_rest x (walkers x c.args.depth) c.args.i c.args.j) E e c.requires.0 in
-          let p1 = go 1 (λ x. (walkers x c.args.depth).assign) _ p0 refl c.expr-range.ensures (kept c.expr-range.auto) c.in-Done.is in
-          stops 0 (λ x. (walkers x c.args.depth).block false (c.args.i ∷ c.args.j ∷ [])) _ p1 refl (omega arith) t (c.block-body.ensures.does 0 (omega arith) (λ z. refl)) (not_done _ c.in_default-body.in_default-body-own.keys2);
+          let p1 = go 1 (λ x. (walkers x c.args.depth).assign) _ p0 refl c.expr-range.ensures (record { symbols = c.expr-range.auto.symbols; head = c.expr-range.auto.head; load = c.expr-range.auto.load }) c.in-Done.is in
+          stops 0 (λ x. (walkers x c.args.depth).block false (c.args.i ∷ c.args.j ∷ [])) _ p1 refl (omega arith) t (c.block-body.ensures.does 0 (omega arith) (λ z. refl)) (not_done _ c.in_default-body.not-Done);
     }
 
 pub for_rest-push_node-requires : goal.for_rest-push_node-requires
@@ -703,16 +703,16 @@ for_rest-push_node-requires t c =
     let e = c.requires.1.count in
     let t = c.requires.1.notes in
     let p0 = begin 0 (λ x. for_rest x (walkers x c.args.depth) c.args.i c.args.j) E e c.requires.0 in
-    let p1 = go 1 (λ x. (walkers x c.args.depth).assign) _ p0 refl c.expr-range.ensures (kept c.expr-range.auto) c.in-Done.is in
-    let g2 = goes 0 (λ x. (walkers x c.args.depth).block false (c.args.i ∷ c.args.j ∷ [])) _ p1 refl t (c.block-body.ensures.does 0 (omega arith) (λ z. refl)) (kept c.block-body.auto) c.in-Done-body.is in
+    let p1 = go 1 (λ x. (walkers x c.args.depth).assign) _ p0 refl c.expr-range.ensures (record { symbols = c.expr-range.auto.symbols; head = c.expr-range.auto.head; load = c.expr-range.auto.load }) c.in-Done.is in
+    let g2 = goes 0 (λ x. (walkers x c.args.depth).block false (c.args.i ∷ c.args.j ∷ [])) _ p1 refl t (c.block-body.ensures.does 0 (omega arith) (λ z. refl)) (record { symbols = c.block-body.auto.symbols; head = c.block-body.auto.head; load = c.block-body.auto.load }) c.in-Done-body.is in
     (g2.at.is.even, g2.at.is.used)
 
 pub for_rest-returns : goal.for_rest-returns
 for_rest-returns t c =
     record {
       tells = λ E e t. let p0 = begin 0 (λ x. for_rest x (walkers x c.args.depth) c.args.i c.args.j) E e c.requires.0 in
-          let p1 = go 1 (λ x. (walkers x c.args.depth).assign) _ p0 refl c.expr-range.ensures (kept c.expr-range.auto) c.in-Done.is in
-          let g2 = goes 0 (λ x. (walkers x c.args.depth).block false (c.args.i ∷ c.args.j ∷ [])) _ p1 refl t (c.block-body.ensures.does 0 (omega arith) (λ z. refl)) (kept c.block-body.auto) c.in-Done-body.is in
+          let p1 = go 1 (λ x. (walkers x c.args.depth).assign) _ p0 refl c.expr-range.ensures (record { symbols = c.expr-range.auto.symbols; head = c.expr-range.auto.head; load = c.expr-range.auto.load }) c.in-Done.is in
+          let g2 = goes 0 (λ x. (walkers x c.args.depth).block false (c.args.i ∷ c.args.j ∷ [])) _ p1 refl t (c.block-body.ensures.does 0 (omega arith) (λ z. refl)) (record { symbols = c.block-body.auto.symbols; head = c.block-body.auto.head; load = c.block-body.auto.load }) c.in-Done-body.is in
           told g2.notes (last 0 (λ x. push x 5 false 3 0) g2.at refl (omega arith) (pushed g2.at.is c.push_node.ensures));
     }
 
@@ -724,7 +724,7 @@ unfolding for_stmt
 for_stmt-returns-in_default t c =
     record {
       tells = λ E e t. let p0 = begin 1 (λ x. for_stmt x (walkers x c.args.depth)) E e c.requires.0 in
-          told t (stop 1 (λ x. expect x 42) _ p0 refl (omega arith) (taken p0.is c.expect-begun.ensures c.requires.2 (λ z. omega arith)) (not_done _ c.in_default.in_default-own.keys2));
+          told t (stop 1 (λ x. expect x 42) _ p0 refl (omega arith) (taken p0.is c.expect-begun.ensures c.requires.2 (λ z. omega arith)) (not_done _ c.in_default.not-Done));
     }
 
 pub for_stmt-ident_pair-pair-requires : goal.for_stmt-ident_pair-pair-requires
@@ -743,7 +743,7 @@ for_stmt-returns-in_default-pair t c =
     record {
       tells = λ E e t. let p0 = begin 1 (λ x. for_stmt x (walkers x c.args.depth)) E e c.requires.0 in
           let p1 = go 1 (λ x. expect x 42) _ p0 refl (taken p0.is c.expect-begun.ensures c.requires.2 (λ z. omega arith)) same c.in-Done.is in
-          told t (stop 0 (λ x. ident_pair x) _ p1 refl (omega arith) c.ident_pair-pair.ensures.0 (not_done _ c.in_default-pair.in_default-pair-own.keys2));
+          told t (stop 0 (λ x. ident_pair x) _ p1 refl (omega arith) c.ident_pair-pair.ensures.0 (not_done _ c.in_default-pair.not-Done));
     }
 
 pub for_stmt-expect-over-requires : goal.for_stmt-expect-over-requires
@@ -754,7 +754,7 @@ for_stmt-expect-over-requires t c =
     let t = c.requires.1.notes in
     let p0 = begin 1 (λ x. for_stmt x (walkers x c.args.depth)) E e c.requires.0 in
     let p1 = go 1 (λ x. expect x 42) _ p0 refl (taken p0.is c.expect-begun.ensures c.requires.2 (λ z. omega arith)) same c.in-Done.is in
-    let p2 = go 0 (λ x. ident_pair x) _ p1 refl c.ident_pair-pair.ensures.0 (kept c.ident_pair-pair.auto) c.in-Done-pair.is in
+    let p2 = go 0 (λ x. ident_pair x) _ p1 refl c.ident_pair-pair.ensures.0 (record { symbols = c.ident_pair-pair.auto.symbols; head = c.ident_pair-pair.auto.head; load = c.ident_pair-pair.auto.load }) c.in-Done-pair.is in
     p2.is.stands
 
 pub for_stmt-returns-in_default-over : goal.for_stmt-returns-in_default-over
@@ -763,8 +763,8 @@ for_stmt-returns-in_default-over t c =
     record {
       tells = λ E e t. let p0 = begin 1 (λ x. for_stmt x (walkers x c.args.depth)) E e c.requires.0 in
           let p1 = go 1 (λ x. expect x 42) _ p0 refl (taken p0.is c.expect-begun.ensures c.requires.2 (λ z. omega arith)) same c.in-Done.is in
-          let p2 = go 0 (λ x. ident_pair x) _ p1 refl c.ident_pair-pair.ensures.0 (kept c.ident_pair-pair.auto) c.in-Done-pair.is in
-          told t (stop 0 (λ x. expect x 43) _ p2 refl (omega arith) (expected p2.is c.expect-over.ensures) (not_done _ c.in_default-over.in_default-over-own.keys2));
+          let p2 = go 0 (λ x. ident_pair x) _ p1 refl c.ident_pair-pair.ensures.0 (record { symbols = c.ident_pair-pair.auto.symbols; head = c.ident_pair-pair.auto.head; load = c.ident_pair-pair.auto.load }) c.in-Done-pair.is in
+          told t (stop 0 (λ x. expect x 43) _ p2 refl (omega arith) (expected p2.is c.expect-over.ensures) (not_done _ c.in_default-over.not-Done));
     }
 
 pub for_stmt-for_rest-requires : goal.for_stmt-for_rest-requires
@@ -775,7 +775,7 @@ for_stmt-for_rest-requires t c =
     let t = c.requires.1.notes in
     let p0 = begin 1 (λ x. for_stmt x (walkers x c.args.depth)) E e c.requires.0 in
     let p1 = go 1 (λ x. expect x 42) _ p0 refl (taken p0.is c.expect-begun.ensures c.requires.2 (λ z. omega arith)) same c.in-Done.is in
-    let p2 = go 0 (λ x. ident_pair x) _ p1 refl c.ident_pair-pair.ensures.0 (kept c.ident_pair-pair.auto) c.in-Done-pair.is in
+    let p2 = go 0 (λ x. ident_pair x) _ p1 refl c.ident_pair-pair.ensures.0 (record { symbols = c.ident_pair-pair.auto.symbols; head = c.ident_pair-pair.auto.head; load = c.ident_pair-pair.auto.load }) c.in-Done-pair.is in
     let p3 = go 0 (λ x. expect x 43) _ p2 refl (expected p2.is c.expect-over.ensures) same c.in-Done-over.is in
     (omega (arith, c.decreases), (p3.is, book c.requires.1 t p3, omega (arith, p1.is.stands.here, p1.is.stands.toks.few), count-below c.ident_pair-pair.ensures.1 c.in-Done-pair.is))
 
@@ -785,7 +785,7 @@ for_stmt-returns t c =
     record {
       tells = λ E e t. let p0 = begin 1 (λ x. for_stmt x (walkers x c.args.depth)) E e c.requires.0 in
           let p1 = go 1 (λ x. expect x 42) _ p0 refl (taken p0.is c.expect-begun.ensures c.requires.2 (λ z. omega arith)) same c.in-Done.is in
-          let p2 = go 0 (λ x. ident_pair x) _ p1 refl c.ident_pair-pair.ensures.0 (kept c.ident_pair-pair.auto) c.in-Done-pair.is in
+          let p2 = go 0 (λ x. ident_pair x) _ p1 refl c.ident_pair-pair.ensures.0 (record { symbols = c.ident_pair-pair.auto.symbols; head = c.ident_pair-pair.auto.head; load = c.ident_pair-pair.auto.load }) c.in-Done-pair.is in
           let p3 = go 0 (λ x. expect x 43) _ p2 refl (expected p2.is c.expect-over.ensures) same c.in-Done-over.is in
           lasts 0 (λ x. for_rest x (walkers x c.args.depth) c.in-Done.x.at c.in-Done-pair.y.count) p3 refl (omega arith) t c.for_rest.ensures;
     }
@@ -798,7 +798,7 @@ unfolding if_stmt
 if_stmt-returns-in_default t c =
     record {
       tells = λ E e t. let p0 = begin 1 (λ x. if_stmt x (walkers x c.args.depth)) E e c.requires.0 in
-          told t (stop 1 (λ x. expect x 39) _ p0 refl (omega arith) (taken p0.is c.expect-begun.ensures c.requires.2 (λ z. omega arith)) (not_done _ c.in_default.in_default-own.keys2));
+          told t (stop 1 (λ x. expect x 39) _ p0 refl (omega arith) (taken p0.is c.expect-begun.ensures c.requires.2 (λ z. omega arith)) (not_done _ c.in_default.not-Done));
     }
 
 pub if_stmt-expr-test-requires : goal.if_stmt-expr-test-requires
@@ -817,7 +817,7 @@ if_stmt-returns-in_default-test t c =
     record {
       tells = λ E e t. let p0 = begin 1 (λ x. if_stmt x (walkers x c.args.depth)) E e c.requires.0 in
           let p1 = go 1 (λ x. expect x 39) _ p0 refl (taken p0.is c.expect-begun.ensures c.requires.2 (λ z. omega arith)) same c.in-Done.is in
-          told t (stop 1 (λ x. (walkers x c.args.depth).assign) _ p1 refl (omega arith) c.expr-test.ensures (not_done _ c.in_default-test.in_default-test-own.keys2));
+          told t (stop 1 (λ x. (walkers x c.args.depth).assign) _ p1 refl (omega arith) c.expr-test.ensures (not_done _ c.in_default-test.not-Done));
     }
 
 pub if_stmt-block-body-requires : goal.if_stmt-block-body-requires
@@ -828,7 +828,7 @@ if_stmt-block-body-requires t c =
     let t = c.requires.1.notes in
     let p0 = begin 1 (λ x. if_stmt x (walkers x c.args.depth)) E e c.requires.0 in
     let p1 = go 1 (λ x. expect x 39) _ p0 refl (taken p0.is c.expect-begun.ensures c.requires.2 (λ z. omega arith)) same c.in-Done.is in
-    let p2 = go 1 (λ x. (walkers x c.args.depth).assign) _ p1 refl c.expr-test.ensures (kept c.expr-test.auto) c.in-Done-test.is in
+    let p2 = go 1 (λ x. (walkers x c.args.depth).assign) _ p1 refl c.expr-test.ensures (record { symbols = c.expr-test.auto.symbols; head = c.expr-test.auto.head; load = c.expr-test.auto.load }) c.in-Done-test.is in
     (omega (arith, c.decreases), (p2.is, book c.requires.1 t p2, tt))
 
 pub if_stmt-returns-in_default-body : goal.if_stmt-returns-in_default-body
@@ -837,8 +837,8 @@ if_stmt-returns-in_default-body t c =
     record {
       tells = λ E e t. let p0 = begin 1 (λ x. if_stmt x (walkers x c.args.depth)) E e c.requires.0 in
           let p1 = go 1 (λ x. expect x 39) _ p0 refl (taken p0.is c.expect-begun.ensures c.requires.2 (λ z. omega arith)) same c.in-Done.is in
-          let p2 = go 1 (λ x. (walkers x c.args.depth).assign) _ p1 refl c.expr-test.ensures (kept c.expr-test.auto) c.in-Done-test.is in
-          stops 0 (λ x. (walkers x c.args.depth).block false []) _ p2 refl (omega arith) t (c.block-body.ensures.does 0 (omega arith) (λ z. refl)) (not_done _ c.in_default-body.in_default-body-own.keys2);
+          let p2 = go 1 (λ x. (walkers x c.args.depth).assign) _ p1 refl c.expr-test.ensures (record { symbols = c.expr-test.auto.symbols; head = c.expr-test.auto.head; load = c.expr-test.auto.load }) c.in-Done-test.is in
+          stops 0 (λ x. (walkers x c.args.depth).block false []) _ p2 refl (omega arith) t (c.block-body.ensures.does 0 (omega arith) (λ z. refl)) (not_done _ c.in_default-body.not-Done);
     }
 
 pub if_stmt-branches-requires : goal.if_stmt-branches-requires
@@ -849,8 +849,8 @@ if_stmt-branches-requires t c =
     let t = c.requires.1.notes in
     let p0 = begin 1 (λ x. if_stmt x (walkers x c.args.depth)) E e c.requires.0 in
     let p1 = go 1 (λ x. expect x 39) _ p0 refl (taken p0.is c.expect-begun.ensures c.requires.2 (λ z. omega arith)) same c.in-Done.is in
-    let p2 = go 1 (λ x. (walkers x c.args.depth).assign) _ p1 refl c.expr-test.ensures (kept c.expr-test.auto) c.in-Done-test.is in
-    let g3 = goes 0 (λ x. (walkers x c.args.depth).block false []) _ p2 refl t (c.block-body.ensures.does 0 (omega arith) (λ z. refl)) (kept c.block-body.auto) c.in-Done-body.is in
+    let p2 = go 1 (λ x. (walkers x c.args.depth).assign) _ p1 refl c.expr-test.ensures (record { symbols = c.expr-test.auto.symbols; head = c.expr-test.auto.head; load = c.expr-test.auto.load }) c.in-Done-test.is in
+    let g3 = goes 0 (λ x. (walkers x c.args.depth).block false []) _ p2 refl t (c.block-body.ensures.does 0 (omega arith) (λ z. refl)) (record { symbols = c.block-body.auto.symbols; head = c.block-body.auto.head; load = c.block-body.auto.load }) c.in-Done-body.is in
     (omega (arith, c.decreases), (g3.at.is, book-on c.requires.1 c.block-body.auto.places c.block-body.auto.reasons g3, omega (arith, ahead_of (taken p0.is c.expect-begun.ensures c.requires.2 (λ z. omega arith)) c.in-Done.is, ahead_of c.expr-test.ensures c.in-Done-test.is, aheads 0 (λ x. (walkers x c.args.depth).block false []) (book c.requires.1 t p2) p2.is (c.block-body.ensures.does 0 (omega arith) (λ z. refl)) c.in-Done-body.is)))
 
 pub if_stmt-returns : goal.if_stmt-returns
@@ -859,8 +859,8 @@ if_stmt-returns t c =
     record {
       tells = λ E e t. let p0 = begin 1 (λ x. if_stmt x (walkers x c.args.depth)) E e c.requires.0 in
           let p1 = go 1 (λ x. expect x 39) _ p0 refl (taken p0.is c.expect-begun.ensures c.requires.2 (λ z. omega arith)) same c.in-Done.is in
-          let p2 = go 1 (λ x. (walkers x c.args.depth).assign) _ p1 refl c.expr-test.ensures (kept c.expr-test.auto) c.in-Done-test.is in
-          let g3 = goes 0 (λ x. (walkers x c.args.depth).block false []) _ p2 refl t (c.block-body.ensures.does 0 (omega arith) (λ z. refl)) (kept c.block-body.auto) c.in-Done-body.is in
+          let p2 = go 1 (λ x. (walkers x c.args.depth).assign) _ p1 refl c.expr-test.ensures (record { symbols = c.expr-test.auto.symbols; head = c.expr-test.auto.head; load = c.expr-test.auto.load }) c.in-Done-test.is in
+          let g3 = goes 0 (λ x. (walkers x c.args.depth).block false []) _ p2 refl t (c.block-body.ensures.does 0 (omega arith) (λ z. refl)) (record { symbols = c.block-body.auto.symbols; head = c.block-body.auto.head; load = c.block-body.auto.load }) c.in-Done-body.is in
           lasts 0 (λ x. branches_of x (walkers x c.args.depth) (fuel x) 0 0) g3.at refl (omega arith) g3.notes c.branches.ensures;
     }
 

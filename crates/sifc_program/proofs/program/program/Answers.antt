@@ -43,16 +43,16 @@ pub overflow_add-n : goal.overflow_add-n
 overflow_add-n c = omega (arith, c.loop-lim.invariant.few, c.loop-lim.invariant.is.stands.here, c.loop-lim.invariant.is.stands.toks.few)
 
 pub loop-lim-smaller-in-Done : goal.loop-lim-smaller-in-Done
-loop-lim-smaller-in-Done c = omega (arith, read-ahead c.loop-lim.invariant (λ z. c.if-kind_at-eq-EOF.false (c.kind_at.ensures ∙ z)) c.decl-one.ensures (kept c.decl-one.auto) c.decl-one.auto.1.1.1.1.1.1.0 c.decl-one.auto.1.1.1.1.1.1.1.0 c.in-Done.is, c.loop-lim.invariant.few, c.loop-lim.invariant.is.stands.here, c.loop-lim.invariant.is.stands.toks.few)
+loop-lim-smaller-in-Done c = omega (arith, read-ahead c.loop-lim.invariant (λ z. c.if-kind_at-eq-EOF.false (c.kind_at.ensures ∙ z)) c.decl-one.ensures (record { symbols = c.decl-one.auto.symbols; head = c.decl-one.auto.head; load = c.decl-one.auto.load }) c.decl-one.auto.1.1.1.1.1.1.0 c.decl-one.auto.1.1.1.1.1.1.1.0 c.in-Done.is, c.loop-lim.invariant.few, c.loop-lim.invariant.is.stands.here, c.loop-lim.invariant.is.stands.toks.few)
 
 pub loop-lim-preserved-in-Done : goal.loop-lim-preserved-in-Done
-loop-lim-preserved-in-Done c = parsed c.loop-lim.invariant (λ z. c.if-kind_at-eq-EOF.false (c.kind_at.ensures ∙ z)) c.decl-one.ensures (kept c.decl-one.auto) c.decl-one.auto.1.1.1.1.1.1.0 c.decl-one.auto.1.1.1.1.1.1.1.0 c.in-Done.is
+loop-lim-preserved-in-Done c = parsed c.loop-lim.invariant (λ z. c.if-kind_at-eq-EOF.false (c.kind_at.ensures ∙ z)) c.decl-one.ensures (record { symbols = c.decl-one.auto.symbols; head = c.decl-one.auto.head; load = c.decl-one.auto.load }) c.decl-one.auto.1.1.1.1.1.1.0 c.decl-one.auto.1.1.1.1.1.1.1.0 c.in-Done.is
 
 pub note_failure-noted-requires : goal.note_failure-noted-requires
-note_failure-noted-requires c = noting c.loop-lim.invariant (λ z. c.if-kind_at-eq-EOF.false (c.kind_at.ensures ∙ z)) c.decl-one.ensures (kept c.decl-one.auto) c.decl-one.auto.1.1.1.1.1.1.0 c.decl-one.auto.1.1.1.1.1.1.1.0 c.in-Failed.is
+note_failure-noted-requires c = noting c.loop-lim.invariant (λ z. c.if-kind_at-eq-EOF.false (c.kind_at.ensures ∙ z)) c.decl-one.ensures (record { symbols = c.decl-one.auto.symbols; head = c.decl-one.auto.head; load = c.decl-one.auto.load }) c.decl-one.auto.1.1.1.1.1.1.0 c.decl-one.auto.1.1.1.1.1.1.1.0 c.in-Failed.is
 
 pub end_read-requires-then-not-goes_on : goal.end_read-requires-then-not-goes_on
-end_read-requires-then-not-goes_on c = (back-even c.loop-lim.invariant (λ z. c.if-kind_at-eq-EOF.false (c.kind_at.ensures ∙ z)) c.decl-one.ensures (kept c.decl-one.auto) c.decl-one.auto.1.1.1.1.1.1.0 c.decl-one.auto.1.1.1.1.1.1.1.0 c.in-Failed.is c.note_failure-noted.ensures.1 c.note_failure-noted.auto.0 c.note_failure-noted.auto.1.0 c.back_to-x.ensures, back-used c.loop-lim.invariant (λ z. c.if-kind_at-eq-EOF.false (c.kind_at.ensures ∙ z)) c.decl-one.ensures (kept c.decl-one.auto) c.decl-one.auto.1.1.1.1.1.1.0 c.decl-one.auto.1.1.1.1.1.1.1.0 c.in-Failed.is c.note_failure-noted.ensures.1 c.note_failure-noted.auto.0 c.note_failure-noted.auto.1.0 c.back_to-x.ensures, omega (arith, c.loop-lim.invariant.few, c.loop-lim.invariant.is.stands.here, c.loop-lim.invariant.is.stands.toks.few))
+end_read-requires-then-not-goes_on c = (back-even c.loop-lim.invariant (λ z. c.if-kind_at-eq-EOF.false (c.kind_at.ensures ∙ z)) c.decl-one.ensures (record { symbols = c.decl-one.auto.symbols; head = c.decl-one.auto.head; load = c.decl-one.auto.load }) c.decl-one.auto.1.1.1.1.1.1.0 c.decl-one.auto.1.1.1.1.1.1.1.0 c.in-Failed.is c.note_failure-noted.ensures.1 c.note_failure-noted.auto.0 c.note_failure-noted.auto.1.0 c.back_to-x.ensures, back-used c.loop-lim.invariant (λ z. c.if-kind_at-eq-EOF.false (c.kind_at.ensures ∙ z)) c.decl-one.ensures (record { symbols = c.decl-one.auto.symbols; head = c.decl-one.auto.head; load = c.decl-one.auto.load }) c.decl-one.auto.1.1.1.1.1.1.0 c.decl-one.auto.1.1.1.1.1.1.1.0 c.in-Failed.is c.note_failure-noted.ensures.1 c.note_failure-noted.auto.0 c.note_failure-noted.auto.1.0 c.back_to-x.ensures, omega (arith, c.loop-lim.invariant.few, c.loop-lim.invariant.is.stands.here, c.loop-lim.invariant.is.stands.toks.few))
 
 pub shape_of-symbols-then-not-goes_on : goal.shape_of-symbols-then-not-goes_on
 shape_of-symbols-then-not-goes_on c = c.decl-one.auto.1.1.1.0 ∙ c.loop-lim.invariant.kept.symbols
@@ -70,13 +70,13 @@ pub shape_of-reasons-then-not-goes_on : goal.shape_of-reasons-then-not-goes_on
 shape_of-reasons-then-not-goes_on c = c.note_failure-noted.auto.1.0 ∙ c.decl-one.auto.1.1.1.1.1.1.1.0 ∙ c.loop-lim.invariant.reasons
 
 pub returns-then-not-goes_on : goal.returns-then-not-goes_on
-returns-then-not-goes_on c = given-up c.loop-lim.invariant (λ z. c.if-kind_at-eq-EOF.false (c.kind_at.ensures ∙ z)) c.decl-one.ensures (kept c.decl-one.auto) c.decl-one.auto.1.1.1.1.1.1.0 c.decl-one.auto.1.1.1.1.1.1.1.0 c.in-Failed.is c.note_failure-noted.ensures.1 c.note_failure-noted.auto.0 c.note_failure-noted.auto.1.0 c.back_to-x.ensures (sym c.goes_on.ensures ∙ c.if-not-goes_on.true) c.end_read-then-not-goes_on.ensures c.end_read-then-not-goes_on.auto.0 c.end_read-then-not-goes_on.auto.1.0
+returns-then-not-goes_on c = given-up c.loop-lim.invariant (λ z. c.if-kind_at-eq-EOF.false (c.kind_at.ensures ∙ z)) c.decl-one.ensures (record { symbols = c.decl-one.auto.symbols; head = c.decl-one.auto.head; load = c.decl-one.auto.load }) c.decl-one.auto.1.1.1.1.1.1.0 c.decl-one.auto.1.1.1.1.1.1.1.0 c.in-Failed.is c.note_failure-noted.ensures.1 c.note_failure-noted.auto.0 c.note_failure-noted.auto.1.0 c.back_to-x.ensures (sym c.goes_on.ensures ∙ c.if-not-goes_on.true) c.end_read-then-not-goes_on.ensures c.end_read-then-not-goes_on.auto.0 c.end_read-then-not-goes_on.auto.1.0
 
 pub loop-lim-smaller : goal.loop-lim-smaller
-loop-lim-smaller c = omega (arith, fail-ahead c.loop-lim.invariant (λ z. c.if-kind_at-eq-EOF.false (c.kind_at.ensures ∙ z)) c.decl-one.ensures (kept c.decl-one.auto) c.decl-one.auto.1.1.1.1.1.1.0 c.decl-one.auto.1.1.1.1.1.1.1.0 c.in-Failed.is c.note_failure-noted.ensures.1 c.note_failure-noted.auto.0 c.note_failure-noted.auto.1.0 c.back_to-x.ensures, c.loop-lim.invariant.few, c.loop-lim.invariant.is.stands.here, c.loop-lim.invariant.is.stands.toks.few)
+loop-lim-smaller c = omega (arith, fail-ahead c.loop-lim.invariant (λ z. c.if-kind_at-eq-EOF.false (c.kind_at.ensures ∙ z)) c.decl-one.ensures (record { symbols = c.decl-one.auto.symbols; head = c.decl-one.auto.head; load = c.decl-one.auto.load }) c.decl-one.auto.1.1.1.1.1.1.0 c.decl-one.auto.1.1.1.1.1.1.1.0 c.in-Failed.is c.note_failure-noted.ensures.1 c.note_failure-noted.auto.0 c.note_failure-noted.auto.1.0 c.back_to-x.ensures, c.loop-lim.invariant.few, c.loop-lim.invariant.is.stands.here, c.loop-lim.invariant.is.stands.toks.few)
 
 pub loop-lim-preserved : goal.loop-lim-preserved
-loop-lim-preserved c = gone-on c.loop-lim.invariant (λ z. c.if-kind_at-eq-EOF.false (c.kind_at.ensures ∙ z)) c.decl-one.ensures (kept c.decl-one.auto) c.decl-one.auto.1.1.1.1.1.1.0 c.decl-one.auto.1.1.1.1.1.1.1.0 c.in-Failed.is c.note_failure-noted.ensures.1 c.note_failure-noted.auto.0 c.note_failure-noted.auto.1.0 c.back_to-x.ensures (sym c.goes_on.ensures ∙ c.if-not-goes_on.false)
+loop-lim-preserved c = gone-on c.loop-lim.invariant (λ z. c.if-kind_at-eq-EOF.false (c.kind_at.ensures ∙ z)) c.decl-one.ensures (record { symbols = c.decl-one.auto.symbols; head = c.decl-one.auto.head; load = c.decl-one.auto.load }) c.decl-one.auto.1.1.1.1.1.1.0 c.decl-one.auto.1.1.1.1.1.1.1.0 c.in-Failed.is c.note_failure-noted.ensures.1 c.note_failure-noted.auto.0 c.note_failure-noted.auto.1.0 c.back_to-x.ensures (sym c.goes_on.ensures ∙ c.if-not-goes_on.false)
 
 pub shape_of-symbols-in-Refused : goal.shape_of-symbols-in-Refused
 shape_of-symbols-in-Refused c = c.decl-one.auto.1.1.1.0 ∙ c.loop-lim.invariant.kept.symbols
@@ -94,4 +94,4 @@ pub shape_of-reasons-in-Refused : goal.shape_of-reasons-in-Refused
 shape_of-reasons-in-Refused c = c.decl-one.auto.1.1.1.1.1.1.1.0 ∙ c.loop-lim.invariant.reasons
 
 pub returns-in-Refused : goal.returns-in-Refused
-returns-in-Refused c = refused-at c.loop-lim.invariant (λ z. c.if-kind_at-eq-EOF.false (c.kind_at.ensures ∙ z)) c.decl-one.ensures (kept c.decl-one.auto) c.decl-one.auto.1.1.1.1.1.1.0 c.decl-one.auto.1.1.1.1.1.1.1.0 c.in-Refused.is
+returns-in-Refused c = refused-at c.loop-lim.invariant (λ z. c.if-kind_at-eq-EOF.false (c.kind_at.ensures ∙ z)) c.decl-one.ensures (record { symbols = c.decl-one.auto.symbols; head = c.decl-one.auto.head; load = c.decl-one.auto.load }) c.decl-one.auto.1.1.1.1.1.1.0 c.decl-one.auto.1.1.1.1.1.1.1.0 c.in-Refused.is

@@ -21,7 +21,7 @@ unfolding bind_all
 returns-in_default c =
     record {
       goes = λ hs ls q. gives (λ E e. let p0 = begin 0 (λ x. bind_all x (c.args.i ∷ c.args.j ∷ [])) E e q in
-          halt 0 (λ x. store x c.args.i Other) _ p0 refl (put p0 c.store_name-one.ensures) (c.store_name-one.ensures.is _).sure (not_done _ c.in_default.in_default-own.keys2));
+          halt 0 (λ x. store x c.args.i Other) _ p0 refl (put p0 c.store_name-one.ensures) (c.store_name-one.ensures.is _).sure (not_done _ c.in_default.not-Done));
     }
 
 pub store_name-requires : goal.store_name-requires

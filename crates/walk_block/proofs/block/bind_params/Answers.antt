@@ -43,7 +43,7 @@ returns-in_default c =
     record {
       goes = λ hs ls q. gives (λ E e. let a0 = c.loop-k.invariant.0.any hs ls q E e in
           let a1 = on a0 (bind-first (between c.args.load.now c.loop-k.k ((c.args.first + c.args.count) - c.loop-k.k)) _ a0.at (between_more c.args.load.now c.loop-k.k ((c.args.first + c.args.count)) c.loop-k-test.true)) in
-          halt 0 (λ x. store x (get_or c.args.load.now c.loop-k.k 0) Other) _ a1 refl (put a1 c.store_name-one.ensures) (c.store_name-one.ensures.is _).sure (not_done _ c.in_default.in_default-own.keys2));
+          halt 0 (λ x. store x (get_or c.args.load.now c.loop-k.k 0) Other) _ a1 refl (put a1 c.store_name-one.ensures) (c.store_name-one.ensures.is _).sure (not_done _ c.in_default.not-Done));
     }
 
 pub overflow_add-k : goal.overflow_add-k

@@ -21,7 +21,7 @@ pub returns-in_default : goal.returns-in_default
 returns-in_default c =
     record {
       goes = λ sc os ys q. gives (λ E e. let p0 = begin 0 (λ x. end_block x c.args.body c.args.n) E e q in
-          stop 0 (λ x. expect x 4) _ p0 refl (omega arith) (expected p0 c.expect-closed.ensures) (not_done _ c.in_default.in_default-own.keys2));
+          stop 0 (λ x. expect x 4) _ p0 refl (omega arith) (expected p0 c.expect-closed.ensures) (not_done _ c.in_default.not-Done));
     }
 
 pub with_return-ended-requires : goal.with_return-ended-requires
@@ -40,7 +40,7 @@ returns-in_default-ended c =
       goes = λ sc os ys q. gives (λ E e. let p0 = begin 0 (λ x. end_block x c.args.body c.args.n) E e q in
           let p1 = go 0 (λ x. expect x 4) _ p0 refl (expected p0 c.expect-closed.ensures) same c.in-Done.is in
           let p2 = unscoped _ (read _ p1) c.one_less.ensures in
-          stop 0 (λ x. with_return x c.args.body c.args.n) _ p2 refl (omega arith) (called p2 (c.with_return-ended.ensures.goes _ _ _ _ (begins p2))) (not_done _ c.in_default-ended.in_default-ended-own.keys2));
+          stop 0 (λ x. with_return x c.args.body c.args.n) _ p2 refl (omega arith) (called p2 (c.with_return-ended.ensures.goes _ _ _ _ (begins p2))) (not_done _ c.in_default-ended.not-Done));
     }
 
 pub head_word-word-requires : goal.head_word-word-requires

@@ -42,8 +42,8 @@ returns-in_default c =
       goes = λ sc os ks ys q. gives (λ E e. let p0 = begin 0 (λ x. with_return x c.args.body c.args.n) E e q in
           let p1 = aimed _ _ (on p0 (body_is true c.args.body c.args.n p0.at (c.if-not-body.false))) c.top-last.ensures in
           let p2 = no _ _ p1 (sym c.ends_with_return.ensures ∙ c.if-ends_with_return.false) in
-          halt 0 (λ x. push x 6 false 0 0) _ p2 refl (pushed p2 c.push_node-made.ensures) (c.push_node-made.ensures.is _).sure (not_done _ c.in_default.in_default-own.keys2));
-      few = omega (arith, none_told c.push_node-made.result c.push_node-made.new.1.1.0 (not_done c.push_node-made.result c.in_default.in_default-own.keys2));
+          halt 0 (λ x. push x 6 false 0 0) _ p2 refl (pushed p2 c.push_node-made.ensures) (c.push_node-made.ensures.is _).sure (not_done _ c.in_default.not-Done));
+      few = omega (arith, none_told c.push_node-made.result c.push_node-made.new.1.1.0 (not_done c.push_node-made.result c.in_default.not-Done));
     }
 
 pub returns : goal.returns

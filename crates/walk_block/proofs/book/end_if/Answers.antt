@@ -21,7 +21,7 @@ unfolding end_if
 returns-in_default c =
     record {
       tells = λ sc os ks ys q. tells c.requires.book (λ E e t. let p0 = begin 0 (λ x. end_if x c.args.n c.args.elses) E e q in
-          stops 0 (λ x. second_else x c.args.elses) _ p0 refl (omega arith) t (c.second_else-told.ensures.tells sc os ks _ q) (not_done _ c.in_default.in_default-own.keys2));
+          stops 0 (λ x. second_else x c.args.elses) _ p0 refl (omega arith) t (c.second_else-told.ensures.tells sc os ks _ q) (not_done _ c.in_default.not-Done));
     }
 
 pub overflow_add-n : goal.overflow_add-n

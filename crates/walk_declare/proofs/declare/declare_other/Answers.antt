@@ -19,7 +19,7 @@ push_node-made-requires c = pushable-at c.requires.0
 pub returns-in_default : goal.returns-in_default
 returns-in_default c =
     gives (λ E e. let p0 = begin 0 (λ x. node_and_name x c.args.word c.args.i) E e c.requires.0 in
-    stop 0 (λ x. push x (kind_in c.args.word) (flag_in c.args.word) (kids_in c.args.word) c.args.i) _ p0 refl (omega arith) (pushed p0 c.push_node-made.ensures) (not_done _ c.in_default.in_default-own.keys2))
+    stop 0 (λ x. push x (kind_in c.args.word) (flag_in c.args.word) (kids_in c.args.word) c.args.i) _ p0 refl (omega arith) (pushed p0 c.push_node-made.ensures) (not_done _ c.in_default.not-Done))
 
 pub store_name-requires : goal.store_name-requires
 store_name-requires c =

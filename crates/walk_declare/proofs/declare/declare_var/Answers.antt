@@ -20,7 +20,7 @@ pub returns-in_default : goal.returns-in_default
 unfolding declare_var
 returns-in_default c =
     gives (λ E e. let p1 = read _ (begin 0 (λ x. declare_var x c.args.i c.args.n) E e c.requires.0) in
-    stop 0 (λ x. push x 8 (eqb (get_or c.args.st.now 3 0) 0) c.args.n c.args.i) _ p1 refl (omega arith) (pushed-as p1 c.head_word-word.ensures c.push_node-made.ensures) (not_done _ c.in_default.in_default-own.keys2))
+    stop 0 (λ x. push x 8 (eqb (get_or c.args.st.now 3 0) 0) c.args.n c.args.i) _ p1 refl (omega arith) (pushed-as p1 c.head_word-word.ensures c.push_node-made.ensures) (not_done _ c.in_default.not-Done))
 
 pub store_name-requires : goal.store_name-requires
 unfolding declare_var

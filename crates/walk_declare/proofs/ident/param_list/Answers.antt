@@ -111,9 +111,9 @@ returns-in_default c =
             let p4 = no _ _ p3 (test (λ k. eqb k 47) p3 (ne_eqb _ _ (λ z. c.if-k-eq-EOF.false (c.kind_at-k.ensures ∙ z)))) in
             let g4 = any_at p4 c.ident_node-item.ensures in
             let one = as_param p4 g4 in
-            stop 0 (λ x. param x) _ p4 refl (omega arith) one (not_done _ c.in_default.in_default-own.keys2));
+            stop 0 (λ x. param x) _ p4 refl (omega arith) one (not_done _ c.in_default.not-Done));
       };
-      count = none_within (not_done _ c.in_default.in_default-own.keys2);
+      count = none_within (not_done _ c.in_default.not-Done);
     }
 
 pub separator-comma-requires : goal.separator-comma-requires
@@ -154,9 +154,9 @@ returns-in_default-comma c =
             let g4 = any_at p4 c.ident_node-item.ensures in
             let one = as_param p4 g4 in
             let p5 = go 0 (λ x. param x) _ p4 refl one (kept-nodes c.ident_node-item.auto.1.0 c.ident_node-item.auto.1.1.0) c.in-Done.is in
-            stop 0 (λ x. separator_of x) _ p5 refl (omega arith) (separated p5 c.separator-comma.ensures) (not_done _ c.in_default-comma.in_default-comma-own.keys2));
+            stop 0 (λ x. separator_of x) _ p5 refl (omega arith) (separated p5 c.separator-comma.ensures) (not_done _ c.in_default-comma.not-Done));
       };
-      count = none_within (not_done _ c.in_default-comma.in_default-comma-own.keys2);
+      count = none_within (not_done _ c.in_default-comma.not-Done);
     }
 
 pub overflow_add-n : goal.overflow_add-n

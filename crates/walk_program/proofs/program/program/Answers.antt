@@ -44,19 +44,19 @@ pub overflow_add-n : goal.overflow_add-n
 overflow_add-n c = omega (arith, c.loop-head.invariant.at.few, c.loop-head.invariant.at.is.stands.here, c.loop-head.invariant.at.is.stands.toks.few)
 
 pub loop-head-smaller-in-Done : goal.loop-head-smaller-in-Done
-loop-head-smaller-in-Done c = omega (arith, read-ahead c.loop-head.invariant (λ z. c.if-kind_at-eq-EOF.false (c.kind_at.ensures ∙ z)) c.decl-one.ensures (kept c.decl-one.auto) c.decl-one.auto.1.1.1.1.1.1.0 c.decl-one.auto.1.1.1.1.1.1.1.0 c.in-Done.is, c.loop-head.invariant.at.few, c.loop-head.invariant.at.is.stands.here, c.loop-head.invariant.at.is.stands.toks.few)
+loop-head-smaller-in-Done c = omega (arith, read-ahead c.loop-head.invariant (λ z. c.if-kind_at-eq-EOF.false (c.kind_at.ensures ∙ z)) c.decl-one.ensures (record { symbols = c.decl-one.auto.symbols; head = c.decl-one.auto.head; load = c.decl-one.auto.load }) c.decl-one.auto.1.1.1.1.1.1.0 c.decl-one.auto.1.1.1.1.1.1.1.0 c.in-Done.is, c.loop-head.invariant.at.few, c.loop-head.invariant.at.is.stands.here, c.loop-head.invariant.at.is.stands.toks.few)
 
 pub loop-head-preserved-in-Done : goal.loop-head-preserved-in-Done
-loop-head-preserved-in-Done c = parsed c.loop-head.invariant (λ z. c.if-kind_at-eq-EOF.false (c.kind_at.ensures ∙ z)) c.decl-one.ensures (kept c.decl-one.auto) c.decl-one.auto.1.1.1.1.1.1.0 c.decl-one.auto.1.1.1.1.1.1.1.0 c.in-Done.is
+loop-head-preserved-in-Done c = parsed c.loop-head.invariant (λ z. c.if-kind_at-eq-EOF.false (c.kind_at.ensures ∙ z)) c.decl-one.ensures (record { symbols = c.decl-one.auto.symbols; head = c.decl-one.auto.head; load = c.decl-one.auto.load }) c.decl-one.auto.1.1.1.1.1.1.0 c.decl-one.auto.1.1.1.1.1.1.1.0 c.in-Done.is
 
 pub note_failure-requires : goal.note_failure-requires
-note_failure-requires c = failing c.loop-head.invariant (λ z. c.if-kind_at-eq-EOF.false (c.kind_at.ensures ∙ z)) c.decl-one.ensures (kept c.decl-one.auto) c.decl-one.auto.1.1.1.1.1.1.0 c.decl-one.auto.1.1.1.1.1.1.1.0 c.in-Failed.is
+note_failure-requires c = failing c.loop-head.invariant (λ z. c.if-kind_at-eq-EOF.false (c.kind_at.ensures ∙ z)) c.decl-one.ensures (record { symbols = c.decl-one.auto.symbols; head = c.decl-one.auto.head; load = c.decl-one.auto.load }) c.decl-one.auto.1.1.1.1.1.1.0 c.decl-one.auto.1.1.1.1.1.1.1.0 c.in-Failed.is
 
 pub last_of-last-requires : goal.last_of-last-requires
-last_of-last-requires c = closing c.loop-head.invariant (λ z. c.if-kind_at-eq-EOF.false (c.kind_at.ensures ∙ z)) c.decl-one.ensures (kept c.decl-one.auto) c.decl-one.auto.1.1.1.1.1.1.0 c.decl-one.auto.1.1.1.1.1.1.1.0 c.in-Failed.is c.note_failure.ensures.noted c.note_failure.ensures.same c.note_failure.auto.0 c.note_failure.auto.1.0 (sym c.goes_on.ensures ∙ c.if-not-goes_on.true)
+last_of-last-requires c = closing c.loop-head.invariant (λ z. c.if-kind_at-eq-EOF.false (c.kind_at.ensures ∙ z)) c.decl-one.ensures (record { symbols = c.decl-one.auto.symbols; head = c.decl-one.auto.head; load = c.decl-one.auto.load }) c.decl-one.auto.1.1.1.1.1.1.0 c.decl-one.auto.1.1.1.1.1.1.1.0 c.in-Failed.is c.note_failure.ensures.noted c.note_failure.ensures.same c.note_failure.auto.0 c.note_failure.auto.1.0 (sym c.goes_on.ensures ∙ c.if-not-goes_on.true)
 
 pub end_read-requires-then-not-goes_on : goal.end_read-requires-then-not-goes_on
-end_read-requires-then-not-goes_on c = (back-pushable c.loop-head.invariant (λ z. c.if-kind_at-eq-EOF.false (c.kind_at.ensures ∙ z)) c.decl-one.ensures (kept c.decl-one.auto) c.decl-one.auto.1.1.1.1.1.1.0 c.decl-one.auto.1.1.1.1.1.1.1.0 c.in-Failed.is c.note_failure.ensures.noted c.note_failure.ensures.same c.note_failure.auto.0 c.note_failure.auto.1.0, omega (arith, c.loop-head.invariant.at.few, c.loop-head.invariant.at.is.stands.here, c.loop-head.invariant.at.is.stands.toks.few), omega (arith, c.loop-head.invariant.at.is.stands.toks.few, c.loop-head.invariant.at.is.stands.toks.even))
+end_read-requires-then-not-goes_on c = (back-pushable c.loop-head.invariant (λ z. c.if-kind_at-eq-EOF.false (c.kind_at.ensures ∙ z)) c.decl-one.ensures (record { symbols = c.decl-one.auto.symbols; head = c.decl-one.auto.head; load = c.decl-one.auto.load }) c.decl-one.auto.1.1.1.1.1.1.0 c.decl-one.auto.1.1.1.1.1.1.1.0 c.in-Failed.is c.note_failure.ensures.noted c.note_failure.ensures.same c.note_failure.auto.0 c.note_failure.auto.1.0, omega (arith, c.loop-head.invariant.at.few, c.loop-head.invariant.at.is.stands.here, c.loop-head.invariant.at.is.stands.toks.few), omega (arith, c.loop-head.invariant.at.is.stands.toks.few, c.loop-head.invariant.at.is.stands.toks.even))
 
 pub shape_of-symbols-then-not-goes_on : goal.shape_of-symbols-then-not-goes_on
 shape_of-symbols-then-not-goes_on c = c.decl-one.auto.1.1.1.0 ∙ c.loop-head.invariant.at.kept.symbols
@@ -74,16 +74,16 @@ pub shape_of-reasons-then-not-goes_on : goal.shape_of-reasons-then-not-goes_on
 shape_of-reasons-then-not-goes_on c = c.note_failure.auto.1.0 ∙ c.decl-one.auto.1.1.1.1.1.1.1.0 ∙ c.loop-head.invariant.at.reasons
 
 pub returns-then-not-goes_on : goal.returns-then-not-goes_on
-returns-then-not-goes_on c = given-up c.loop-head.invariant (λ z. c.if-kind_at-eq-EOF.false (c.kind_at.ensures ∙ z)) c.decl-one.ensures (kept c.decl-one.auto) c.decl-one.auto.1.1.1.1.1.1.0 c.decl-one.auto.1.1.1.1.1.1.1.0 c.in-Failed.is c.note_failure.ensures.noted c.note_failure.ensures.same c.note_failure.auto.0 c.note_failure.auto.1.0 (sym c.goes_on.ensures ∙ c.if-not-goes_on.true) c.last_of-last.ensures c.end_read-then-not-goes_on.ensures c.end_read-then-not-goes_on.auto.1.0 c.end_read-then-not-goes_on.auto.1.1.0
+returns-then-not-goes_on c = given-up c.loop-head.invariant (λ z. c.if-kind_at-eq-EOF.false (c.kind_at.ensures ∙ z)) c.decl-one.ensures (record { symbols = c.decl-one.auto.symbols; head = c.decl-one.auto.head; load = c.decl-one.auto.load }) c.decl-one.auto.1.1.1.1.1.1.0 c.decl-one.auto.1.1.1.1.1.1.1.0 c.in-Failed.is c.note_failure.ensures.noted c.note_failure.ensures.same c.note_failure.auto.0 c.note_failure.auto.1.0 (sym c.goes_on.ensures ∙ c.if-not-goes_on.true) c.last_of-last.ensures c.end_read-then-not-goes_on.ensures c.end_read-then-not-goes_on.auto.1.0 c.end_read-then-not-goes_on.auto.1.1.0
 
 pub loop-head-smaller : goal.loop-head-smaller
-loop-head-smaller c = omega (arith, fail-ahead c.loop-head.invariant (λ z. c.if-kind_at-eq-EOF.false (c.kind_at.ensures ∙ z)) c.decl-one.ensures (kept c.decl-one.auto) c.decl-one.auto.1.1.1.1.1.1.0 c.decl-one.auto.1.1.1.1.1.1.1.0 c.in-Failed.is c.note_failure.ensures.noted c.note_failure.ensures.same c.note_failure.auto.0 c.note_failure.auto.1.0, c.loop-head.invariant.at.few, c.loop-head.invariant.at.is.stands.here, c.loop-head.invariant.at.is.stands.toks.few)
+loop-head-smaller c = omega (arith, fail-ahead c.loop-head.invariant (λ z. c.if-kind_at-eq-EOF.false (c.kind_at.ensures ∙ z)) c.decl-one.ensures (record { symbols = c.decl-one.auto.symbols; head = c.decl-one.auto.head; load = c.decl-one.auto.load }) c.decl-one.auto.1.1.1.1.1.1.0 c.decl-one.auto.1.1.1.1.1.1.1.0 c.in-Failed.is c.note_failure.ensures.noted c.note_failure.ensures.same c.note_failure.auto.0 c.note_failure.auto.1.0, c.loop-head.invariant.at.few, c.loop-head.invariant.at.is.stands.here, c.loop-head.invariant.at.is.stands.toks.few)
 
 pub loop-head-preserved : goal.loop-head-preserved
-loop-head-preserved c = gone-on c.loop-head.invariant (λ z. c.if-kind_at-eq-EOF.false (c.kind_at.ensures ∙ z)) c.decl-one.ensures (kept c.decl-one.auto) c.decl-one.auto.1.1.1.1.1.1.0 c.decl-one.auto.1.1.1.1.1.1.1.0 c.in-Failed.is c.note_failure.ensures.noted c.note_failure.ensures.same c.note_failure.auto.0 c.note_failure.auto.1.0 (sym c.goes_on.ensures ∙ c.if-not-goes_on.false)
+loop-head-preserved c = gone-on c.loop-head.invariant (λ z. c.if-kind_at-eq-EOF.false (c.kind_at.ensures ∙ z)) c.decl-one.ensures (record { symbols = c.decl-one.auto.symbols; head = c.decl-one.auto.head; load = c.decl-one.auto.load }) c.decl-one.auto.1.1.1.1.1.1.0 c.decl-one.auto.1.1.1.1.1.1.1.0 c.in-Failed.is c.note_failure.ensures.noted c.note_failure.ensures.same c.note_failure.auto.0 c.note_failure.auto.1.0 (sym c.goes_on.ensures ∙ c.if-not-goes_on.false)
 
 pub refusal_of-requires : goal.refusal_of-requires
-refusal_of-requires c = record { few = omega (arith, c.loop-head.invariant.at.is.stands.toks.few, c.loop-head.invariant.at.is.stands.toks.even); kind = kind-refused c.loop-head.invariant (λ z. c.if-kind_at-eq-EOF.false (c.kind_at.ensures ∙ z)) c.decl-one.ensures (kept c.decl-one.auto) c.decl-one.auto.1.1.1.1.1.1.0 c.decl-one.auto.1.1.1.1.1.1.1.0 c.in-Refused.is }
+refusal_of-requires c = record { few = omega (arith, c.loop-head.invariant.at.is.stands.toks.few, c.loop-head.invariant.at.is.stands.toks.even); kind = kind-refused c.loop-head.invariant (λ z. c.if-kind_at-eq-EOF.false (c.kind_at.ensures ∙ z)) c.decl-one.ensures (record { symbols = c.decl-one.auto.symbols; head = c.decl-one.auto.head; load = c.decl-one.auto.load }) c.decl-one.auto.1.1.1.1.1.1.0 c.decl-one.auto.1.1.1.1.1.1.1.0 c.in-Refused.is }
 
 pub shape_of-symbols-in-Refused : goal.shape_of-symbols-in-Refused
 shape_of-symbols-in-Refused c = c.decl-one.auto.1.1.1.0 ∙ c.loop-head.invariant.at.kept.symbols
@@ -101,4 +101,4 @@ pub shape_of-reasons-in-Refused : goal.shape_of-reasons-in-Refused
 shape_of-reasons-in-Refused c = c.decl-one.auto.1.1.1.1.1.1.1.0 ∙ c.loop-head.invariant.at.reasons
 
 pub returns-in-Refused : goal.returns-in-Refused
-returns-in-Refused c = refused-at c.loop-head.invariant (λ z. c.if-kind_at-eq-EOF.false (c.kind_at.ensures ∙ z)) c.decl-one.ensures (kept c.decl-one.auto) c.decl-one.auto.1.1.1.1.1.1.0 c.decl-one.auto.1.1.1.1.1.1.1.0 c.in-Refused.is c.refusal_of.ensures
+returns-in-Refused c = refused-at c.loop-head.invariant (λ z. c.if-kind_at-eq-EOF.false (c.kind_at.ensures ∙ z)) c.decl-one.ensures (record { symbols = c.decl-one.auto.symbols; head = c.decl-one.auto.head; load = c.decl-one.auto.load }) c.decl-one.auto.1.1.1.1.1.1.0 c.decl-one.auto.1.1.1.1.1.1.1.0 c.in-Refused.is c.refusal_of.ensures

@@ -20,7 +20,7 @@ pub returns-in_default : goal.returns-in_default
 unfolding array_decl
 returns-in_default c =
     gives (λ E e. let p0 = begin 0 (λ x. array_decl x (walkers x c.args.depth) c.args.i) E e c.requires.0 in
-    stop 0 (λ x. expect x 5) _ p0 refl (omega arith) (expected p0 c.expect-opened.ensures) (not_done _ c.in_default.in_default-own.keys2))
+    stop 0 (λ x. expect x 5) _ p0 refl (omega arith) (expected p0 c.expect-opened.ensures) (not_done _ c.in_default.not-Done))
 
 pub array_items-items-requires : goal.array_items-items-requires
 unfolding array_decl
@@ -36,7 +36,7 @@ unfolding array_decl
 returns-in_default-items c =
     gives (λ E e. let p0 = begin 0 (λ x. array_decl x (walkers x c.args.depth) c.args.i) E e c.requires.0 in
     let p1 = go 0 (λ x. expect x 5) _ p0 refl (expected p0 c.expect-opened.ensures) same c.in-Done.is in
-    stop 0 (λ x. comma_list x 6 (walkers x c.args.depth).assign (fuel x) 0) _ p1 refl (omega arith) (called p1 c.array_items-items.ensures.does) (not_done _ c.in_default-items.in_default-items-own.keys2))
+    stop 0 (λ x. comma_list x 6 (walkers x c.args.depth).assign (fuel x) 0) _ p1 refl (omega arith) (called p1 c.array_items-items.ensures.does) (not_done _ c.in_default-items.not-Done))
 
 pub expect-closed-requires : goal.expect-closed-requires
 unfolding array_decl
@@ -45,7 +45,7 @@ expect-closed-requires c =
     let e = blanks (get_or c.args.st.now 4 0) in
     let p0 = begin 0 (λ x. array_decl x (walkers x c.args.depth) c.args.i) E e c.requires.0 in
     let p1 = go 0 (λ x. expect x 5) _ p0 refl (expected p0 c.expect-opened.ensures) same c.in-Done.is in
-    let p2 = go 0 (λ x. comma_list x 6 (walkers x c.args.depth).assign (fuel x) 0) _ p1 refl (called p1 c.array_items-items.ensures.does) (kept c.array_items-items.auto) c.in-Done-items.is in
+    let p2 = go 0 (λ x. comma_list x 6 (walkers x c.args.depth).assign (fuel x) 0) _ p1 refl (called p1 c.array_items-items.ensures.does) (record { symbols = c.array_items-items.auto.symbols; head = c.array_items-items.auto.head; load = c.array_items-items.auto.load }) c.in-Done-items.is in
     standing-at (starts p2)
 
 pub returns-in_default-closed : goal.returns-in_default-closed
@@ -53,8 +53,8 @@ unfolding array_decl
 returns-in_default-closed c =
     gives (λ E e. let p0 = begin 0 (λ x. array_decl x (walkers x c.args.depth) c.args.i) E e c.requires.0 in
     let p1 = go 0 (λ x. expect x 5) _ p0 refl (expected p0 c.expect-opened.ensures) same c.in-Done.is in
-    let p2 = go 0 (λ x. comma_list x 6 (walkers x c.args.depth).assign (fuel x) 0) _ p1 refl (called p1 c.array_items-items.ensures.does) (kept c.array_items-items.auto) c.in-Done-items.is in
-    stop 0 (λ x. expect x 6) _ p2 refl (omega arith) (expected p2 c.expect-closed.ensures) (not_done _ c.in_default-closed.in_default-closed-own.keys2))
+    let p2 = go 0 (λ x. comma_list x 6 (walkers x c.args.depth).assign (fuel x) 0) _ p1 refl (called p1 c.array_items-items.ensures.does) (record { symbols = c.array_items-items.auto.symbols; head = c.array_items-items.auto.head; load = c.array_items-items.auto.load }) c.in-Done-items.is in
+    stop 0 (λ x. expect x 6) _ p2 refl (omega arith) (expected p2 c.expect-closed.ensures) (not_done _ c.in_default-closed.not-Done))
 
 pub expect-ended-requires : goal.expect-ended-requires
 unfolding array_decl
@@ -63,7 +63,7 @@ expect-ended-requires c =
     let e = blanks (get_or c.args.st.now 4 0) in
     let p0 = begin 0 (λ x. array_decl x (walkers x c.args.depth) c.args.i) E e c.requires.0 in
     let p1 = go 0 (λ x. expect x 5) _ p0 refl (expected p0 c.expect-opened.ensures) same c.in-Done.is in
-    let p2 = go 0 (λ x. comma_list x 6 (walkers x c.args.depth).assign (fuel x) 0) _ p1 refl (called p1 c.array_items-items.ensures.does) (kept c.array_items-items.auto) c.in-Done-items.is in
+    let p2 = go 0 (λ x. comma_list x 6 (walkers x c.args.depth).assign (fuel x) 0) _ p1 refl (called p1 c.array_items-items.ensures.does) (record { symbols = c.array_items-items.auto.symbols; head = c.array_items-items.auto.head; load = c.array_items-items.auto.load }) c.in-Done-items.is in
     let p3 = go 0 (λ x. expect x 6) _ p2 refl (expected p2 c.expect-closed.ensures) same c.in-Done-closed.is in
     standing-at (starts p3)
 
@@ -72,9 +72,9 @@ unfolding array_decl
 returns-in_default-ended c =
     gives (λ E e. let p0 = begin 0 (λ x. array_decl x (walkers x c.args.depth) c.args.i) E e c.requires.0 in
     let p1 = go 0 (λ x. expect x 5) _ p0 refl (expected p0 c.expect-opened.ensures) same c.in-Done.is in
-    let p2 = go 0 (λ x. comma_list x 6 (walkers x c.args.depth).assign (fuel x) 0) _ p1 refl (called p1 c.array_items-items.ensures.does) (kept c.array_items-items.auto) c.in-Done-items.is in
+    let p2 = go 0 (λ x. comma_list x 6 (walkers x c.args.depth).assign (fuel x) 0) _ p1 refl (called p1 c.array_items-items.ensures.does) (record { symbols = c.array_items-items.auto.symbols; head = c.array_items-items.auto.head; load = c.array_items-items.auto.load }) c.in-Done-items.is in
     let p3 = go 0 (λ x. expect x 6) _ p2 refl (expected p2 c.expect-closed.ensures) same c.in-Done-closed.is in
-    stop 0 (λ x. expect x 7) _ p3 refl (omega arith) (expected p3 c.expect-ended.ensures) (not_done _ c.in_default-ended.in_default-ended-own.keys2))
+    stop 0 (λ x. expect x 7) _ p3 refl (omega arith) (expected p3 c.expect-ended.ensures) (not_done _ c.in_default-ended.not-Done))
 
 pub declare_array-requires : goal.declare_array-requires
 unfolding array_decl
@@ -83,7 +83,7 @@ declare_array-requires c =
     let e = blanks (get_or c.args.st.now 4 0) in
     let p0 = begin 0 (λ x. array_decl x (walkers x c.args.depth) c.args.i) E e c.requires.0 in
     let p1 = go 0 (λ x. expect x 5) _ p0 refl (expected p0 c.expect-opened.ensures) same c.in-Done.is in
-    let p2 = go 0 (λ x. comma_list x 6 (walkers x c.args.depth).assign (fuel x) 0) _ p1 refl (called p1 c.array_items-items.ensures.does) (kept c.array_items-items.auto) c.in-Done-items.is in
+    let p2 = go 0 (λ x. comma_list x 6 (walkers x c.args.depth).assign (fuel x) 0) _ p1 refl (called p1 c.array_items-items.ensures.does) (record { symbols = c.array_items-items.auto.symbols; head = c.array_items-items.auto.head; load = c.array_items-items.auto.load }) c.in-Done-items.is in
     let p3 = go 0 (λ x. expect x 6) _ p2 refl (expected p2 c.expect-closed.ensures) same c.in-Done-closed.is in
     let p4 = go 0 (λ x. expect x 7) _ p3 refl (expected p3 c.expect-ended.ensures) same c.in-Done-ended.is in
     (begins p4, c.requires.1, count-few c.array_items-items.ensures c.in-Done-items.is)
@@ -102,7 +102,7 @@ unfolding array_decl
 returns c =
     gives (λ E e. let p0 = begin 0 (λ x. array_decl x (walkers x c.args.depth) c.args.i) E e c.requires.0 in
     let p1 = go 0 (λ x. expect x 5) _ p0 refl (expected p0 c.expect-opened.ensures) same c.in-Done.is in
-    let p2 = go 0 (λ x. comma_list x 6 (walkers x c.args.depth).assign (fuel x) 0) _ p1 refl (called p1 c.array_items-items.ensures.does) (kept c.array_items-items.auto) c.in-Done-items.is in
+    let p2 = go 0 (λ x. comma_list x 6 (walkers x c.args.depth).assign (fuel x) 0) _ p1 refl (called p1 c.array_items-items.ensures.does) (record { symbols = c.array_items-items.auto.symbols; head = c.array_items-items.auto.head; load = c.array_items-items.auto.load }) c.in-Done-items.is in
     let p3 = go 0 (λ x. expect x 6) _ p2 refl (expected p2 c.expect-closed.ensures) same c.in-Done-closed.is in
     let p4 = go 0 (λ x. expect x 7) _ p3 refl (expected p3 c.expect-ended.ensures) same c.in-Done-ended.is in
     last 0 (λ x. array_and_name x c.args.i _) p4 refl (omega arith) (called p4 c.declare_array.ensures))

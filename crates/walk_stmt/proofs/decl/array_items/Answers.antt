@@ -63,10 +63,10 @@ pub shape_of-load-in_default : goal.shape_of-load-in_default
 shape_of-load-in_default c = c.expr-item.auto.1.1.1.1.1.0 ∙ c.loop-st.invariant.is.at.kept.load
 
 pub returns-in_default : goal.returns-in_default
-returns-in_default c = lost c.loop-st.invariant (λ z. c.if-k-eq-RIGHT_BRACKET.false (c.kind_at-k.ensures ∙ z)) (λ z. c.if-k-eq-EOF.false (c.kind_at-k.ensures ∙ z)) (gave c.loop-st.invariant c.expr-item.ensures) (not_done _ c.in_default.in_default-own.keys2)
+returns-in_default c = lost c.loop-st.invariant (λ z. c.if-k-eq-RIGHT_BRACKET.false (c.kind_at-k.ensures ∙ z)) (λ z. c.if-k-eq-EOF.false (c.kind_at-k.ensures ∙ z)) (gave c.loop-st.invariant c.expr-item.ensures) (not_done _ c.in_default.not-Done)
 
 pub kind_at-requires : goal.kind_at-requires
-kind_at-requires c = in-front (at_item c.loop-st.invariant (λ z. c.if-k-eq-RIGHT_BRACKET.false (c.kind_at-k.ensures ∙ z)) (λ z. c.if-k-eq-EOF.false (c.kind_at-k.ensures ∙ z)) (gave c.loop-st.invariant c.expr-item.ensures) (kept c.expr-item.auto) c.in-Done.is (omega (arith, ahead_of c.expr-item.ensures c.in-Done.is)))
+kind_at-requires c = in-front (at_item c.loop-st.invariant (λ z. c.if-k-eq-RIGHT_BRACKET.false (c.kind_at-k.ensures ∙ z)) (λ z. c.if-k-eq-EOF.false (c.kind_at-k.ensures ∙ z)) (gave c.loop-st.invariant c.expr-item.ensures) (record { symbols = c.expr-item.auto.symbols; head = c.expr-item.auto.head; load = c.expr-item.auto.load }) c.in-Done.is (omega (arith, ahead_of c.expr-item.ensures c.in-Done.is)))
 
 pub overflow_add-st : goal.overflow_add-st
 overflow_add-st c = omega (arith, room c.loop-st.invariant)
@@ -81,10 +81,10 @@ pub shape_of-load-then-kind_at-ne-COMMA : goal.shape_of-load-then-kind_at-ne-COM
 shape_of-load-then-kind_at-ne-COMMA c = c.expr-item.auto.1.1.1.1.1.0 ∙ c.loop-st.invariant.is.at.kept.load
 
 pub returns-then-kind_at-ne-COMMA : goal.returns-then-kind_at-ne-COMMA
-returns-then-kind_at-ne-COMMA c = ended c.loop-st.invariant (λ z. c.if-k-eq-RIGHT_BRACKET.false (c.kind_at-k.ensures ∙ z)) (λ z. c.if-k-eq-EOF.false (c.kind_at-k.ensures ∙ z)) (gave c.loop-st.invariant c.expr-item.ensures) (kept c.expr-item.auto) c.in-Done.is (omega (arith, ahead_of c.expr-item.ensures c.in-Done.is)) (λ z. c.if-kind_at-ne-COMMA.true (c.kind_at.ensures ∙ z))
+returns-then-kind_at-ne-COMMA c = ended c.loop-st.invariant (λ z. c.if-k-eq-RIGHT_BRACKET.false (c.kind_at-k.ensures ∙ z)) (λ z. c.if-k-eq-EOF.false (c.kind_at-k.ensures ∙ z)) (gave c.loop-st.invariant c.expr-item.ensures) (record { symbols = c.expr-item.auto.symbols; head = c.expr-item.auto.head; load = c.expr-item.auto.load }) c.in-Done.is (omega (arith, ahead_of c.expr-item.ensures c.in-Done.is)) (λ z. c.if-kind_at-ne-COMMA.true (c.kind_at.ensures ∙ z))
 
 pub consume-comma-requires : goal.consume-comma-requires
-consume-comma-requires c = standing-at (at_item c.loop-st.invariant (λ z. c.if-k-eq-RIGHT_BRACKET.false (c.kind_at-k.ensures ∙ z)) (λ z. c.if-k-eq-EOF.false (c.kind_at-k.ensures ∙ z)) (gave c.loop-st.invariant c.expr-item.ensures) (kept c.expr-item.auto) c.in-Done.is (omega (arith, ahead_of c.expr-item.ensures c.in-Done.is)))
+consume-comma-requires c = standing-at (at_item c.loop-st.invariant (λ z. c.if-k-eq-RIGHT_BRACKET.false (c.kind_at-k.ensures ∙ z)) (λ z. c.if-k-eq-EOF.false (c.kind_at-k.ensures ∙ z)) (gave c.loop-st.invariant c.expr-item.ensures) (record { symbols = c.expr-item.auto.symbols; head = c.expr-item.auto.head; load = c.expr-item.auto.load }) c.in-Done.is (omega (arith, ahead_of c.expr-item.ensures c.in-Done.is)))
 
 pub shape_of-symbols-in_default-comma : goal.shape_of-symbols-in_default-comma
 shape_of-symbols-in_default-comma c = c.expr-item.auto.1.1.1.0 ∙ c.loop-st.invariant.is.at.kept.symbols
@@ -96,13 +96,13 @@ pub shape_of-load-in_default-comma : goal.shape_of-load-in_default-comma
 shape_of-load-in_default-comma c = c.expr-item.auto.1.1.1.1.1.0 ∙ c.loop-st.invariant.is.at.kept.load
 
 pub returns-in_default-comma : goal.returns-in_default-comma
-returns-in_default-comma c = comma-lost c.loop-st.invariant (λ z. c.if-k-eq-RIGHT_BRACKET.false (c.kind_at-k.ensures ∙ z)) (λ z. c.if-k-eq-EOF.false (c.kind_at-k.ensures ∙ z)) (gave c.loop-st.invariant c.expr-item.ensures) (kept c.expr-item.auto) c.in-Done.is (omega (arith, ahead_of c.expr-item.ensures c.in-Done.is)) (sym c.kind_at.ensures ∙ c.if-kind_at-ne-COMMA.false) c.consume-comma.ensures (not_done _ c.in_default-comma.in_default-comma-own.keys2)
+returns-in_default-comma c = comma-lost c.loop-st.invariant (λ z. c.if-k-eq-RIGHT_BRACKET.false (c.kind_at-k.ensures ∙ z)) (λ z. c.if-k-eq-EOF.false (c.kind_at-k.ensures ∙ z)) (gave c.loop-st.invariant c.expr-item.ensures) (record { symbols = c.expr-item.auto.symbols; head = c.expr-item.auto.head; load = c.expr-item.auto.load }) c.in-Done.is (omega (arith, ahead_of c.expr-item.ensures c.in-Done.is)) (sym c.kind_at.ensures ∙ c.if-kind_at-ne-COMMA.false) c.consume-comma.ensures (not_done _ c.in_default-comma.not-Done)
 
 pub overflow_add-n : goal.overflow_add-n
 overflow_add-n c = omega (arith, room c.loop-st.invariant)
 
 pub loop-st-smaller : goal.loop-st-smaller
-loop-st-smaller c = fewer c.loop-st.invariant (λ z. c.if-k-eq-RIGHT_BRACKET.false (c.kind_at-k.ensures ∙ z)) (λ z. c.if-k-eq-EOF.false (c.kind_at-k.ensures ∙ z)) (gave c.loop-st.invariant c.expr-item.ensures) (kept c.expr-item.auto) c.in-Done.is (omega (arith, ahead_of c.expr-item.ensures c.in-Done.is)) (sym c.kind_at.ensures ∙ c.if-kind_at-ne-COMMA.false) c.consume-comma.ensures c.in-Done-comma.is
+loop-st-smaller c = fewer c.loop-st.invariant (λ z. c.if-k-eq-RIGHT_BRACKET.false (c.kind_at-k.ensures ∙ z)) (λ z. c.if-k-eq-EOF.false (c.kind_at-k.ensures ∙ z)) (gave c.loop-st.invariant c.expr-item.ensures) (record { symbols = c.expr-item.auto.symbols; head = c.expr-item.auto.head; load = c.expr-item.auto.load }) c.in-Done.is (omega (arith, ahead_of c.expr-item.ensures c.in-Done.is)) (sym c.kind_at.ensures ∙ c.if-kind_at-ne-COMMA.false) c.consume-comma.ensures c.in-Done-comma.is
 
 pub loop-st-preserved : goal.loop-st-preserved
-loop-st-preserved c = more c.loop-st.invariant (λ z. c.if-k-eq-RIGHT_BRACKET.false (c.kind_at-k.ensures ∙ z)) (λ z. c.if-k-eq-EOF.false (c.kind_at-k.ensures ∙ z)) (gave c.loop-st.invariant c.expr-item.ensures) (kept c.expr-item.auto) c.in-Done.is (omega (arith, ahead_of c.expr-item.ensures c.in-Done.is)) (sym c.kind_at.ensures ∙ c.if-kind_at-ne-COMMA.false) c.consume-comma.ensures c.in-Done-comma.is
+loop-st-preserved c = more c.loop-st.invariant (λ z. c.if-k-eq-RIGHT_BRACKET.false (c.kind_at-k.ensures ∙ z)) (λ z. c.if-k-eq-EOF.false (c.kind_at-k.ensures ∙ z)) (gave c.loop-st.invariant c.expr-item.ensures) (record { symbols = c.expr-item.auto.symbols; head = c.expr-item.auto.head; load = c.expr-item.auto.load }) c.in-Done.is (omega (arith, ahead_of c.expr-item.ensures c.in-Done.is)) (sym c.kind_at.ensures ∙ c.if-kind_at-ne-COMMA.false) c.consume-comma.ensures c.in-Done-comma.is

@@ -17,7 +17,7 @@ pub returns-in_default : goal.returns-in_default
 unfolding item_list
 returns-in_default c =
     gives (λ E e. let p0 = begin 0 (λ x. item_list x (walkers x c.args.depth)) E e c.requires in
-    stop 0 (λ x. comma_list x 30 (table_item x (walkers x c.args.depth)) (fuel x) 0) _ p0 refl (omega arith) c.table_items-items.ensures.does (not_done _ c.in_default.in_default-own.keys2))
+    stop 0 (λ x. comma_list x 30 (table_item x (walkers x c.args.depth)) (fuel x) 0) _ p0 refl (omega arith) c.table_items-items.ensures.does (not_done _ c.in_default.not-Done))
 
 pub head_word-word-requires : goal.head_word-word-requires
 head_word-word-requires c = (omega arith, count-few c.table_items-items.ensures c.in-Done.is)
@@ -28,12 +28,12 @@ push_node-requires c =
     let E = blank (get_or c.args.st.now 4 0) in
     let e = blanks (get_or c.args.st.now 4 0) in
     let p0 = begin 0 (λ x. item_list x (walkers x c.args.depth)) E e c.requires in
-    let p1 = go 0 (λ x. comma_list x 30 (table_item x (walkers x c.args.depth)) (fuel x) 0) _ p0 refl c.table_items-items.ensures.does (kept c.table_items-items.auto) c.in-Done.is in
+    let p1 = go 0 (λ x. comma_list x 30 (table_item x (walkers x c.args.depth)) (fuel x) 0) _ p0 refl c.table_items-items.ensures.does (record { symbols = c.table_items-items.auto.symbols; head = c.table_items-items.auto.head; load = c.table_items-items.auto.load }) c.in-Done.is in
     pushable-at (starts p1)
 
 pub returns : goal.returns
 unfolding item_list
 returns c =
     gives (λ E e. let p0 = begin 0 (λ x. item_list x (walkers x c.args.depth)) E e c.requires in
-    let p1 = go 0 (λ x. comma_list x 30 (table_item x (walkers x c.args.depth)) (fuel x) 0) _ p0 refl c.table_items-items.ensures.does (kept c.table_items-items.auto) c.in-Done.is in
+    let p1 = go 0 (λ x. comma_list x 30 (table_item x (walkers x c.args.depth)) (fuel x) 0) _ p0 refl c.table_items-items.ensures.does (record { symbols = c.table_items-items.auto.symbols; head = c.table_items-items.auto.head; load = c.table_items-items.auto.load }) c.in-Done.is in
     last 0 (λ x. push x 12 false _ 0) p1 refl (omega arith) (pushed-as p1 c.head_word-word.ensures c.push_node.ensures))

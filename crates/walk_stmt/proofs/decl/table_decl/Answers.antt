@@ -19,7 +19,7 @@ pub returns-in_default : goal.returns-in_default
 unfolding table_decl
 returns-in_default c =
     gives (λ E e. let p0 = begin 0 (λ x. table_decl x (walkers x c.args.depth) c.args.i) E e c.requires.0 in
-    stop 0 (λ x. expect x 29) _ p0 refl (omega arith) (expected p0 c.expect-opened.ensures) (not_done _ c.in_default.in_default-own.keys2))
+    stop 0 (λ x. expect x 29) _ p0 refl (omega arith) (expected p0 c.expect-opened.ensures) (not_done _ c.in_default.not-Done))
 
 pub item_list-items-requires : goal.item_list-items-requires
 unfolding table_decl
@@ -35,7 +35,7 @@ unfolding table_decl
 returns-in_default-items c =
     gives (λ E e. let p0 = begin 0 (λ x. table_decl x (walkers x c.args.depth) c.args.i) E e c.requires.0 in
     let p1 = go 0 (λ x. expect x 29) _ p0 refl (expected p0 c.expect-opened.ensures) same c.in-Done.is in
-    stop 0 (λ x. item_list x (walkers x c.args.depth)) _ p1 refl (omega arith) (called p1 c.item_list-items.ensures) (not_done _ c.in_default-items.in_default-items-own.keys2))
+    stop 0 (λ x. item_list x (walkers x c.args.depth)) _ p1 refl (omega arith) (called p1 c.item_list-items.ensures) (not_done _ c.in_default-items.not-Done))
 
 pub expect-closed-requires : goal.expect-closed-requires
 unfolding table_decl
@@ -44,7 +44,7 @@ expect-closed-requires c =
     let e = blanks (get_or c.args.st.now 4 0) in
     let p0 = begin 0 (λ x. table_decl x (walkers x c.args.depth) c.args.i) E e c.requires.0 in
     let p1 = go 0 (λ x. expect x 29) _ p0 refl (expected p0 c.expect-opened.ensures) same c.in-Done.is in
-    let p2 = go 0 (λ x. item_list x (walkers x c.args.depth)) _ p1 refl (called p1 c.item_list-items.ensures) (kept c.item_list-items.auto) c.in-Done-items.is in
+    let p2 = go 0 (λ x. item_list x (walkers x c.args.depth)) _ p1 refl (called p1 c.item_list-items.ensures) (record { symbols = c.item_list-items.auto.symbols; head = c.item_list-items.auto.head; load = c.item_list-items.auto.load }) c.in-Done-items.is in
     standing-at (starts p2)
 
 pub returns-in_default-closed : goal.returns-in_default-closed
@@ -52,8 +52,8 @@ unfolding table_decl
 returns-in_default-closed c =
     gives (λ E e. let p0 = begin 0 (λ x. table_decl x (walkers x c.args.depth) c.args.i) E e c.requires.0 in
     let p1 = go 0 (λ x. expect x 29) _ p0 refl (expected p0 c.expect-opened.ensures) same c.in-Done.is in
-    let p2 = go 0 (λ x. item_list x (walkers x c.args.depth)) _ p1 refl (called p1 c.item_list-items.ensures) (kept c.item_list-items.auto) c.in-Done-items.is in
-    stop 0 (λ x. expect x 30) _ p2 refl (omega arith) (expected p2 c.expect-closed.ensures) (not_done _ c.in_default-closed.in_default-closed-own.keys2))
+    let p2 = go 0 (λ x. item_list x (walkers x c.args.depth)) _ p1 refl (called p1 c.item_list-items.ensures) (record { symbols = c.item_list-items.auto.symbols; head = c.item_list-items.auto.head; load = c.item_list-items.auto.load }) c.in-Done-items.is in
+    stop 0 (λ x. expect x 30) _ p2 refl (omega arith) (expected p2 c.expect-closed.ensures) (not_done _ c.in_default-closed.not-Done))
 
 pub declare_other-declared-requires : goal.declare_other-declared-requires
 unfolding table_decl
@@ -62,7 +62,7 @@ declare_other-declared-requires c =
     let e = blanks (get_or c.args.st.now 4 0) in
     let p0 = begin 0 (λ x. table_decl x (walkers x c.args.depth) c.args.i) E e c.requires.0 in
     let p1 = go 0 (λ x. expect x 29) _ p0 refl (expected p0 c.expect-opened.ensures) same c.in-Done.is in
-    let p2 = go 0 (λ x. item_list x (walkers x c.args.depth)) _ p1 refl (called p1 c.item_list-items.ensures) (kept c.item_list-items.auto) c.in-Done-items.is in
+    let p2 = go 0 (λ x. item_list x (walkers x c.args.depth)) _ p1 refl (called p1 c.item_list-items.ensures) (record { symbols = c.item_list-items.auto.symbols; head = c.item_list-items.auto.head; load = c.item_list-items.auto.load }) c.in-Done-items.is in
     let p3 = go 0 (λ x. expect x 30) _ p2 refl (expected p2 c.expect-closed.ensures) same c.in-Done-closed.is in
     (begins p3, c.requires.1)
 
@@ -80,10 +80,10 @@ unfolding table_decl
 returns-in_default-declared c =
     gives (λ E e. let p0 = begin 0 (λ x. table_decl x (walkers x c.args.depth) c.args.i) E e c.requires.0 in
     let p1 = go 0 (λ x. expect x 29) _ p0 refl (expected p0 c.expect-opened.ensures) same c.in-Done.is in
-    let p2 = go 0 (λ x. item_list x (walkers x c.args.depth)) _ p1 refl (called p1 c.item_list-items.ensures) (kept c.item_list-items.auto) c.in-Done-items.is in
+    let p2 = go 0 (λ x. item_list x (walkers x c.args.depth)) _ p1 refl (called p1 c.item_list-items.ensures) (record { symbols = c.item_list-items.auto.symbols; head = c.item_list-items.auto.head; load = c.item_list-items.auto.load }) c.in-Done-items.is in
     let p3 = go 0 (λ x. expect x 30) _ p2 refl (expected p2 c.expect-closed.ensures) same c.in-Done-closed.is in
     let p4 = by p3 (table_step _ _ _ _) in
-    stop 0 (λ x. node_and_name x 78 c.args.i) _ p4 refl (omega arith) (called p3 c.declare_other-declared.ensures) (not_done _ c.in_default-declared.in_default-declared-own.keys2))
+    stop 0 (λ x. node_and_name x 78 c.args.i) _ p4 refl (omega arith) (called p3 c.declare_other-declared.ensures) (not_done _ c.in_default-declared.not-Done))
 
 pub expect-requires : goal.expect-requires
 unfolding table_decl
@@ -92,10 +92,10 @@ expect-requires c =
     let e = blanks (get_or c.args.st.now 4 0) in
     let p0 = begin 0 (λ x. table_decl x (walkers x c.args.depth) c.args.i) E e c.requires.0 in
     let p1 = go 0 (λ x. expect x 29) _ p0 refl (expected p0 c.expect-opened.ensures) same c.in-Done.is in
-    let p2 = go 0 (λ x. item_list x (walkers x c.args.depth)) _ p1 refl (called p1 c.item_list-items.ensures) (kept c.item_list-items.auto) c.in-Done-items.is in
+    let p2 = go 0 (λ x. item_list x (walkers x c.args.depth)) _ p1 refl (called p1 c.item_list-items.ensures) (record { symbols = c.item_list-items.auto.symbols; head = c.item_list-items.auto.head; load = c.item_list-items.auto.load }) c.in-Done-items.is in
     let p3 = go 0 (λ x. expect x 30) _ p2 refl (expected p2 c.expect-closed.ensures) same c.in-Done-closed.is in
     let p4 = by p3 (table_step _ _ _ _) in
-    let p5 = go 0 (λ x. node_and_name x 78 c.args.i) _ p4 refl (called p3 c.declare_other-declared.ensures) (kept c.declare_other-declared.auto) c.in-Done-declared.is in
+    let p5 = go 0 (λ x. node_and_name x 78 c.args.i) _ p4 refl (called p3 c.declare_other-declared.ensures) (record { symbols = c.declare_other-declared.auto.symbols; head = c.declare_other-declared.auto.head; load = c.declare_other-declared.auto.load }) c.in-Done-declared.is in
     standing-at (starts p5)
 
 pub shape_of-symbols : goal.shape_of-symbols
@@ -112,8 +112,8 @@ unfolding table_decl
 returns c =
     gives (λ E e. let p0 = begin 0 (λ x. table_decl x (walkers x c.args.depth) c.args.i) E e c.requires.0 in
     let p1 = go 0 (λ x. expect x 29) _ p0 refl (expected p0 c.expect-opened.ensures) same c.in-Done.is in
-    let p2 = go 0 (λ x. item_list x (walkers x c.args.depth)) _ p1 refl (called p1 c.item_list-items.ensures) (kept c.item_list-items.auto) c.in-Done-items.is in
+    let p2 = go 0 (λ x. item_list x (walkers x c.args.depth)) _ p1 refl (called p1 c.item_list-items.ensures) (record { symbols = c.item_list-items.auto.symbols; head = c.item_list-items.auto.head; load = c.item_list-items.auto.load }) c.in-Done-items.is in
     let p3 = go 0 (λ x. expect x 30) _ p2 refl (expected p2 c.expect-closed.ensures) same c.in-Done-closed.is in
     let p4 = by p3 (table_step _ _ _ _) in
-    let p5 = go 0 (λ x. node_and_name x 78 c.args.i) _ p4 refl (called p3 c.declare_other-declared.ensures) (kept c.declare_other-declared.auto) c.in-Done-declared.is in
+    let p5 = go 0 (λ x. node_and_name x 78 c.args.i) _ p4 refl (called p3 c.declare_other-declared.ensures) (record { symbols = c.declare_other-declared.auto.symbols; head = c.declare_other-declared.auto.head; load = c.declare_other-declared.auto.load }) c.in-Done-declared.is in
     last 0 (λ x. expect x 7) p5 refl (omega arith) (expected p5 c.expect.ensures))

@@ -24,8 +24,8 @@ unfolding table_item
 returns-in_default c =
     record {
       does = gives (λ E e. let p0 = begin 0 (λ x. table_item x (walkers x c.args.depth)) E e c.requires in
-          stop 0 (λ x. ident x (λ i. InvalidTknMsg 3)) _ p0 refl (omega arith) (named p0 (λ i. InvalidTknMsg 3) (message-word 3 (λ z. omega arith)) c.match_ident-named.ensures) (not_done _ c.in_default.in_default-own.keys2));
-      ahead = ahead_none (not_done _ c.in_default.in_default-own.keys2);
+          stop 0 (λ x. ident x (λ i. InvalidTknMsg 3)) _ p0 refl (omega arith) (named p0 (λ i. InvalidTknMsg 3) (message-word 3 (λ z. omega arith)) c.match_ident-named.ensures) (not_done _ c.in_default.not-Done));
+      ahead = ahead_none (not_done _ c.in_default.not-Done);
     }
 
 pub expect-arrow-requires : goal.expect-arrow-requires
@@ -43,8 +43,8 @@ returns-in_default-arrow c =
     record {
       does = gives (λ E e. let p0 = begin 0 (λ x. table_item x (walkers x c.args.depth)) E e c.requires in
           let p1 = go 0 (λ x. ident x (λ i. InvalidTknMsg 3)) _ p0 refl (named p0 (λ i. InvalidTknMsg 3) (message-word 3 (λ z. omega arith)) c.match_ident-named.ensures) same c.in-Done.is in
-          stop 0 (λ x. expect x 25) _ p1 refl (omega arith) (expected p1 c.expect-arrow.ensures) (not_done _ c.in_default-arrow.in_default-arrow-own.keys2));
-      ahead = ahead_none (not_done _ c.in_default-arrow.in_default-arrow-own.keys2);
+          stop 0 (λ x. expect x 25) _ p1 refl (omega arith) (expected p1 c.expect-arrow.ensures) (not_done _ c.in_default-arrow.not-Done));
+      ahead = ahead_none (not_done _ c.in_default-arrow.not-Done);
     }
 
 pub expr-value-requires : goal.expr-value-requires
@@ -64,8 +64,8 @@ returns-in_default-value c =
       does = gives (λ E e. let p0 = begin 0 (λ x. table_item x (walkers x c.args.depth)) E e c.requires in
           let p1 = go 0 (λ x. ident x (λ i. InvalidTknMsg 3)) _ p0 refl (named p0 (λ i. InvalidTknMsg 3) (message-word 3 (λ z. omega arith)) c.match_ident-named.ensures) same c.in-Done.is in
           let p2 = go 0 (λ x. expect x 25) _ p1 refl (expected p1 c.expect-arrow.ensures) same c.in-Done-arrow.is in
-          stop 1 (λ x. (walkers x c.args.depth).assign) _ p2 refl (omega arith) (called p2 c.expr-value.ensures) (not_done _ c.in_default-value.in_default-value-own.keys2));
-      ahead = ahead_none (not_done _ c.in_default-value.in_default-value-own.keys2);
+          stop 1 (λ x. (walkers x c.args.depth).assign) _ p2 refl (omega arith) (called p2 c.expr-value.ensures) (not_done _ c.in_default-value.not-Done));
+      ahead = ahead_none (not_done _ c.in_default-value.not-Done);
     }
 
 pub overflow_cast-key : goal.overflow_cast-key
@@ -79,7 +79,7 @@ push_node-requires c =
     let p0 = begin 0 (λ x. table_item x (walkers x c.args.depth)) E e c.requires in
     let p1 = go 0 (λ x. ident x (λ i. InvalidTknMsg 3)) _ p0 refl (named p0 (λ i. InvalidTknMsg 3) (message-word 3 (λ z. omega arith)) c.match_ident-named.ensures) same c.in-Done.is in
     let p2 = go 0 (λ x. expect x 25) _ p1 refl (expected p1 c.expect-arrow.ensures) same c.in-Done-arrow.is in
-    let p3 = go 1 (λ x. (walkers x c.args.depth).assign) _ p2 refl (called p2 c.expr-value.ensures) (kept c.expr-value.auto) c.in-Done-value.is in
+    let p3 = go 1 (λ x. (walkers x c.args.depth).assign) _ p2 refl (called p2 c.expr-value.ensures) (record { symbols = c.expr-value.auto.symbols; head = c.expr-value.auto.head; load = c.expr-value.auto.load }) c.in-Done-value.is in
     pushable-at (starts p3)
 
 pub returns : goal.returns
@@ -89,7 +89,7 @@ returns c =
       does = gives (λ E e. let p0 = begin 0 (λ x. table_item x (walkers x c.args.depth)) E e c.requires in
           let p1 = go 0 (λ x. ident x (λ i. InvalidTknMsg 3)) _ p0 refl (named p0 (λ i. InvalidTknMsg 3) (message-word 3 (λ z. omega arith)) c.match_ident-named.ensures) same c.in-Done.is in
           let p2 = go 0 (λ x. expect x 25) _ p1 refl (expected p1 c.expect-arrow.ensures) same c.in-Done-arrow.is in
-          let p3 = go 1 (λ x. (walkers x c.args.depth).assign) _ p2 refl (called p2 c.expr-value.ensures) (kept c.expr-value.auto) c.in-Done-value.is in
+          let p3 = go 1 (λ x. (walkers x c.args.depth).assign) _ p2 refl (called p2 c.expr-value.ensures) (record { symbols = c.expr-value.auto.symbols; head = c.expr-value.auto.head; load = c.expr-value.auto.load }) c.in-Done-value.is in
           last 0 (λ x. push x 13 false 1 (get_or c.args.st.now 0 0)) p3 refl (omega arith) (pushed p3 c.push_node.ensures));
       ahead = let E = blank (get_or c.args.st.now 4 0) in
           let e = blanks (get_or c.args.st.now 4 0) in
