@@ -31,7 +31,7 @@ store_name-requires c =
     let E = blank (get_or c.args.st.now 4 0) in
     let e = blanks (get_or c.args.st.now 4 0) in
     let p0 = begin 0 (λ x. bind_all x (c.args.i ∷ c.args.j ∷ [])) E e q in
-    let p1 = go 0 (λ x. store x c.args.i Other) _ p0 refl (put p0 c.store_name-one.ensures) (kept-symbols c.store_name-one.auto.1.1.1.0) c.in-Done.is in
+    let p1 = go 0 (λ x. store x c.args.i Other) _ p0 refl (put p0 c.store_name-one.ensures) (kept-symbols c.store_name-one.auto.symbols) c.in-Done.is in
     storing _ (starts p1) (omega (arith, c.requires.2))
 
 pub returns : goal.returns
@@ -39,6 +39,6 @@ unfolding bind_all
 returns c =
     record {
       goes = λ hs ls q. gives (λ E e. let p0 = begin 0 (λ x. bind_all x (c.args.i ∷ c.args.j ∷ [])) E e q in
-          let p1 = go 0 (λ x. store x c.args.i Other) _ p0 refl (put p0 c.store_name-one.ensures) (kept-symbols c.store_name-one.auto.1.1.1.0) c.in-Done.is in
+          let p1 = go 0 (λ x. store x c.args.i Other) _ p0 refl (put p0 c.store_name-one.ensures) (kept-symbols c.store_name-one.auto.symbols) c.in-Done.is in
           last 0 (λ x. store x c.args.j Other) (by p1 (and_ok _)) refl (omega arith) (put p1 c.store_name.ensures));
     }

@@ -36,7 +36,7 @@ store_name-one-requires c =
     storing _ (starts a0) (omega (arith, c.shared_slice_known-in-loop-k-1.given c.loop-k.k))
 
 pub shape_of-symbols-in_default : goal.shape_of-symbols-in_default
-shape_of-symbols-in_default c = c.store_name-one.auto.1.1.1.0 ∙ c.loop-k.invariant.3
+shape_of-symbols-in_default c = c.store_name-one.auto.symbols ∙ c.loop-k.invariant.3
 
 pub returns-in_default : goal.returns-in_default
 returns-in_default c =
@@ -57,12 +57,12 @@ loop-k-preserved c = (
   record {
     any = λ hs ls q E e. let a0 = c.loop-k.invariant.0.any hs ls q E e in
         let a1 = on a0 (bind-first (between c.args.load.now c.loop-k.k ((c.args.first + c.args.count) - c.loop-k.k)) _ a0.at (between_more c.args.load.now c.loop-k.k ((c.args.first + c.args.count)) c.loop-k-test.true)) in
-        let a2 = go 0 (λ x. store x (get_or c.args.load.now c.loop-k.k 0) Other) _ a1 refl (put a1 c.store_name-one.ensures) (kept-symbols c.store_name-one.auto.1.1.1.0) c.in-Done.is in
+        let a2 = go 0 (λ x. store x (get_or c.args.load.now c.loop-k.k 0) Other) _ a1 refl (put a1 c.store_name-one.ensures) (kept-symbols c.store_name-one.auto.symbols) c.in-Done.is in
         a2;
   },
   omega (arith, c.loop-k-test),
   c.loop-k.invariant.2,
-  c.store_name-one.auto.1.1.1.0 ∙ c.loop-k.invariant.3,
+  c.store_name-one.auto.symbols ∙ c.loop-k.invariant.3,
 )
 
 pub shape_of-symbols : goal.shape_of-symbols

@@ -63,7 +63,7 @@ push_node-requires c =
     let p0 = begin 0 (λ x. end_block x c.args.body c.args.n) E e q in
     let p1 = go 0 (λ x. expect x 4) _ p0 refl (expected p0 c.expect-closed.ensures) same c.in-Done.is in
     let p2 = unscoped _ (read _ p1) c.one_less.ensures in
-    let p3 = go 0 (λ x. with_return x c.args.body c.args.n) _ p2 refl (called p2 (c.with_return-ended.ensures.goes _ _ _ _ (begins p2))) (kept-nodes c.with_return-ended.auto.0 c.with_return-ended.auto.1.0) c.in-Done-ended.is in
+    let p3 = go 0 (λ x. with_return x c.args.body c.args.n) _ p2 refl (called p2 (c.with_return-ended.ensures.goes _ _ _ _ (begins p2))) (kept-nodes c.with_return-ended.auto.head c.with_return-ended.auto.load) c.in-Done-ended.is in
     pushable-at (starts p3)
 
 pub returns : goal.returns
@@ -72,6 +72,6 @@ returns c =
       goes = λ sc os ys q. gives (λ E e. let p0 = begin 0 (λ x. end_block x c.args.body c.args.n) E e q in
           let p1 = go 0 (λ x. expect x 4) _ p0 refl (expected p0 c.expect-closed.ensures) same c.in-Done.is in
           let p2 = unscoped _ (read _ p1) c.one_less.ensures in
-          let p3 = go 0 (λ x. with_return x c.args.body c.args.n) _ p2 refl (called p2 (c.with_return-ended.ensures.goes _ _ _ _ (begins p2))) (kept-nodes c.with_return-ended.auto.0 c.with_return-ended.auto.1.0) c.in-Done-ended.is in
+          let p3 = go 0 (λ x. with_return x c.args.body c.args.n) _ p2 refl (called p2 (c.with_return-ended.ensures.goes _ _ _ _ (begins p2))) (kept-nodes c.with_return-ended.auto.head c.with_return-ended.auto.load) c.in-Done-ended.is in
           last 0 (λ x. push x 2 false _ _) p3 refl (omega arith) (pushed-as p3 c.head_word-word.ensures c.push_node.ensures));
     }

@@ -53,7 +53,7 @@ returns c =
       goes = λ sc os ks ys q. gives (λ E e. let p0 = begin 0 (λ x. with_return x c.args.body c.args.n) E e q in
           let p1 = aimed _ _ (on p0 (body_is true c.args.body c.args.n p0.at (c.if-not-body.false))) c.top-last.ensures in
           let p2 = no _ _ p1 (sym c.ends_with_return.ensures ∙ c.if-ends_with_return.false) in
-          let p3 = go 0 (λ x. push x 6 false 0 0) _ p2 refl (pushed p2 c.push_node-made.ensures) (kept-nodes c.push_node-made.auto.0 c.push_node-made.auto.1.0) c.in-Done.is in
+          let p3 = go 0 (λ x. push x 6 false 0 0) _ p2 refl (pushed p2 c.push_node-made.ensures) (kept-nodes c.push_node-made.auto.head c.push_node-made.auto.load) c.in-Done.is in
           counted_next p3);
       few = omega (arith, count-is (c.args.n + 1) c.push_node-made.ensures.left.words);
     }

@@ -32,7 +32,7 @@ pub note-requires-2 : goal.note-requires-2
 note-requires-2 c = (omega (arith, c.requires.noting.room, c.requires.noting.listed, c.requires.noting.even, c.listed_by-many.ensures, c.if-many-eq0.false, c.if-many-eq1.false), omega (arith, c.requires.noting.room, c.requires.noting.listed, c.requires.noting.even, c.listed_by-many.ensures, c.if-many-eq0.false, c.if-many-eq1.false), omega (arith, (c.requires.noting.fits (λ z. c.if-many-eq0.false (c.listed_by-many.ensures ∙ z))).place), omega (arith, (c.requires.noting.fits (λ z. c.if-many-eq0.false (c.listed_by-many.ensures ∙ z))).place))
 
 pub note-requires-3 : goal.note-requires-3
-note-requires-3 c = (omega (arith, c.requires.noting.room, c.requires.noting.listed, c.requires.noting.even, c.listed_by-many.ensures, c.if-many-eq0.false, c.note-2.auto.0), omega (arith, c.requires.noting.room, c.requires.noting.listed, c.requires.noting.even, c.listed_by-many.ensures, c.if-many-eq0.false, c.note-2.auto.1.0), omega (arith, (c.requires.noting.fits (λ z. c.if-many-eq0.false (c.listed_by-many.ensures ∙ z))).place), (word_fits c.requires.reason (c.requires.noting.fits (λ z. c.if-many-eq0.false (c.listed_by-many.ensures ∙ z))).first (c.requires.noting.fits (λ z. c.if-many-eq0.false (c.listed_by-many.ensures ∙ z))).second))
+note-requires-3 c = (omega (arith, c.requires.noting.room, c.requires.noting.listed, c.requires.noting.even, c.listed_by-many.ensures, c.if-many-eq0.false, c.note-2.auto.places), omega (arith, c.requires.noting.room, c.requires.noting.listed, c.requires.noting.even, c.listed_by-many.ensures, c.if-many-eq0.false, c.note-2.auto.reasons), omega (arith, (c.requires.noting.fits (λ z. c.if-many-eq0.false (c.listed_by-many.ensures ∙ z))).place), (word_fits c.requires.reason (c.requires.noting.fits (λ z. c.if-many-eq0.false (c.listed_by-many.ensures ∙ z))).first (c.requires.noting.fits (λ z. c.if-many-eq0.false (c.listed_by-many.ensures ∙ z))).second))
 
 pub returns : goal.returns
 returns c = record { noted = noted-two c.requires _ (sym c.listed_by-many.ensures) c.if-many-eq0.false c.if-many-eq1.false refl refl c.note-2.ensures c.note-3.ensures; same = refl }

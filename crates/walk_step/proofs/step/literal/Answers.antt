@@ -14,4 +14,4 @@ pub consume-requires : goal.consume-requires
 consume-requires c = standing_on c.push_node-pushed.ensures c.in-Done.is c.requires.0
 
 pub returns : goal.returns
-returns c = literal-passes c.push_node-pushed.ensures c.push_node-pushed.auto.0 c.push_node-pushed.auto.1.0 c.in-Done.is c.consume.ensures
+returns c = literal-passes c.push_node-pushed.ensures c.push_node-pushed.auto.head c.push_node-pushed.auto.load c.in-Done.is c.consume.ensures

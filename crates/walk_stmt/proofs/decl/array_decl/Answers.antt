@@ -89,13 +89,13 @@ declare_array-requires c =
     (begins p4, c.requires.1, count-few c.array_items-items.ensures c.in-Done-items.is)
 
 pub shape_of-symbols : goal.shape_of-symbols
-shape_of-symbols c = c.declare_array.auto.1.1.1.0 ∙ c.array_items-items.auto.1.1.1.0
+shape_of-symbols c = c.declare_array.auto.symbols ∙ c.array_items-items.auto.symbols
 
 pub shape_of-head : goal.shape_of-head
-shape_of-head c = c.declare_array.auto.1.1.1.1.0 ∙ c.array_items-items.auto.1.1.1.1.0
+shape_of-head c = c.declare_array.auto.head ∙ c.array_items-items.auto.head
 
 pub shape_of-load : goal.shape_of-load
-shape_of-load c = c.declare_array.auto.1.1.1.1.1.0 ∙ c.array_items-items.auto.1.1.1.1.1.0
+shape_of-load c = c.declare_array.auto.load ∙ c.array_items-items.auto.load
 
 pub returns : goal.returns
 unfolding array_decl

@@ -54,13 +54,13 @@ pub expr-item-requires : goal.expr-item-requires
 expr-item-requires c = (begins-turn c.loop-st.invariant.is)
 
 pub shape_of-symbols-in_default : goal.shape_of-symbols-in_default
-shape_of-symbols-in_default c = c.expr-item.auto.1.1.1.0 ∙ c.loop-st.invariant.is.at.kept.symbols
+shape_of-symbols-in_default c = c.expr-item.auto.symbols ∙ c.loop-st.invariant.is.at.kept.symbols
 
 pub shape_of-head-in_default : goal.shape_of-head-in_default
-shape_of-head-in_default c = c.expr-item.auto.1.1.1.1.0 ∙ c.loop-st.invariant.is.at.kept.head
+shape_of-head-in_default c = c.expr-item.auto.head ∙ c.loop-st.invariant.is.at.kept.head
 
 pub shape_of-load-in_default : goal.shape_of-load-in_default
-shape_of-load-in_default c = c.expr-item.auto.1.1.1.1.1.0 ∙ c.loop-st.invariant.is.at.kept.load
+shape_of-load-in_default c = c.expr-item.auto.load ∙ c.loop-st.invariant.is.at.kept.load
 
 pub returns-in_default : goal.returns-in_default
 returns-in_default c = lost c.loop-st.invariant (λ z. c.if-k-eq-RIGHT_BRACKET.false (c.kind_at-k.ensures ∙ z)) (λ z. c.if-k-eq-EOF.false (c.kind_at-k.ensures ∙ z)) (gave c.loop-st.invariant c.expr-item.ensures) (not_done _ c.in_default.not-Done)
@@ -72,13 +72,13 @@ pub overflow_add-st : goal.overflow_add-st
 overflow_add-st c = omega (arith, room c.loop-st.invariant)
 
 pub shape_of-symbols-then-kind_at-ne-COMMA : goal.shape_of-symbols-then-kind_at-ne-COMMA
-shape_of-symbols-then-kind_at-ne-COMMA c = c.expr-item.auto.1.1.1.0 ∙ c.loop-st.invariant.is.at.kept.symbols
+shape_of-symbols-then-kind_at-ne-COMMA c = c.expr-item.auto.symbols ∙ c.loop-st.invariant.is.at.kept.symbols
 
 pub shape_of-head-then-kind_at-ne-COMMA : goal.shape_of-head-then-kind_at-ne-COMMA
-shape_of-head-then-kind_at-ne-COMMA c = c.expr-item.auto.1.1.1.1.0 ∙ c.loop-st.invariant.is.at.kept.head
+shape_of-head-then-kind_at-ne-COMMA c = c.expr-item.auto.head ∙ c.loop-st.invariant.is.at.kept.head
 
 pub shape_of-load-then-kind_at-ne-COMMA : goal.shape_of-load-then-kind_at-ne-COMMA
-shape_of-load-then-kind_at-ne-COMMA c = c.expr-item.auto.1.1.1.1.1.0 ∙ c.loop-st.invariant.is.at.kept.load
+shape_of-load-then-kind_at-ne-COMMA c = c.expr-item.auto.load ∙ c.loop-st.invariant.is.at.kept.load
 
 pub returns-then-kind_at-ne-COMMA : goal.returns-then-kind_at-ne-COMMA
 returns-then-kind_at-ne-COMMA c = ended c.loop-st.invariant (λ z. c.if-k-eq-RIGHT_BRACKET.false (c.kind_at-k.ensures ∙ z)) (λ z. c.if-k-eq-EOF.false (c.kind_at-k.ensures ∙ z)) (gave c.loop-st.invariant c.expr-item.ensures) (record { symbols = c.expr-item.auto.symbols; head = c.expr-item.auto.head; load = c.expr-item.auto.load }) c.in-Done.is (omega (arith, ahead_of c.expr-item.ensures c.in-Done.is)) (λ z. c.if-kind_at-ne-COMMA.true (c.kind_at.ensures ∙ z))
@@ -87,13 +87,13 @@ pub consume-comma-requires : goal.consume-comma-requires
 consume-comma-requires c = standing-at (at_item c.loop-st.invariant (λ z. c.if-k-eq-RIGHT_BRACKET.false (c.kind_at-k.ensures ∙ z)) (λ z. c.if-k-eq-EOF.false (c.kind_at-k.ensures ∙ z)) (gave c.loop-st.invariant c.expr-item.ensures) (record { symbols = c.expr-item.auto.symbols; head = c.expr-item.auto.head; load = c.expr-item.auto.load }) c.in-Done.is (omega (arith, ahead_of c.expr-item.ensures c.in-Done.is)))
 
 pub shape_of-symbols-in_default-comma : goal.shape_of-symbols-in_default-comma
-shape_of-symbols-in_default-comma c = c.expr-item.auto.1.1.1.0 ∙ c.loop-st.invariant.is.at.kept.symbols
+shape_of-symbols-in_default-comma c = c.expr-item.auto.symbols ∙ c.loop-st.invariant.is.at.kept.symbols
 
 pub shape_of-head-in_default-comma : goal.shape_of-head-in_default-comma
-shape_of-head-in_default-comma c = c.expr-item.auto.1.1.1.1.0 ∙ c.loop-st.invariant.is.at.kept.head
+shape_of-head-in_default-comma c = c.expr-item.auto.head ∙ c.loop-st.invariant.is.at.kept.head
 
 pub shape_of-load-in_default-comma : goal.shape_of-load-in_default-comma
-shape_of-load-in_default-comma c = c.expr-item.auto.1.1.1.1.1.0 ∙ c.loop-st.invariant.is.at.kept.load
+shape_of-load-in_default-comma c = c.expr-item.auto.load ∙ c.loop-st.invariant.is.at.kept.load
 
 pub returns-in_default-comma : goal.returns-in_default-comma
 returns-in_default-comma c = comma-lost c.loop-st.invariant (λ z. c.if-k-eq-RIGHT_BRACKET.false (c.kind_at-k.ensures ∙ z)) (λ z. c.if-k-eq-EOF.false (c.kind_at-k.ensures ∙ z)) (gave c.loop-st.invariant c.expr-item.ensures) (record { symbols = c.expr-item.auto.symbols; head = c.expr-item.auto.head; load = c.expr-item.auto.load }) c.in-Done.is (omega (arith, ahead_of c.expr-item.ensures c.in-Done.is)) (sym c.kind_at.ensures ∙ c.if-kind_at-ne-COMMA.false) c.consume-comma.ensures (not_done _ c.in_default-comma.not-Done)

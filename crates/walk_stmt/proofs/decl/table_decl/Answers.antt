@@ -67,13 +67,13 @@ declare_other-declared-requires c =
     (begins p3, c.requires.1)
 
 pub shape_of-symbols-in_default-declared : goal.shape_of-symbols-in_default-declared
-shape_of-symbols-in_default-declared c = c.declare_other-declared.auto.1.1.1.0 ∙ c.item_list-items.auto.1.1.1.0
+shape_of-symbols-in_default-declared c = c.declare_other-declared.auto.symbols ∙ c.item_list-items.auto.symbols
 
 pub shape_of-head-in_default-declared : goal.shape_of-head-in_default-declared
-shape_of-head-in_default-declared c = c.declare_other-declared.auto.1.1.1.1.0 ∙ c.item_list-items.auto.1.1.1.1.0
+shape_of-head-in_default-declared c = c.declare_other-declared.auto.head ∙ c.item_list-items.auto.head
 
 pub shape_of-load-in_default-declared : goal.shape_of-load-in_default-declared
-shape_of-load-in_default-declared c = c.declare_other-declared.auto.1.1.1.1.1.0 ∙ c.item_list-items.auto.1.1.1.1.1.0
+shape_of-load-in_default-declared c = c.declare_other-declared.auto.load ∙ c.item_list-items.auto.load
 
 pub returns-in_default-declared : goal.returns-in_default-declared
 unfolding table_decl
@@ -99,13 +99,13 @@ expect-requires c =
     standing-at (starts p5)
 
 pub shape_of-symbols : goal.shape_of-symbols
-shape_of-symbols c = c.declare_other-declared.auto.1.1.1.0 ∙ c.item_list-items.auto.1.1.1.0
+shape_of-symbols c = c.declare_other-declared.auto.symbols ∙ c.item_list-items.auto.symbols
 
 pub shape_of-head : goal.shape_of-head
-shape_of-head c = c.declare_other-declared.auto.1.1.1.1.0 ∙ c.item_list-items.auto.1.1.1.1.0
+shape_of-head c = c.declare_other-declared.auto.head ∙ c.item_list-items.auto.head
 
 pub shape_of-load : goal.shape_of-load
-shape_of-load c = c.declare_other-declared.auto.1.1.1.1.1.0 ∙ c.item_list-items.auto.1.1.1.1.1.0
+shape_of-load c = c.declare_other-declared.auto.load ∙ c.item_list-items.auto.load
 
 pub returns : goal.returns
 unfolding table_decl
