@@ -12,7 +12,7 @@ use Rattle.sifc_def.specs.Stmt.{comma_list}
 use Rattle.sifc_def.specs.Walk.{walkers}
 use Rattle.sifc_step.specs.declared.walk.Walk.{Walk}
 use Rattle.sifc_step.specs.Abs.{inp, mem}
-use Rattle.sifc_step.specs.Steps.{kept, same, begin, blank, blanks, gives, go, stop, last, read, yes, no, test, not-eof, ahead_of, counted}
+use Rattle.sifc_step.specs.Steps.{same, begin, blank, blanks, gives, go, stop, last, read, yes, no, test, not-eof, ahead_of, counted}
 use Rattle.sifc_step.specs.SmallLaws.{pass, thrown-counting}
 use Rattle.sifc_step.specs.Loops.{Looping, looping, turn, turn-own, onward}
 use Rattle.sifc_stmt.proofs.Tags.{not_done}
@@ -20,7 +20,7 @@ use Rattle.sifc_declare.proofs.Ends.{optional-no, optional-yes, counted_next, re
 use Rattle.sifc_stmt.proofs.decl.array_items.Given as goal
 
 abbrev pub invariant-loop-lim : goal.invariant-loop-lim
-invariant-loop-lim l = Looping (λ l.x f. comma_list l.x 6 (walkers l.x l.depth).assign f 0) (λ l.x f. comma_list l.x 6 (walkers l.x l.depth).assign f l.n) (inp l.script l.offs l.words l.lim) (mem l.initial.symbols l.initial.head l.initial.load) l.initial.x (mem l.symbols l.head l.load) l.x × (l.n ≤ l.x.at)
+invariant-loop-lim l = Looping (λ c f. comma_list c 6 (walkers c l.depth).assign f 0) (λ c f. comma_list c 6 (walkers c l.depth).assign f l.n) (inp l.script l.offs l.words l.lim) (mem l.initial.symbols l.initial.head l.initial.load) l.initial.x (mem l.symbols l.head l.load) l.x × (l.n ≤ l.x.at)
 
 abbrev pub decreases-loop-lim : goal.decreases-loop-lim
 decreases-loop-lim l = length l.words - l.x.at

@@ -6,7 +6,7 @@ use Rattle.sifc_def.specs.declared.Why.TheVariants.{InvalidTknMsg}
 use Rattle.sifc_def.specs.State.{expect, ident, push}
 use Rattle.sifc_def.specs.Stmt.{table_item}
 use Rattle.sifc_def.specs.Walk.{walkers}
-use Rattle.sifc_step.specs.Steps.{kept, same, begin, blank, blanks, gives, go, stop, last, ahead_of}
+use Rattle.sifc_step.specs.Steps.{same, begin, blank, blanks, gives, go, stop, last, ahead_of}
 use Rattle.sifc_step.specs.SmallLaws.{named, expected, pushed}
 use Rattle.sifc_stmt.proofs.Tags.{not_done}
 use Rattle.sifc_declare.proofs.Ends.{ahead-by, ahead_none, name-ahead}
@@ -16,8 +16,8 @@ pub returns-in_default : goal.returns-in_default
 unfolding table_item
 returns-in_default c = (
   gives (λ E e. let p0 = begin 0 (λ x. table_item x (walkers x c.args.depth)) E e c.requires in
-      stop 0 (λ x. ident x (λ i. InvalidTknMsg 3)) _ p0 refl (omega arith) (named (λ i. InvalidTknMsg 3) p0.is c.match_ident-named.ensures refl) (not_done _ c.in_default.in_default-own.keys2)),
-  ahead_none c.match_ident-named.result c.args.w.at (not_done _ c.in_default.in_default-own.keys2),
+      stop 0 (λ x. ident x (λ i. InvalidTknMsg 3)) _ p0 refl (omega arith) (named (λ i. InvalidTknMsg 3) p0.is c.match_ident-named.ensures refl) (not_done _ c.in_default.not-Done)),
+  ahead_none c.match_ident-named.result c.args.w.at (not_done _ c.in_default.not-Done),
 )
 
 pub expect-arrow-requires : goal.expect-arrow-requires
@@ -34,8 +34,8 @@ unfolding table_item
 returns-in_default-arrow c = (
   gives (λ E e. let p0 = begin 0 (λ x. table_item x (walkers x c.args.depth)) E e c.requires in
       let p1 = go 0 (λ x. ident x (λ i. InvalidTknMsg 3)) _ p0 refl (named (λ i. InvalidTknMsg 3) p0.is c.match_ident-named.ensures refl) same c.in-Done.is in
-      stop 0 (λ x. expect x 25) _ p1 refl (omega arith) (expected p1.is c.expect-arrow.ensures) (not_done _ c.in_default-arrow.in_default-arrow-own.keys2)),
-  ahead_none c.expect-arrow.result c.args.w.at (not_done _ c.in_default-arrow.in_default-arrow-own.keys2),
+      stop 0 (λ x. expect x 25) _ p1 refl (omega arith) (expected p1.is c.expect-arrow.ensures) (not_done _ c.in_default-arrow.not-Done)),
+  ahead_none c.expect-arrow.result c.args.w.at (not_done _ c.in_default-arrow.not-Done),
 )
 
 pub expr-value-requires : goal.expr-value-requires
@@ -54,8 +54,8 @@ returns-in_default-value c = (
   gives (λ E e. let p0 = begin 0 (λ x. table_item x (walkers x c.args.depth)) E e c.requires in
       let p1 = go 0 (λ x. ident x (λ i. InvalidTknMsg 3)) _ p0 refl (named (λ i. InvalidTknMsg 3) p0.is c.match_ident-named.ensures refl) same c.in-Done.is in
       let p2 = go 0 (λ x. expect x 25) _ p1 refl (expected p1.is c.expect-arrow.ensures) same c.in-Done-arrow.is in
-      stop 1 (λ x. (walkers x c.args.depth).assign) _ p2 refl (omega arith) c.expr-value.ensures (not_done _ c.in_default-value.in_default-value-own.keys2)),
-  ahead_none c.expr-value.result c.args.w.at (not_done _ c.in_default-value.in_default-value-own.keys2),
+      stop 1 (λ x. (walkers x c.args.depth).assign) _ p2 refl (omega arith) c.expr-value.ensures (not_done _ c.in_default-value.not-Done)),
+  ahead_none c.expr-value.result c.args.w.at (not_done _ c.in_default-value.not-Done),
 )
 
 pub overflow_cast-key : goal.overflow_cast-key
@@ -69,7 +69,7 @@ push_node-requires c =
     let p0 = begin 0 (λ x. table_item x (walkers x c.args.depth)) E e c.requires in
     let p1 = go 0 (λ x. ident x (λ i. InvalidTknMsg 3)) _ p0 refl (named (λ i. InvalidTknMsg 3) p0.is c.match_ident-named.ensures refl) same c.in-Done.is in
     let p2 = go 0 (λ x. expect x 25) _ p1 refl (expected p1.is c.expect-arrow.ensures) same c.in-Done-arrow.is in
-    let p3 = go 1 (λ x. (walkers x c.args.depth).assign) _ p2 refl c.expr-value.ensures (kept c.expr-value.auto) c.in-Done-value.is in
+    let p3 = go 1 (λ x. (walkers x c.args.depth).assign) _ p2 refl c.expr-value.ensures (record { symbols = c.expr-value.auto.symbols; head = c.expr-value.auto.head; load = c.expr-value.auto.load }) c.in-Done-value.is in
     (p3.is.even, p3.is.used)
 
 pub returns : goal.returns
@@ -78,7 +78,7 @@ returns c = (
   gives (λ E e. let p0 = begin 0 (λ x. table_item x (walkers x c.args.depth)) E e c.requires in
       let p1 = go 0 (λ x. ident x (λ i. InvalidTknMsg 3)) _ p0 refl (named (λ i. InvalidTknMsg 3) p0.is c.match_ident-named.ensures refl) same c.in-Done.is in
       let p2 = go 0 (λ x. expect x 25) _ p1 refl (expected p1.is c.expect-arrow.ensures) same c.in-Done-arrow.is in
-      let p3 = go 1 (λ x. (walkers x c.args.depth).assign) _ p2 refl c.expr-value.ensures (kept c.expr-value.auto) c.in-Done-value.is in
+      let p3 = go 1 (λ x. (walkers x c.args.depth).assign) _ p2 refl c.expr-value.ensures (record { symbols = c.expr-value.auto.symbols; head = c.expr-value.auto.head; load = c.expr-value.auto.load }) c.in-Done-value.is in
       last 0 (λ x. push x 13 false 1 c.args.w.at) p3 refl (omega arith) (pushed p3.is c.push_node.ensures)),
   let E = blank c.args.w.errors in
       let e = blanks c.args.w.errors in

@@ -12,7 +12,7 @@ use Rattle.sifc_def.specs.Stmt.{comma_list, table_item}
 use Rattle.sifc_def.specs.Walk.{walkers}
 use Rattle.sifc_step.specs.declared.walk.Walk.{Walk}
 use Rattle.sifc_step.specs.Abs.{inp, mem}
-use Rattle.sifc_step.specs.Steps.{kept, same, begin, blank, blanks, gives, go, stop, last, read, yes, no, test, not-eof, ahead_of, counted}
+use Rattle.sifc_step.specs.Steps.{same, begin, blank, blanks, gives, go, stop, last, read, yes, no, test, not-eof, ahead_of, counted}
 use Rattle.sifc_step.specs.SmallLaws.{pass, thrown-counting}
 use Rattle.sifc_step.specs.Loops.{Looping, looping, turn, turn-own, onward}
 use Rattle.sifc_stmt.proofs.Tags.{not_done}
@@ -69,13 +69,13 @@ pub table_item-item-requires : goal.table_item-item-requires
 table_item-item-requires c = c.loop-lim.invariant.0.is
 
 pub shape_of-symbols-in_default : goal.shape_of-symbols-in_default
-shape_of-symbols-in_default c = c.table_item-item.auto.1.1.1.0 ∙ c.loop-lim.invariant.0.kept.symbols
+shape_of-symbols-in_default c = c.table_item-item.auto.symbols ∙ c.loop-lim.invariant.0.kept.symbols
 
 pub shape_of-head-in_default : goal.shape_of-head-in_default
-shape_of-head-in_default c = c.table_item-item.auto.1.1.1.1.0 ∙ c.loop-lim.invariant.0.kept.head
+shape_of-head-in_default c = c.table_item-item.auto.head ∙ c.loop-lim.invariant.0.kept.head
 
 pub shape_of-load-in_default : goal.shape_of-load-in_default
-shape_of-load-in_default c = c.table_item-item.auto.1.1.1.1.1.0 ∙ c.loop-lim.invariant.0.kept.load
+shape_of-load-in_default c = c.table_item-item.auto.load ∙ c.loop-lim.invariant.0.kept.load
 
 pub returns-in_default : goal.returns-in_default
 unfolding comma_list
@@ -84,8 +84,8 @@ returns-in_default c = (
       let p1 = read _ p0 in
       let p2 = no _ _ p1 (test (λ k. eqb k 30) p1 (ne_eqb _ _ (λ z. c.if-k-eq-DOUBLE_RIGHT_BRACKET.false (c.kind_at-k.ensures ∙ z)))) in
       let p3 = no _ _ p2 (test (λ k. eqb k 47) p2 (ne_eqb _ _ (λ z. c.if-k-eq-EOF.false (c.kind_at-k.ensures ∙ z)))) in
-      stop 0 (λ x. table_item x (walkers x c.args.depth)) _ p3 refl (omega arith) c.table_item-item.ensures.0 (not_done _ c.in_default.in_default-own.keys2)),
-  none_within c.table_item-item.result 65536 (not_done _ c.in_default.in_default-own.keys2),
+      stop 0 (λ x. table_item x (walkers x c.args.depth)) _ p3 refl (omega arith) c.table_item-item.ensures.0 (not_done _ c.in_default.not-Done)),
+  none_within c.table_item-item.result 65536 (not_done _ c.in_default.not-Done),
 )
 
 pub kind_at-requires : goal.kind_at-requires
@@ -97,20 +97,20 @@ kind_at-requires c =
     let p1 = read _ p0 in
     let p2 = no _ _ p1 (test (λ k. eqb k 30) p1 (ne_eqb _ _ (λ z. c.if-k-eq-DOUBLE_RIGHT_BRACKET.false (c.kind_at-k.ensures ∙ z)))) in
     let p3 = no _ _ p2 (test (λ k. eqb k 47) p2 (ne_eqb _ _ (λ z. c.if-k-eq-EOF.false (c.kind_at-k.ensures ∙ z)))) in
-    let p4 = go 0 (λ x. table_item x (walkers x c.args.depth)) _ p3 refl c.table_item-item.ensures.0 (kept c.table_item-item.auto) c.in-Done.is in
+    let p4 = go 0 (λ x. table_item x (walkers x c.args.depth)) _ p3 refl c.table_item-item.ensures.0 (record { symbols = c.table_item-item.auto.symbols; head = c.table_item-item.auto.head; load = c.table_item-item.auto.load }) c.in-Done.is in
     p4.is.stands.here
 
 pub overflow_add-n : goal.overflow_add-n
 overflow_add-n c = omega (arith, c.loop-lim.invariant.1, c.loop-lim.invariant.0.is.stands.here, c.loop-lim.invariant.0.is.stands.toks.few)
 
 pub shape_of-symbols-then-kind_at-ne-COMMA : goal.shape_of-symbols-then-kind_at-ne-COMMA
-shape_of-symbols-then-kind_at-ne-COMMA c = c.table_item-item.auto.1.1.1.0 ∙ c.loop-lim.invariant.0.kept.symbols
+shape_of-symbols-then-kind_at-ne-COMMA c = c.table_item-item.auto.symbols ∙ c.loop-lim.invariant.0.kept.symbols
 
 pub shape_of-head-then-kind_at-ne-COMMA : goal.shape_of-head-then-kind_at-ne-COMMA
-shape_of-head-then-kind_at-ne-COMMA c = c.table_item-item.auto.1.1.1.1.0 ∙ c.loop-lim.invariant.0.kept.head
+shape_of-head-then-kind_at-ne-COMMA c = c.table_item-item.auto.head ∙ c.loop-lim.invariant.0.kept.head
 
 pub shape_of-load-then-kind_at-ne-COMMA : goal.shape_of-load-then-kind_at-ne-COMMA
-shape_of-load-then-kind_at-ne-COMMA c = c.table_item-item.auto.1.1.1.1.1.0 ∙ c.loop-lim.invariant.0.kept.load
+shape_of-load-then-kind_at-ne-COMMA c = c.table_item-item.auto.load ∙ c.loop-lim.invariant.0.kept.load
 
 pub returns-then-kind_at-ne-COMMA : goal.returns-then-kind_at-ne-COMMA
 unfolding comma_list
@@ -119,7 +119,7 @@ returns-then-kind_at-ne-COMMA c = (
       let p1 = read _ p0 in
       let p2 = no _ _ p1 (test (λ k. eqb k 30) p1 (ne_eqb _ _ (λ z. c.if-k-eq-DOUBLE_RIGHT_BRACKET.false (c.kind_at-k.ensures ∙ z)))) in
       let p3 = no _ _ p2 (test (λ k. eqb k 47) p2 (ne_eqb _ _ (λ z. c.if-k-eq-EOF.false (c.kind_at-k.ensures ∙ z)))) in
-      let p4 = go 0 (λ x. table_item x (walkers x c.args.depth)) _ p3 refl c.table_item-item.ensures.0 (kept c.table_item-item.auto) c.in-Done.is in
+      let p4 = go 0 (λ x. table_item x (walkers x c.args.depth)) _ p3 refl c.table_item-item.ensures.0 (record { symbols = c.table_item-item.auto.symbols; head = c.table_item-item.auto.head; load = c.table_item-item.auto.load }) c.in-Done.is in
       counted_next (no _ _ (optional-no 12 _ p4 (λ z. c.if-kind_at-ne-COMMA.true (c.kind_at.ensures ∙ z))) refl) c.with_count-then-kind_at-ne-COMMA.ensures),
   omega (arith, ap (λ (y : Walk). y.count) c.with_count-then-kind_at-ne-COMMA.ensures, c.loop-lim.invariant.1, c.loop-lim.invariant.0.is.stands.here, c.loop-lim.invariant.0.is.stands.toks.few),
 )
@@ -133,17 +133,17 @@ consume-comma-requires c =
     let p1 = read _ p0 in
     let p2 = no _ _ p1 (test (λ k. eqb k 30) p1 (ne_eqb _ _ (λ z. c.if-k-eq-DOUBLE_RIGHT_BRACKET.false (c.kind_at-k.ensures ∙ z)))) in
     let p3 = no _ _ p2 (test (λ k. eqb k 47) p2 (ne_eqb _ _ (λ z. c.if-k-eq-EOF.false (c.kind_at-k.ensures ∙ z)))) in
-    let p4 = go 0 (λ x. table_item x (walkers x c.args.depth)) _ p3 refl c.table_item-item.ensures.0 (kept c.table_item-item.auto) c.in-Done.is in
+    let p4 = go 0 (λ x. table_item x (walkers x c.args.depth)) _ p3 refl c.table_item-item.ensures.0 (record { symbols = c.table_item-item.auto.symbols; head = c.table_item-item.auto.head; load = c.table_item-item.auto.load }) c.in-Done.is in
     p4.is.stands
 
 pub shape_of-symbols-in_default-comma : goal.shape_of-symbols-in_default-comma
-shape_of-symbols-in_default-comma c = c.table_item-item.auto.1.1.1.0 ∙ c.loop-lim.invariant.0.kept.symbols
+shape_of-symbols-in_default-comma c = c.table_item-item.auto.symbols ∙ c.loop-lim.invariant.0.kept.symbols
 
 pub shape_of-head-in_default-comma : goal.shape_of-head-in_default-comma
-shape_of-head-in_default-comma c = c.table_item-item.auto.1.1.1.1.0 ∙ c.loop-lim.invariant.0.kept.head
+shape_of-head-in_default-comma c = c.table_item-item.auto.head ∙ c.loop-lim.invariant.0.kept.head
 
 pub shape_of-load-in_default-comma : goal.shape_of-load-in_default-comma
-shape_of-load-in_default-comma c = c.table_item-item.auto.1.1.1.1.1.0 ∙ c.loop-lim.invariant.0.kept.load
+shape_of-load-in_default-comma c = c.table_item-item.auto.load ∙ c.loop-lim.invariant.0.kept.load
 
 pub returns-in_default-comma : goal.returns-in_default-comma
 unfolding comma_list
@@ -152,10 +152,10 @@ returns-in_default-comma c = (
       let p1 = read _ p0 in
       let p2 = no _ _ p1 (test (λ k. eqb k 30) p1 (ne_eqb _ _ (λ z. c.if-k-eq-DOUBLE_RIGHT_BRACKET.false (c.kind_at-k.ensures ∙ z)))) in
       let p3 = no _ _ p2 (test (λ k. eqb k 47) p2 (ne_eqb _ _ (λ z. c.if-k-eq-EOF.false (c.kind_at-k.ensures ∙ z)))) in
-      let p4 = go 0 (λ x. table_item x (walkers x c.args.depth)) _ p3 refl c.table_item-item.ensures.0 (kept c.table_item-item.auto) c.in-Done.is in
+      let p4 = go 0 (λ x. table_item x (walkers x c.args.depth)) _ p3 refl c.table_item-item.ensures.0 (record { symbols = c.table_item-item.auto.symbols; head = c.table_item-item.auto.head; load = c.table_item-item.auto.load }) c.in-Done.is in
       let p5 = optional-yes 12 _ p4 (sym c.kind_at.ensures ∙ c.if-kind_at-ne-COMMA.false) in
-      stop 1 (λ x. consume x) _ p5 refl (omega arith) (pass p5.is c.consume-comma.ensures (not-eof (λ k. eqb k 12) (eq-eqb _ _ (sym c.kind_at.ensures ∙ c.if-kind_at-ne-COMMA.false)) refl)) (not_done _ c.in_default-comma.in_default-comma-own.keys2)),
-  none_within c.consume-comma.result 65536 (not_done _ c.in_default-comma.in_default-comma-own.keys2),
+      stop 1 (λ x. consume x) _ p5 refl (omega arith) (pass p5.is c.consume-comma.ensures (not-eof (λ k. eqb k 12) (eq-eqb _ _ (sym c.kind_at.ensures ∙ c.if-kind_at-ne-COMMA.false)) refl)) (not_done _ c.in_default-comma.not-Done)),
+  none_within c.consume-comma.result 65536 (not_done _ c.in_default-comma.not-Done),
 )
 
 pub overflow_add-n-in-loop-lim : goal.overflow_add-n-in-loop-lim
@@ -170,7 +170,7 @@ loop-lim-smaller c =
     let p1 = read _ p0 in
     let p2 = no _ _ p1 (test (λ k. eqb k 30) p1 (ne_eqb _ _ (λ z. c.if-k-eq-DOUBLE_RIGHT_BRACKET.false (c.kind_at-k.ensures ∙ z)))) in
     let p3 = no _ _ p2 (test (λ k. eqb k 47) p2 (ne_eqb _ _ (λ z. c.if-k-eq-EOF.false (c.kind_at-k.ensures ∙ z)))) in
-    let p4 = go 0 (λ x. table_item x (walkers x c.args.depth)) _ p3 refl c.table_item-item.ensures.0 (kept c.table_item-item.auto) c.in-Done.is in
+    let p4 = go 0 (λ x. table_item x (walkers x c.args.depth)) _ p3 refl c.table_item-item.ensures.0 (record { symbols = c.table_item-item.auto.symbols; head = c.table_item-item.auto.head; load = c.table_item-item.auto.load }) c.in-Done.is in
     let p5 = optional-yes 12 _ p4 (sym c.kind_at.ensures ∙ c.if-kind_at-ne-COMMA.false) in
     let p6 = yes _ _ (go 1 (λ x. consume x) _ p5 refl (pass p5.is c.consume-comma.ensures (not-eof (λ k. eqb k 12) (eq-eqb _ _ (sym c.kind_at.ensures ∙ c.if-kind_at-ne-COMMA.false)) refl)) same c.in-Done-comma.is) refl in
     omega (arith, ahead-at c.table_item-item.ensures.1 c.in-Done.is, ahead_of (pass p5.is c.consume-comma.ensures (not-eof (λ k. eqb k 12) (eq-eqb _ _ (sym c.kind_at.ensures ∙ c.if-kind_at-ne-COMMA.false)) refl)) c.in-Done-comma.is, p6.is.stands.here)
@@ -184,13 +184,13 @@ loop-lim-preserved c = (
       let p1 = read _ p0 in
       let p2 = no _ _ p1 (test (λ k. eqb k 30) p1 (ne_eqb _ _ (λ z. c.if-k-eq-DOUBLE_RIGHT_BRACKET.false (c.kind_at-k.ensures ∙ z)))) in
       let p3 = no _ _ p2 (test (λ k. eqb k 47) p2 (ne_eqb _ _ (λ z. c.if-k-eq-EOF.false (c.kind_at-k.ensures ∙ z)))) in
-      let p4 = go 0 (λ x. table_item x (walkers x c.args.depth)) _ p3 refl c.table_item-item.ensures.0 (kept c.table_item-item.auto) c.in-Done.is in
+      let p4 = go 0 (λ x. table_item x (walkers x c.args.depth)) _ p3 refl c.table_item-item.ensures.0 (record { symbols = c.table_item-item.auto.symbols; head = c.table_item-item.auto.head; load = c.table_item-item.auto.load }) c.in-Done.is in
       let p5 = optional-yes 12 _ p4 (sym c.kind_at.ensures ∙ c.if-kind_at-ne-COMMA.false) in
       omega (arith, ahead-at c.table_item-item.ensures.1 c.in-Done.is, ahead_of (pass p5.is c.consume-comma.ensures (not-eof (λ k. eqb k 12) (eq-eqb _ _ (sym c.kind_at.ensures ∙ c.if-kind_at-ne-COMMA.false)) refl)) c.in-Done-comma.is)) (λ E e. let p0 = turn-own c.loop-lim.invariant.0 E e in
       let p1 = read _ p0 in
       let p2 = no _ _ p1 (test (λ k. eqb k 30) p1 (ne_eqb _ _ (λ z. c.if-k-eq-DOUBLE_RIGHT_BRACKET.false (c.kind_at-k.ensures ∙ z)))) in
       let p3 = no _ _ p2 (test (λ k. eqb k 47) p2 (ne_eqb _ _ (λ z. c.if-k-eq-EOF.false (c.kind_at-k.ensures ∙ z)))) in
-      let p4 = go 0 (λ x. table_item x (walkers x c.args.depth)) _ p3 refl c.table_item-item.ensures.0 (kept c.table_item-item.auto) c.in-Done.is in
+      let p4 = go 0 (λ x. table_item x (walkers x c.args.depth)) _ p3 refl c.table_item-item.ensures.0 (record { symbols = c.table_item-item.auto.symbols; head = c.table_item-item.auto.head; load = c.table_item-item.auto.load }) c.in-Done.is in
       let p5 = optional-yes 12 _ p4 (sym c.kind_at.ensures ∙ c.if-kind_at-ne-COMMA.false) in
       let p6 = yes _ _ (go 1 (λ x. consume x) _ p5 refl (pass p5.is c.consume-comma.ensures (not-eof (λ k. eqb k 12) (eq-eqb _ _ (sym c.kind_at.ensures ∙ c.if-kind_at-ne-COMMA.false)) refl)) same c.in-Done-comma.is) refl in
       p6)),
@@ -200,7 +200,7 @@ loop-lim-preserved c = (
       let p1 = read _ p0 in
       let p2 = no _ _ p1 (test (λ k. eqb k 30) p1 (ne_eqb _ _ (λ z. c.if-k-eq-DOUBLE_RIGHT_BRACKET.false (c.kind_at-k.ensures ∙ z)))) in
       let p3 = no _ _ p2 (test (λ k. eqb k 47) p2 (ne_eqb _ _ (λ z. c.if-k-eq-EOF.false (c.kind_at-k.ensures ∙ z)))) in
-      let p4 = go 0 (λ x. table_item x (walkers x c.args.depth)) _ p3 refl c.table_item-item.ensures.0 (kept c.table_item-item.auto) c.in-Done.is in
+      let p4 = go 0 (λ x. table_item x (walkers x c.args.depth)) _ p3 refl c.table_item-item.ensures.0 (record { symbols = c.table_item-item.auto.symbols; head = c.table_item-item.auto.head; load = c.table_item-item.auto.load }) c.in-Done.is in
       let p5 = optional-yes 12 _ p4 (sym c.kind_at.ensures ∙ c.if-kind_at-ne-COMMA.false) in
       omega (arith, c.loop-lim.invariant.1, ahead-at c.table_item-item.ensures.1 c.in-Done.is, ahead_of (pass p5.is c.consume-comma.ensures (not-eof (λ k. eqb k 12) (eq-eqb _ _ (sym c.kind_at.ensures ∙ c.if-kind_at-ne-COMMA.false)) refl)) c.in-Done-comma.is),
 )

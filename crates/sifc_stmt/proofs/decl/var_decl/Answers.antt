@@ -18,7 +18,7 @@ pub returns-in_default : goal.returns-in_default
 unfolding var_decl
 returns-in_default c =
     gives (λ E e. let p0 = begin 1 (λ x. var_decl x (walkers x c.args.depth)) E e c.requires.0 in
-    stop 1 (λ x. expect x 34) _ p0 refl (omega arith) (taken c.requires.0 c.expect-begun.ensures c.requires.1 (λ z. omega arith)) (not_done _ c.in_default.in_default-own.keys2))
+    stop 1 (λ x. expect x 34) _ p0 refl (omega arith) (taken c.requires.0 c.expect-begun.ensures c.requires.1 (λ z. omega arith)) (not_done _ c.in_default.not-Done))
 
 pub match_ident-named-requires : goal.match_ident-named-requires
 unfolding var_decl
@@ -34,7 +34,7 @@ unfolding var_decl
 returns-in_default-named c =
     gives (λ E e. let p0 = begin 1 (λ x. var_decl x (walkers x c.args.depth)) E e c.requires.0 in
     let p1 = go 1 (λ x. expect x 34) _ p0 refl (taken c.requires.0 c.expect-begun.ensures c.requires.1 (λ z. omega arith)) same c.in-Done.is in
-    stop 0 (λ x. ident x ExpectedIdent) _ p1 refl (omega arith) (named ExpectedIdent p1.is c.match_ident-named.ensures refl) (not_done _ c.in_default-named.in_default-named-own.keys2))
+    stop 0 (λ x. ident x ExpectedIdent) _ p1 refl (omega arith) (named ExpectedIdent p1.is c.match_ident-named.ensures refl) (not_done _ c.in_default-named.not-Done))
 
 pub kind_at-k-requires : goal.kind_at-k-requires
 unfolding var_decl
@@ -94,7 +94,7 @@ returns-in_default-passed c =
     let p3 = read _ p2 in
     let p4 = no _ _ p3 (test (λ k. eqb k 8) p3 (ne_eqb _ _ (λ z. c.if-k-eq-EQ.false (c.kind_at-k.ensures ∙ z)))) in
     let p5 = yes _ _ p4 (test (λ k. eqb k 7) p4 (eq-eqb _ _ (sym c.kind_at-k.ensures ∙ c.if-k-ne-SEMICOLON.false))) in
-    stop 0 (λ x. consume x) _ p5 refl (omega arith) (pass-any p5.is c.consume-passed.ensures) (not_done _ c.in_default-passed.in_default-passed-own.keys2))
+    stop 0 (λ x. consume x) _ p5 refl (omega arith) (pass-any p5.is c.consume-passed.ensures) (not_done _ c.in_default-passed.not-Done))
 
 pub declare_var-requires : goal.declare_var-requires
 unfolding var_decl
