@@ -6,8 +6,7 @@ use sifc_deepest::DeepestAnswer;
 
 // The deepest script of n bytes. It returns the refusal's number, 0 for none, and sets the depth; after
 // a refusal that is 0.
-#[unsafe(no_mangle)]
-pub extern "C" fn sif_deepest(n: usize, script: &mut [u8], depth: &mut usize) -> u32
+pub fn sif_deepest(n: usize, script: &mut [u8], depth: &mut usize) -> u32
     ensures { deepest_told (deepest_answer depth.new result) script.new
         ≡ told_deepest (deepest_call n script.old) }
 {

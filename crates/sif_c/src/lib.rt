@@ -17,8 +17,7 @@ pub use value::sif_value;
 
 // The tokens call. It returns the refusal's number, 0 for none, and sets count, kind and offset; what
 // they do not say is 0.
-#[unsafe(no_mangle)]
-pub extern "C" fn sif_tokens(
+pub fn sif_tokens(
     script: &[u8],
     offs: &mut [u32],
     words: &mut [u32],
@@ -49,8 +48,7 @@ pub extern "C" fn sif_tokens(
 // lent; what they do not say is 0. The numbers of the error that ended the reading are its line,
 // column and reason number, the offset of the token that it carries, and the kind that it expected or
 // its count.
-#[unsafe(no_mangle)]
-pub extern "C" fn sif_reading(
+pub fn sif_reading(
     script: &[u8],
     offs: &mut [u32],
     words: &mut [u32],
@@ -92,8 +90,7 @@ pub extern "C" fn sif_reading(
 
 // The text call. It returns the refusal's number, 0 for none, and sets count, kind and offset; what
 // they do not say is 0.
-#[unsafe(no_mangle)]
-pub extern "C" fn sif_text(
+pub fn sif_text(
     script: &[u8],
     offs: &mut [u32],
     words: &mut [u32],

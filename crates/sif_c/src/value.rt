@@ -6,8 +6,7 @@ use sifc_value::ValueAnswer;
 
 // The value of a number literal. It returns the refusal's number, 0 for none, and sets the value; it
 // is 0 where there is none.
-#[unsafe(no_mangle)]
-pub extern "C" fn sif_value(literal: &[u8], value: &mut f64) -> u32
+pub fn sif_value(literal: &[u8], value: &mut f64) -> u32
     ensures { told result value.new ≡ told_value (value_of literal.now) }
 {
     let said = sifc_value::value(literal);

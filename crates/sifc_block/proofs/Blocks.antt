@@ -1,8 +1,8 @@
 -- What the proofs of the functions for blocks and listed errors cite.
-use Prim.Native.Nat.{ℕ, zero, suc, ◌+◌, ◌-◌, ◌*◌, ◌≤◌, ◌<◌}
-use native.Mathlib.Numerals.{add-one, sub-one}
+use Prim.Native.Nat.{ℕ, zero, suc, ◌+◌, ◌-◌, ◌≤◌, ◌<◌}
+use native.Mathlib.Numerals.{add-one}
 use native.Mathlib.Omega.{arith}
-use mathlib.Core.Path.{◌≡◌, refl, sym, ap, ap₂, ◌∙◌, subst}
+use mathlib.Core.Path.{◌≡◌, refl, sym, ap, ◌∙◌, subst}
 use mathlib.Core.List.{List, [], ◌∷◌}
 use mathlib.Core.Bool.{Bool, true, false, ◌&&◌}
 use lib.ListN.{length, get_or, set, length-set}
@@ -13,25 +13,22 @@ use Rattle.sifc_word.specs.Base.{if◌then◌else◌}
 use Rattle.sifc_def.specs.declared.Err.{Err}
 use Rattle.sifc_def.specs.declared.Why.{Why}
 use Rattle.sifc_def.specs.declared.Why.TheVariants.{InvalidIdent, InvalidTkn, InvalidTknMsg, InvalidAssign, InvalidForStmt, InvalidIfStmt, TknMismatch, FnParmCntExceeded, WrongFnParmCnt, UndeclSym, UnassignedVar, ExpectedIdent}
-use Rattle.sifc_def.specs.declared.What.{What}
 use Rattle.sifc_def.specs.declared.What.TheVariants.{Other}
-use Rattle.sifc_def.specs.State.{Node, node, err, Ctx, St, Out, done, fail, refuse, Void, go_on, list, add_error_w_pos, add_error}
+use Rattle.sifc_def.specs.State.{err, St, Out, done, fail, refuse, go_on, list, add_error_w_pos, add_error}
 use Rattle.sifc_def.specs.Symbols.{store}
 use Rattle.sifc_def.specs.Stmt.{bind, with_return}
 use Rattle.sifc_symtab.specs.Table.{value_of, Fits}
 use Rattle.sifc_step.specs.declared.walk.Limits.{Limits}
 use Rattle.sifc_step.specs.declared.walk.Walk.{Walk}
-use Rattle.sifc_step.specs.declared.walk.Target.{Target}
 use Rattle.sifc_step.specs.declared.walk.Parsed.{Parsed}
 use Rattle.sifc_step.specs.declared.walk.Parsed.TheVariants.{Done, Failed, Refused}
-use Rattle.sifc_step.specs.Abs.{Inp, Mem, inp, mem, Rooms, rooms_of, ctx, ctx_of, abs, by_message, listed_by, with_err, outcome_of, Ready, Fine, FineOf, void, DoesAs, Does, more, counted_by, count_of}
-use Rattle.sifc_step.specs.Book.{number_in, reason_of, Notes, notes-more}
-use Rattle.sifc_step.specs.Steps.{At, Ends, Kept, NotDone, begin, gives, fin, go, by, blank, blanks}
+use Rattle.sifc_step.specs.Abs.{Inp, Mem, inp, mem, Rooms, rooms_of, ctx, abs, by_message, listed_by, Ready, Does, more, counted_by, count_of}
+use Rattle.sifc_step.specs.Book.{number_in, reason_of, notes-more}
+use Rattle.sifc_step.specs.Steps.{At, Kept, NotDone, begin, gives, fin, by, blank, blanks}
 use Rattle.sifc_step.specs.Small.{HeadWord}
-use Rattle.sifc_step.specs.SmallLaws.{put}
-use Rattle.sifc_block.specs.Lists.{Told, Lists, Elses, NodesOf, Noting, Noted, told}
+use Rattle.sifc_block.specs.Lists.{Elses, NodesOf, Noting, Noted}
 use Rattle.sifc_block.specs.declared.block.Names.{Names}
-use Rattle.sifc_block.specs.declared.block.Names.TheVariants.{Unnamed, Pair, Params}
+use Rattle.sifc_block.specs.declared.block.Names.TheVariants.{Unnamed}
 use Rattle.sifc_block.specs.Bound.{between, names_of, NamesFit}
 
 -- ── reasons ──

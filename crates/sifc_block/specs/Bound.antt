@@ -1,5 +1,5 @@
 -- The names that a block binds, and its end.
-use Rattle.std.specs.Prelude.{ℕ, zero, suc, ◌+◌, ◌≤◌, ◌<◌, ◌≡◌, List, [], ◌∷◌, Bool, false, length, get_or}
+use Rattle.std.specs.Prelude.{ℕ, zero, suc, ◌+◌, ◌≤◌, ◌<◌, List, [], ◌∷◌, Bool, false, length, get_or}
 use Rattle.sifc_word.specs.Kind.{RightBrace}
 use Rattle.sifc_def.specs.Ast.{Block}
 use Rattle.sifc_def.specs.State.{Ctx, Void, ◌>>=◌, ◌>>◌, expect, push}

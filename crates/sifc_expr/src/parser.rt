@@ -64,7 +64,7 @@ pub fn expr(
 }
 
 // Assignment, whose target must be a name or an array access.
-#[cycle(add_or_sub_expr_and_expr_assign_expr_call_compr_expr_dot_equality_expr_fn_call_expr_group_expr_index_mod_expr_mul_or_div_expr_or_expr_param_list_primary_expr_unary_expr)]
+#[cycle(expressions)]
 fn assign_expr(
     script: &[u8],
     offs: &[u32],
@@ -121,7 +121,7 @@ fn binds(words: &[u32], at: usize, n: usize) -> bool
 }
 
 // `||`. A level goes on after an operand: it reads the operators that bind within it, and the operand after each.
-#[cycle(add_or_sub_expr_and_expr_assign_expr_call_compr_expr_dot_equality_expr_fn_call_expr_group_expr_index_mod_expr_mul_or_div_expr_or_expr_param_list_primary_expr_unary_expr)]
+#[cycle(expressions)]
 fn or_expr(
     script: &[u8],
     offs: &[u32],
@@ -170,7 +170,7 @@ fn or_expr(
 }
 
 // `&&`.
-#[cycle(add_or_sub_expr_and_expr_assign_expr_call_compr_expr_dot_equality_expr_fn_call_expr_group_expr_index_mod_expr_mul_or_div_expr_or_expr_param_list_primary_expr_unary_expr)]
+#[cycle(expressions)]
 fn and_expr(
     script: &[u8],
     offs: &[u32],
@@ -219,7 +219,7 @@ fn and_expr(
 }
 
 // `!=` and `==`.
-#[cycle(add_or_sub_expr_and_expr_assign_expr_call_compr_expr_dot_equality_expr_fn_call_expr_group_expr_index_mod_expr_mul_or_div_expr_or_expr_param_list_primary_expr_unary_expr)]
+#[cycle(expressions)]
 fn equality_expr(
     script: &[u8],
     offs: &[u32],
@@ -268,7 +268,7 @@ fn equality_expr(
 }
 
 // `<`, `<=`, `>` and `>=`.
-#[cycle(add_or_sub_expr_and_expr_assign_expr_call_compr_expr_dot_equality_expr_fn_call_expr_group_expr_index_mod_expr_mul_or_div_expr_or_expr_param_list_primary_expr_unary_expr)]
+#[cycle(expressions)]
 fn compr_expr(
     script: &[u8],
     offs: &[u32],
@@ -317,7 +317,7 @@ fn compr_expr(
 }
 
 // `+` and `-`.
-#[cycle(add_or_sub_expr_and_expr_assign_expr_call_compr_expr_dot_equality_expr_fn_call_expr_group_expr_index_mod_expr_mul_or_div_expr_or_expr_param_list_primary_expr_unary_expr)]
+#[cycle(expressions)]
 fn add_or_sub_expr(
     script: &[u8],
     offs: &[u32],
@@ -366,7 +366,7 @@ fn add_or_sub_expr(
 }
 
 // `*` and `/`.
-#[cycle(add_or_sub_expr_and_expr_assign_expr_call_compr_expr_dot_equality_expr_fn_call_expr_group_expr_index_mod_expr_mul_or_div_expr_or_expr_param_list_primary_expr_unary_expr)]
+#[cycle(expressions)]
 fn mul_or_div_expr(
     script: &[u8],
     offs: &[u32],
@@ -415,7 +415,7 @@ fn mul_or_div_expr(
 }
 
 // `%`.
-#[cycle(add_or_sub_expr_and_expr_assign_expr_call_compr_expr_dot_equality_expr_fn_call_expr_group_expr_index_mod_expr_mul_or_div_expr_or_expr_param_list_primary_expr_unary_expr)]
+#[cycle(expressions)]
 fn mod_expr(
     script: &[u8],
     offs: &[u32],
@@ -453,7 +453,7 @@ fn mod_expr(
 }
 
 // `!` and `-`.
-#[cycle(add_or_sub_expr_and_expr_assign_expr_call_compr_expr_dot_equality_expr_fn_call_expr_group_expr_index_mod_expr_mul_or_div_expr_or_expr_param_list_primary_expr_unary_expr)]
+#[cycle(expressions)]
 fn unary_expr(
     script: &[u8],
     offs: &[u32],
@@ -488,7 +488,7 @@ fn unary_expr(
 }
 
 // A primary expression, and one suffix if there is one: a call, `.` or `[`.
-#[cycle(add_or_sub_expr_and_expr_assign_expr_call_compr_expr_dot_equality_expr_fn_call_expr_group_expr_index_mod_expr_mul_or_div_expr_or_expr_param_list_primary_expr_unary_expr)]
+#[cycle(expressions)]
 fn fn_call_expr(
     script: &[u8],
     offs: &[u32],
@@ -526,7 +526,7 @@ fn fn_call_expr(
 }
 
 // A call's arguments, then its name: panic 3 and the name's check come after `)`.
-#[cycle(add_or_sub_expr_and_expr_assign_expr_call_compr_expr_dot_equality_expr_fn_call_expr_group_expr_index_mod_expr_mul_or_div_expr_or_expr_param_list_primary_expr_unary_expr)]
+#[cycle(expressions)]
 fn call(
     script: &[u8],
     offs: &[u32],
@@ -560,7 +560,7 @@ fn call(
 }
 
 // A table access. Names are not checked in the expression after `.`, and are checked after it.
-#[cycle(add_or_sub_expr_and_expr_assign_expr_call_compr_expr_dot_equality_expr_fn_call_expr_group_expr_index_mod_expr_mul_or_div_expr_or_expr_param_list_primary_expr_unary_expr)]
+#[cycle(expressions)]
 fn dot(
     script: &[u8],
     offs: &[u32],
@@ -590,7 +590,7 @@ fn dot(
 }
 
 // An array access.
-#[cycle(add_or_sub_expr_and_expr_assign_expr_call_compr_expr_dot_equality_expr_fn_call_expr_group_expr_index_mod_expr_mul_or_div_expr_or_expr_param_list_primary_expr_unary_expr)]
+#[cycle(expressions)]
 fn index(
     script: &[u8],
     offs: &[u32],
@@ -623,7 +623,7 @@ fn index(
 }
 
 // The arguments of a call: Done's count is how many there are.
-#[cycle(add_or_sub_expr_and_expr_assign_expr_call_compr_expr_dot_equality_expr_fn_call_expr_group_expr_index_mod_expr_mul_or_div_expr_or_expr_param_list_primary_expr_unary_expr)]
+#[cycle(expressions)]
 fn param_list(
     script: &[u8],
     offs: &[u32],
@@ -665,7 +665,7 @@ fn param_list(
 }
 
 // A literal, a name, a group or what follows `@`.
-#[cycle(add_or_sub_expr_and_expr_assign_expr_call_compr_expr_dot_equality_expr_fn_call_expr_group_expr_index_mod_expr_mul_or_div_expr_or_expr_param_list_primary_expr_unary_expr)]
+#[cycle(expressions)]
 fn primary_expr(
     script: &[u8],
     offs: &[u32],
@@ -702,7 +702,7 @@ fn primary_expr(
 }
 
 // An expression in parentheses.
-#[cycle(add_or_sub_expr_and_expr_assign_expr_call_compr_expr_dot_equality_expr_fn_call_expr_group_expr_index_mod_expr_mul_or_div_expr_or_expr_param_list_primary_expr_unary_expr)]
+#[cycle(expressions)]
 fn group_expr(
     script: &[u8],
     offs: &[u32],

@@ -1,18 +1,15 @@
 -- What the proofs of the functions that ask the symbol table cite.
 use Prim.Native.Nat.{ℕ, zero, suc, ◌+◌, ◌-◌, ◌*◌, ◌/◌, ◌%◌, ◌≤◌, ◌<◌}
-use native.Mathlib.Numerals.{add-one, sub-one}
+use native.Mathlib.Numerals.{add-one}
 use native.Mathlib.Omega.{arith}
 use mathlib.Core.Path.{◌≡◌, refl, sym, ap, ap₂, ◌∙◌, subst}
-use mathlib.Core.Logic.{◌⊎◌, inl, inr, ⊎_elim}
 use mathlib.Core.List.{List, [], ◌∷◌, ◌++◌}
 use mathlib.Core.Option.{Option, none, some}
-use mathlib.Core.Bool.{Bool, true, false, ◌&&◌, ◌||◌, not}
+use mathlib.Core.Bool.{Bool, true, false}
 use lib.ListN.{length, get_or, set, take, drop, length-set}
 use lib.Seq.{get_or-set_same, get_or-set_other}
 use lib.Dec.{eqb, eqb→eq}
 use borrow.Author.Tests.{eq-eqb, ne_eqb}
-use types.Run.{OneOf}
-use denote.Enum.Declared.{tag_of}
 use Rattle.sifc_err.specs.declared.Refusal.TheVariants.{SourceFault}
 use Rattle.sifc_err.specs.declared.Token.{Token}
 use Rattle.sifc_word.specs.Base.{if◌then◌else◌}
@@ -22,10 +19,9 @@ use Rattle.sifc_def.specs.declared.What.{What}
 use Rattle.sifc_def.specs.declared.What.TheVariants.{Placeholder, Function, Variable, Other}
 use Rattle.sifc_def.specs.declared.Why.{Why}
 use Rattle.sifc_def.specs.declared.Why.TheVariants.{UndeclSym, WrongFnParmCnt}
-use Rattle.sifc_def.specs.State.{Node, node, Sym, Ctx, St, Out, done, fail, refuse, M, Void, go_on, token_at, tok_at, name_at, panic_at, throw, throw_past, push, set_nodes, without}
+use Rattle.sifc_def.specs.State.{Node, Sym, Ctx, St, Out, done, refuse, go_on, token_at, name_at, panic_at, throw_past, push, set_nodes, without}
 use Rattle.sifc_def.specs.Symbols.{is_sym, find_at, find, retrieve}
 use Rattle.sifc_def.specs.Expr.{assign_var, assign_token, assign_array, is_named, call_counted, call_declared, known, check_name}
-use Rattle.sifc_def.specs.contracts.What as what-type
 use Rattle.sifc_symtab.specs.declared.symtab.Found.{Found}
 use Rattle.sifc_symtab.specs.declared.symtab.Found.TheVariants.{Nothing, Declared}
 use Rattle.sifc_symtab.specs.Toks.{toks_of, toks-at, toks-past-words}
@@ -34,9 +30,9 @@ use Rattle.sifc_step.specs.declared.walk.Limits.{Limits}
 use Rattle.sifc_step.specs.declared.walk.Walk.{Walk}
 use Rattle.sifc_step.specs.declared.walk.Target.{Target}
 use Rattle.sifc_step.specs.declared.walk.Parsed.{Parsed}
-use Rattle.sifc_step.specs.declared.walk.Parsed.TheVariants.{Done, Failed, Refused}
-use Rattle.sifc_step.specs.Abs.{Inp, Mem, inp, mem, Rooms, rooms_of, kind_in, flag_in, kids_in, node_in, nodes_of, ctx, ctx_of, abs, outcome_of, kind_at, Tokens, Ready, Fine, FineOf, Gives, void, DoesAs, Does}
-use Rattle.sifc_step.specs.Small.{Pushes, Throws, Pasts, node_of}
+use Rattle.sifc_step.specs.declared.walk.Parsed.TheVariants.{Refused}
+use Rattle.sifc_step.specs.Abs.{Inp, Mem, inp, mem, Rooms, rooms_of, kind_in, flag_in, node_in, nodes_of, ctx, abs, kind_at, Ready, Does}
+use Rattle.sifc_step.specs.Small.{Pushes, Throws, Pasts}
 use Rattle.sifc_name.specs.Name.{is_known, Exists, value_in, Named, CallWord, CallsCounted, CallsDeclared, AssignsVar, Shifts, Mutates, fewer}
 use Rattle.sifc_step.specs.Steps.{off-is, length-nodes, At, Ends, NotDone, by, farther}
 
@@ -263,13 +259,13 @@ NoVar (Declared Other) = Unit {0}
 pub none-var : {f : Found} → f ≡ Nothing → NoVar f
 none-var e = subst (λ (g : Found). NoVar g) (sym e) tt
 
-pub no-var : {f : Found} {what : What} → f ≡ Declared what → OneOf (0 ∷ 1 ∷ 3 ∷ []) (tag_of what-type.the_type what) → NoVar f
+pub no-var : {f : Found} {what : What} → f ≡ Declared what → ((t : ℕ) (g : Bool) → what ≡ Variable t g → ⊥) → NoVar f
 no-var {f} {what} e h = subst (λ (g : Found). NoVar g) (sym e) (pick what h)
   where
-    pick : (x : What) → OneOf (0 ∷ 1 ∷ 3 ∷ []) (tag_of what-type.the_type x) → NoVar (Declared x)
+    pick : (x : What) → ((t : ℕ) (g : Bool) → x ≡ Variable t g → ⊥) → NoVar (Declared x)
     pick Placeholder q = tt
     pick (Function n) q = tt
-    pick (Variable t g) q = absurd (⊎_elim (λ z. omega arith) (λ y. ⊎_elim (λ z. omega arith) (λ z. omega arith) y) q)
+    pick (Variable t g) q = absurd (q t g refl)
     pick Other q = tt
 
 pub small_at : {f : Found} {what : What} {t b : ℕ} {g : Bool} → value_in f < b → f ≡ Declared what → what ≡ Variable t g → t < b

@@ -57,7 +57,7 @@ const FN_DECL: u32 = 137;
 const FN_PARAMS: u32 = 10;
 
 // A declaration.
-#[cycle(block_branches_decl_decls_elif_stmt_else_block_fn_decl_fn_rest_for_rest_for_stmt_if_stmt_stmt)]
+#[cycle(declarations)]
 pub fn decl(
     script: &[u8],
     offs: &[u32],
@@ -89,7 +89,7 @@ pub fn decl(
 }
 
 // A statement.
-#[cycle(block_branches_decl_decls_elif_stmt_else_block_fn_decl_fn_rest_for_rest_for_stmt_if_stmt_stmt)]
+#[cycle(declarations)]
 fn stmt(
     script: &[u8],
     offs: &[u32],
@@ -141,7 +141,7 @@ fn stmt(
 }
 
 // A block: of a function or not, with the names that are bound in it.
-#[cycle(block_branches_decl_decls_elif_stmt_else_block_fn_decl_fn_rest_for_rest_for_stmt_if_stmt_stmt)]
+#[cycle(declarations)]
 fn block(
     script: &[u8],
     offs: &[u32],
@@ -195,7 +195,7 @@ fn ends_decls(k: u32) -> bool
 }
 
 // The declarations of a block: Done's count is how many there are.
-#[cycle(block_branches_decl_decls_elif_stmt_else_block_fn_decl_fn_rest_for_rest_for_stmt_if_stmt_stmt)]
+#[cycle(declarations)]
 fn decls(
     script: &[u8],
     offs: &[u32],
@@ -230,7 +230,7 @@ fn decls(
 }
 
 // A function: a placeholder is stored before the parameters, so that it can call itself.
-#[cycle(block_branches_decl_decls_elif_stmt_else_block_fn_decl_fn_rest_for_rest_for_stmt_if_stmt_stmt)]
+#[cycle(declarations)]
 fn fn_decl(
     script: &[u8],
     offs: &[u32],
@@ -275,7 +275,7 @@ fn fn_decl(
 }
 
 // What follows the n parameters of the function that token i names, which are the newest nodes.
-#[cycle(block_branches_decl_decls_elif_stmt_else_block_fn_decl_fn_rest_for_rest_for_stmt_if_stmt_stmt)]
+#[cycle(declarations)]
 fn fn_rest(
     script: &[u8],
     offs: &[u32],
@@ -329,7 +329,7 @@ fn fn_rest(
 }
 
 // An if statement.
-#[cycle(block_branches_decl_decls_elif_stmt_else_block_fn_decl_fn_rest_for_rest_for_stmt_if_stmt_stmt)]
+#[cycle(declarations)]
 fn if_stmt(
     script: &[u8],
     offs: &[u32],
@@ -378,7 +378,7 @@ fn if_stmt(
 }
 
 // The further branches of an if statement, in the order of the script, and its end.
-#[cycle(block_branches_decl_decls_elif_stmt_else_block_fn_decl_fn_rest_for_rest_for_stmt_if_stmt_stmt)]
+#[cycle(declarations)]
 fn branches(
     script: &[u8],
     offs: &[u32],
@@ -427,7 +427,7 @@ fn branches(
 }
 
 // An elif branch.
-#[cycle(block_branches_decl_decls_elif_stmt_else_block_fn_decl_fn_rest_for_rest_for_stmt_if_stmt_stmt)]
+#[cycle(declarations)]
 fn elif_stmt(
     script: &[u8],
     offs: &[u32],
@@ -474,7 +474,7 @@ fn elif_stmt(
 }
 
 // An else branch.
-#[cycle(block_branches_decl_decls_elif_stmt_else_block_fn_decl_fn_rest_for_rest_for_stmt_if_stmt_stmt)]
+#[cycle(declarations)]
 fn else_block(
     script: &[u8],
     offs: &[u32],
@@ -513,7 +513,7 @@ fn else_block(
 }
 
 // A for statement.
-#[cycle(block_branches_decl_decls_elif_stmt_else_block_fn_decl_fn_rest_for_rest_for_stmt_if_stmt_stmt)]
+#[cycle(declarations)]
 fn for_stmt(
     script: &[u8],
     offs: &[u32],
@@ -550,7 +550,7 @@ fn for_stmt(
 }
 
 // What follows `in`, with the tokens of the two names.
-#[cycle(block_branches_decl_decls_elif_stmt_else_block_fn_decl_fn_rest_for_rest_for_stmt_if_stmt_stmt)]
+#[cycle(declarations)]
 fn for_rest(
     script: &[u8],
     offs: &[u32],

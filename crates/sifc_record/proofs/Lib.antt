@@ -1,4 +1,3 @@
 pub mod Made
-pub mod Again
 pub mod Turn
-pub mod While
+pub mod Lists

@@ -1,5 +1,4 @@
-// Thin functions over a lent slice of error records. Each is proved by a walk of its code: a reference to
-// a slice of structs is not covered.
+// Thin functions over a lent slice of error records.
 ghost use Rattle.std.specs.Prelude.{◌≡◌, ◌<◌, ◌≤◌, length, set, take};
 ghost use Rattle.sifc_symtab.specs.Toks.{toks_of};
 ghost use Rattle.sifc_record.specs.Record.{blank_from, filled_of, Fillable};

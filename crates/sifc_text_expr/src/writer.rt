@@ -37,7 +37,7 @@ const LEFT_BRACKET: u8 = 91;
 const RIGHT_BRACKET: u8 = 93;
 
 // The operand that ends before `hi`: bare where it binds tighter than `below`, else in parentheses.
-#[cycle(call_element_expr_exprs_linked_operand_simple_subscript_unary)]
+#[cycle(expressions)]
 fn operand(
     script: &[u8],
     offs: &[u32],
@@ -68,7 +68,7 @@ fn operand(
 
 // The expression that ends before `hi`: the operators on its left edge from right to left, then what
 // stands leftmost.
-#[cycle(call_element_expr_exprs_linked_operand_simple_subscript_unary)]
+#[cycle(expressions)]
 pub fn expr(
     script: &[u8],
     offs: &[u32],
@@ -108,7 +108,7 @@ pub fn expr(
 }
 
 // An expression that is no operator with two operands.
-#[cycle(call_element_expr_exprs_linked_operand_simple_subscript_unary)]
+#[cycle(expressions)]
 fn simple(
     script: &[u8],
     offs: &[u32],
@@ -142,7 +142,7 @@ fn simple(
 }
 
 // `!` or `-` and its operand. A chain of them goes on by this function itself.
-#[cycle(call_element_expr_exprs_linked_operand_simple_subscript_unary)]
+#[cycle(expressions)]
 fn unary(
     script: &[u8],
     offs: &[u32],
@@ -172,7 +172,7 @@ fn unary(
 }
 
 // A call: its target, and its arguments in parentheses.
-#[cycle(call_element_expr_exprs_linked_operand_simple_subscript_unary)]
+#[cycle(expressions)]
 fn call(
     script: &[u8],
     offs: &[u32],
@@ -204,7 +204,7 @@ fn call(
 }
 
 // A target and, in brackets, its index, which ends before `hi`.
-#[cycle(call_element_expr_exprs_linked_operand_simple_subscript_unary)]
+#[cycle(expressions)]
 fn subscript(
     script: &[u8],
     offs: &[u32],
@@ -234,7 +234,7 @@ fn subscript(
 }
 
 // An assignment to an element of an array.
-#[cycle(call_element_expr_exprs_linked_operand_simple_subscript_unary)]
+#[cycle(expressions)]
 fn element(
     script: &[u8],
     offs: &[u32],
@@ -270,7 +270,7 @@ fn link(kind: u32) -> u8
 }
 
 // A table access or an assignment to a variable: a target, a sign, and an expression that stands bare.
-#[cycle(call_element_expr_exprs_linked_operand_simple_subscript_unary)]
+#[cycle(expressions)]
 fn linked(
     script: &[u8],
     offs: &[u32],
@@ -298,7 +298,7 @@ fn linked(
 }
 
 // So many expressions that end before `hi`, with commas between.
-#[cycle(call_element_expr_exprs_linked_operand_simple_subscript_unary)]
+#[cycle(expressions)]
 pub fn exprs(
     script: &[u8],
     offs: &[u32],

@@ -31,7 +31,7 @@ const RIGHT_BRACE: u8 = 125;
 const NEWLINE: u8 = 10;
 
 // The statement that ends before `hi`.
-#[cycle(block_branch_branches_fn_decl_for_stmt_guarded_if_stmt_stmt_stmts)]
+#[cycle(statements)]
 fn stmt(
     script: &[u8],
     offs: &[u32],
@@ -62,7 +62,7 @@ fn stmt(
 }
 
 // So many statements that end before `hi`, one after another.
-#[cycle(block_branch_branches_fn_decl_for_stmt_guarded_if_stmt_stmt_stmts)]
+#[cycle(statements)]
 fn stmts(
     script: &[u8],
     offs: &[u32],
@@ -93,7 +93,7 @@ fn stmts(
 }
 
 // A block in braces.
-#[cycle(block_branch_branches_fn_decl_for_stmt_guarded_if_stmt_stmt_stmts)]
+#[cycle(statements)]
 fn block(
     script: &[u8],
     offs: &[u32],
@@ -121,7 +121,7 @@ fn block(
 }
 
 // An expression and the block behind it, which ends before `hi`.
-#[cycle(block_branch_branches_fn_decl_for_stmt_guarded_if_stmt_stmt_stmts)]
+#[cycle(statements)]
 fn guarded(
     script: &[u8],
     offs: &[u32],
@@ -143,7 +143,7 @@ fn guarded(
 }
 
 // A further branch of an `if`: a Block is an `else`.
-#[cycle(block_branch_branches_fn_decl_for_stmt_guarded_if_stmt_stmt_stmts)]
+#[cycle(statements)]
 fn branch(
     script: &[u8],
     offs: &[u32],
@@ -173,7 +173,7 @@ fn branch(
 }
 
 // So many branches that end before `hi`.
-#[cycle(block_branch_branches_fn_decl_for_stmt_guarded_if_stmt_stmt_stmts)]
+#[cycle(statements)]
 fn branches(
     script: &[u8],
     offs: &[u32],
@@ -204,7 +204,7 @@ fn branches(
 }
 
 // An `if` with its branches.
-#[cycle(block_branch_branches_fn_decl_for_stmt_guarded_if_stmt_stmt_stmts)]
+#[cycle(statements)]
 fn if_stmt(
     script: &[u8],
     offs: &[u32],
@@ -232,7 +232,7 @@ fn if_stmt(
 }
 
 // A loop over what an expression gives.
-#[cycle(block_branch_branches_fn_decl_for_stmt_guarded_if_stmt_stmt_stmts)]
+#[cycle(statements)]
 fn for_stmt(
     script: &[u8],
     offs: &[u32],
@@ -262,7 +262,7 @@ fn for_stmt(
 }
 
 // A function: its name, its parameters and its body.
-#[cycle(block_branch_branches_fn_decl_for_stmt_guarded_if_stmt_stmt_stmts)]
+#[cycle(statements)]
 fn fn_decl(
     script: &[u8],
     offs: &[u32],

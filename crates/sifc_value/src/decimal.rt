@@ -18,9 +18,9 @@ struct Split {
 fn step(five: u64, old: Split, factor: u64, bits: u64) -> Split
     requires rest_lt_five { old.rest < five }
     requires factor_nonzero { 0 < factor }
-    requires factor_bound { old.rest * factor < 2 ^ 64 }
-    requires factor_bound_2 { old.whole * factor + factor ≤ 2 ^ 63 }
-    requires bits_bound { old.shift + bits < 2 ^ 64 }
+    requires rest_fits { old.rest * factor < 2 ^ 64 }
+    requires whole_fits { old.whole * factor + factor ≤ 2 ^ 63 }
+    requires shift_fits { old.shift + bits < 2 ^ 64 }
     ensures { Stepped five old.whole old.rest old.shift factor bits result.whole result.rest result.shift }
 {
     let more = old.rest * factor;
@@ -69,8 +69,8 @@ fn with_bit(whole: u64, rest: u64) -> u64
 // A number above 2^53 over 10 to the power of places: at least 54 bits of the quotient by 5 to that
 // power, rounded with the remainder's bit, and divided by a power of two, which is exact.
 fn long_quotient(number: u64, five: u64, places: usize) -> f64
-    requires bound { 2 ^ 53 < number }
-    requires le_places { 1 ≤ places }
+    requires number_large { 2 ^ 53 < number }
+    requires places_nonzero { 1 ≤ places }
     requires places_bound { places ≤ 18 }
     requires five_value { five ≡ 5 ^ places }
     ensures { result ≡ round binary64 false number (10 ^ places) }

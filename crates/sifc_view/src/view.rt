@@ -1,5 +1,4 @@
-// The lexing view. Each function over it is proved by a walk of its code: a struct that holds a reference
-// is not covered. Callers use token_from, whose parameters are plain.
+// The lexing view. Callers use token_from, whose parameters are plain.
 ghost use Rattle.std.specs.Prelude.{◌≡◌};
 ghost use Rattle.sifc_view.specs.View.{next_at, stepped};
 

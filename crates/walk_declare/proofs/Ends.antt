@@ -22,8 +22,8 @@ use Rattle.walk_step.specs.Words.{walk_of, lim_of, told, Words}
 use Rattle.walk_step.specs.WordsLaws.{walk-set, lim-set, words-set, within, word_set, left_as, left-set, told-done}
 use Rattle.walk_step.specs.Small.{Says, Storing}
 use Rattle.walk_step.specs.SmallLaws.{NotDone}
-use Rattle.walk_step.specs.Moves.{Starts, Goes, On, Ends}
-use Rattle.walk_declare.specs.Ident.{Few, Counted}
+use Rattle.walk_step.specs.Moves.{Starts, Goes, On, Ends, begins, called, separated}
+use Rattle.walk_declare.specs.Ident.{Midst, GoesAny, Few, Counted}
 
 -- what is asked to store a variable's name, and another's
 module _ {I : Inp} {M : Mem} {s : List ℕ} (p : Starts I M s) (i : ℕ) (h : i < 65536) where
@@ -77,6 +77,13 @@ written-within {s} n w h u =
     let one : get_or (set s 6 n) 1 0 ≡ get_or s 1 0 = word_set s 6 n 1 (within 6 (omega arith) w) in
     record { few = omega (arith, six); used = omega (arith, six, one) }
 
+-- the count, with the walk
+pub counted : {o₀ : Out ℕ} {I : Inp} {n : Rooms} {lo m : ℕ} {E : List Err} {N : Mem} {s : List ℕ} → On o₀ (done m (abs I E (walk_of s) N)) I n 0 lo E N s → Ends many o₀ I lo E Done (set s 6 m) N
+counted {m = m} {s = s} p = record {
+  is = steps.counted p.at (walk-set s 6 m (within 6 (omega arith) p.words));
+  left = left_as p.lim (left-set 6 m (omega arith) p.words);
+}
+
 -- a name and its node, as a parameter: one token and one node farther
 module _ {A : Type 0} {o₀ o : Out A} {I : Inp} {n : Rooms} {k lo : ℕ} {E : List Err} {M M' : Mem} {s s' : List ℕ} {v : Walk → ℕ} {r : Parsed} (p : On o₀ o I n k lo E M s) (g : Goes v 0 (λ c. ident_node c) I M s r s' M') where
   pub as_param : Goes void 0 (λ c. param c) I M s r s' M'
@@ -90,3 +97,14 @@ module _ {A : Type 0} {o₀ o : Out A} {I : Inp} {n : Rooms} {k lo : ℕ} {E : L
     (d : Says (λ os q. Stands os I.words (walk_of s) → step.Separates os I.words (lim_of s) (walk_of s) q) s r s') (e : r ≡ Done) where
   pub separated-kept : get_or s' 1 0 ≡ get_or s 1 0
   separated-kept = ends.separated-kept p.at.is (subst (λ (l : Limits). step.Separates I.offs I.words l (walk_of s) (told I.offs r s')) p.lim (d.is I.offs p.at.is.stands)) (told-done I.offs s' e)
+
+  pub separated-ahead : get_or s 0 0 ≤ get_or s' 0 0
+  separated-ahead = let h : 0 + get_or s 0 0 ≤ get_or s' 0 0 = steps.ahead_of (separated p d).does (told-done I.offs s' e) in omega (arith, h)
+
+-- the rest of what belongs together, where a walk stands
+module _ {A : Type 0} {o₀ o : Out A} {I : Inp} {n : Rooms} {k lo : ℕ} {E : List Err} {M : Mem} {s : List ℕ} (p : On o₀ o I n k lo E M s) where
+  pub midst : Midst I.words M.head M.load s
+  midst = record { script = I.script; offs = I.offs; symbols = M.symbols; starts = begins p }
+
+  pub any_at : {B : Type 0} {v : Walk → B} {j : ℕ} {f : Ctx → St → Out B} {r : Parsed} {hs ls s' : List ℕ} → GoesAny v j f I.words M.head M.load s r hs ls s' → Goes v j f I M s r s' (mem M.symbols hs ls)
+  any_at d = called p (d.goes I.script I.offs M.symbols (begins p))

@@ -1,13 +1,17 @@
 // The names of a function and of a loop: param_list of a function and ident_pair of parser.rs.
-ghost use Rattle.walk_step.specs.Amid.{Midst};
-ghost use Rattle.walk_declare.specs.Ident.{Nodes, Params, Pairs};
+ghost use Rattle.walk_declare.specs.Ident.{Midst, Nodes, Params, Pairs};
 
-use walk_step::kind::{
-    COMMA, END_OF_FILE, EOF, EXPECTED_IDENT, FN_PARAM_MAX_LEN, IDENT_PAIR_HEAD, PRIMARY_EXPR,
-    RIGHT_PAREN, TOO_MANY,
-};
+use walk_step::kind::{COMMA, EOF, EXPECTED_IDENT, IDENT_PAIR_HEAD, PRIMARY_EXPR, RIGHT_PAREN};
 use walk_step::state::{AT, COUNT};
 use walk_step::{Parsed, add_error, expect, kind_at, match_ident, push_node, separator};
+
+// FN_PARAM_MAX_LEN
+const FN_PARAM_MAX_LEN: usize = 64;
+
+// The words of FnParmCntExceeded(64), and of the message "unexpected end of file" of InvalidTkn.
+const TOO_MANY: usize = 1031;
+
+const END_OF_FILE: usize = 2097154;
 
 // A name and its node, the token taken first: a parameter, or one of ident_pair.
 pub fn ident_node(

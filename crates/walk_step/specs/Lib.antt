@@ -4,6 +4,3 @@ pub mod Small
 pub mod SmallLaws
 pub mod Moves
 pub mod Call
-pub mod Ends
-pub mod Loops
-pub mod Amid

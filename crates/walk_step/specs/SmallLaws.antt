@@ -71,11 +71,11 @@ module _ {ks s : List ℕ} where
       → Says (λ os p. Stands os ks (walk_of s) → step.Expects os ks (lim_of s) (walk_of s) ty p) s r s'
   expect-yes e d = hand_on refl (λ os p g st. laws.expect-yes st e (g st)) d
 
-  pub expect-no : (ty : ℕ) {r : Parsed} {s' : List ℕ} → get_or s 0 0 < 65536 → ty < 4294967296 → (kind_at ks (get_or s 0 0) ≡ ty → ⊥)
+  pub expect-no : (ty : ℕ) {r : Parsed} {s' : List ℕ} → get_or s 0 0 < 65536 → (kind_at ks (get_or s 0 0) ≡ ty → ⊥)
       → Says (λ os p. p ≡ outcome.Failed (walk_of s) (err (get_or s 0 0) (why_of (6 + 16 * get_or s 0 0 + 1048576 * ty)))) s r s'
       → Says (λ os p. Stands os ks (walk_of s) → step.Expects os ks (lim_of s) (walk_of s) ty p) s r s'
-  expect-no ty h f ne d =
-      hand_on refl (λ os p e st. being (λ (q : Outcome). step.Expects os ks (lim_of s) (walk_of s) ty q) (e ∙ ap (λ (y : Why). outcome.Failed (walk_of s) (err (get_or s 0 0) y)) (mismatch-word (get_or s 0 0) ty h f).is) (laws.expect-no st ty ne)) d
+  expect-no ty h ne d =
+      hand_on refl (λ os p e st. being (λ (q : Outcome). step.Expects os ks (lim_of s) (walk_of s) ty q) (e ∙ ap (λ (y : Why). outcome.Failed (walk_of s) (err (get_or s 0 0) y)) (mismatch-word (get_or s 0 0) ty h).is) (laws.expect-no st ty ne)) d
 
   pub separate-not : Words s → kind_at ks (get_or s 0 0) ≡ 2 → Says (λ os p. Stands os ks (walk_of s) → step.Separates os ks (lim_of s) (walk_of s) p) s Done s
   separate-not w e = done-same w (λ os st. laws.separate-not st e)

@@ -4,7 +4,7 @@ use Rattle.std.specs.Prelude.{ℕ, ◌/◌, ◌%◌, ◌<◌, ◌≡◌, List, B
 use Rattle.sifc_err.specs.declared.Refusal.{Refusal}
 use Rattle.sifc_err.specs.declared.Refusal.TheVariants.{SourceFault, TooDeep, NodesFull, SymbolsFull, ErrorsFull}
 use Rattle.sifc_def.specs.declared.Why.{Why}
-use Rattle.sifc_def.specs.declared.Why.TheVariants.{InvalidIdent, InvalidTkn, InvalidTknMsg, InvalidAssign, InvalidForStmt, InvalidIfStmt, TknMismatch, FnParmCntExceeded, WrongFnParmCnt, UndeclSym, UnassignedVar, ExpectedIdent}
+use Rattle.sifc_def.specs.declared.Why.TheVariants.{InvalidIdent, InvalidTkn, InvalidTknMsg, InvalidAssign, TknMismatch, FnParmCntExceeded, WrongFnParmCnt, UndeclSym, ExpectedIdent}
 use Rattle.sifc_def.specs.State.{Ctx, err}
 use Rattle.sifc_def.specs.Error.{err_reason}
 use Rattle.sifc_step.specs.declared.walk.Limits.{Limits}
@@ -38,25 +38,9 @@ why_of w =
     (pick (eqb (w % 16) 8) (WrongFnParmCnt (w / 16 % 65536) (w / 1048576))
     (pick (eqb (w % 16) 9) (UndeclSym (w / 16)) (ExpectedIdent (w / 16))))))))
 
--- the kind that a mismatch expected fits 32 bits
-abbrev pub Kinded : Why → Type 0
-Kinded (InvalidIdent i) = Unit {0}
-Kinded (InvalidTkn i) = Unit {0}
-Kinded (InvalidTknMsg m) = Unit {0}
-Kinded (InvalidAssign i) = Unit {0}
-Kinded InvalidForStmt = Unit {0}
-Kinded InvalidIfStmt = Unit {0}
-Kinded (TknMismatch k i) = k < 4294967296
-Kinded (FnParmCntExceeded n) = Unit {0}
-Kinded (WrongFnParmCnt n m) = Unit {0}
-Kinded (UndeclSym i) = Unit {0}
-Kinded (UnassignedVar i) = Unit {0}
-Kinded (ExpectedIdent i) = Unit {0}
-
 -- the word of a reason: what is listed of an error that stands for it is that word again
 pub record Reason (w : ℕ) (why : Why) : Type 0 where
   pub is : why_of w ≡ why
-  pub kinded : Kinded why
   pub back : (c : Ctx) (i : ℕ) → err_reason c (err i why) ≡ w
 
 -- the refusal of a number, a kind and a token; os are the tokens' offsets

@@ -132,7 +132,7 @@ token-word i h =
     let e : (2 + 16 * i) % 16 ≡ 2 = omega arith in
     let e2 : (2 + 16 * i) / 1048576 ≡ 0 = omega arith in
     let e3 : (2 + 16 * i) / 16 ≡ i = omega arith in
-    record { is = rw (e, e2) (either (eqb ((2 + 16 * i) / 16 % 65536) 0) e3); kinded = tt; back = λ c j. omega arith }
+    record { is = rw (e, e2) (either (eqb ((2 + 16 * i) / 16 % 65536) 0) e3); back = λ c j. omega arith }
   where
     either : (b : Bool) → (2 + 16 * i) / 16 ≡ i → pick (b && false) (InvalidTknMsg 0) (InvalidTkn ((2 + 16 * i) / 16)) ≡ InvalidTkn i
     either true e3 = ap InvalidTkn e3
@@ -145,30 +145,30 @@ message-word m h =
     let e0 : (2 + 1048576 * m) / 16 ≡ 65536 * m = omega arith in
     let e1 : (2 + 1048576 * m) / 16 % 65536 ≡ 0 = ap (λ (x : ℕ). x % 65536) e0 ∙ omega arith in
     let e2 : (2 + 1048576 * m) / 1048576 ≡ m = omega arith in
-    record { is = rw (e, e1, e2, ne_eqb m 0 h) refl; kinded = tt; back = λ c j. omega arith }
+    record { is = rw (e, e1, e2, ne_eqb m 0 h) refl; back = λ c j. omega arith }
 
 pub assign_word : (i : ℕ) → Reason (3 + 16 * i) (InvalidAssign i)
 unfolding why_of
 assign_word i =
     let e : (3 + 16 * i) % 16 ≡ 3 = omega arith in
     let e2 : (3 + 16 * i) / 16 ≡ i = omega arith in
-    record { is = rw (e, e2) refl; kinded = tt; back = λ c j. omega arith }
+    record { is = rw (e, e2) refl; back = λ c j. omega arith }
 
-pub mismatch-word : (i k : ℕ) → i < 65536 → k < 4294967296 → Reason (6 + 16 * i + 1048576 * k) (TknMismatch k i)
+pub mismatch-word : (i k : ℕ) → i < 65536 → Reason (6 + 16 * i + 1048576 * k) (TknMismatch k i)
 unfolding why_of
-mismatch-word i k h f =
+mismatch-word i k h =
     let e : (6 + 16 * i + 1048576 * k) % 16 ≡ 6 = omega arith in
     let e0 : (6 + 16 * i + 1048576 * k) / 16 ≡ i + 65536 * k = omega arith in
     let e1 : (6 + 16 * i + 1048576 * k) / 16 % 65536 ≡ i = ap (λ (x : ℕ). x % 65536) e0 ∙ omega arith in
     let e2 : (6 + 16 * i + 1048576 * k) / 1048576 ≡ k = omega arith in
-    record { is = rw (e, e1, e2) refl; kinded = f; back = λ c j. refl }
+    record { is = rw (e, e1, e2) refl; back = λ c j. refl }
 
 pub exceeded-word : (n : ℕ) → Reason (7 + 16 * n) (FnParmCntExceeded n)
 unfolding why_of
 exceeded-word n =
     let e : (7 + 16 * n) % 16 ≡ 7 = omega arith in
     let e2 : (7 + 16 * n) / 16 ≡ n = omega arith in
-    record { is = rw (e, e2) refl; kinded = tt; back = λ c j. omega arith }
+    record { is = rw (e, e2) refl; back = λ c j. omega arith }
 
 pub wrong_word : (n m : ℕ) → n < 65536 → Reason (8 + 16 * n + 1048576 * m) (WrongFnParmCnt n m)
 unfolding why_of
@@ -177,18 +177,18 @@ wrong_word n m h =
     let e0 : (8 + 16 * n + 1048576 * m) / 16 ≡ n + 65536 * m = omega arith in
     let e1 : (8 + 16 * n + 1048576 * m) / 16 % 65536 ≡ n = ap (λ (x : ℕ). x % 65536) e0 ∙ omega arith in
     let e2 : (8 + 16 * n + 1048576 * m) / 1048576 ≡ m = omega arith in
-    record { is = rw (e, e1, e2) refl; kinded = tt; back = λ c j. refl }
+    record { is = rw (e, e1, e2) refl; back = λ c j. refl }
 
 pub undecl-word : (i : ℕ) → Reason (9 + 16 * i) (UndeclSym i)
 unfolding why_of
 undecl-word i =
     let e : (9 + 16 * i) % 16 ≡ 9 = omega arith in
     let e2 : (9 + 16 * i) / 16 ≡ i = omega arith in
-    record { is = rw (e, e2) refl; kinded = tt; back = λ c j. omega arith }
+    record { is = rw (e, e2) refl; back = λ c j. omega arith }
 
 pub ident-word : (i : ℕ) → Reason (11 + 16 * i) (ExpectedIdent i)
 unfolding why_of
 ident-word i =
     let e : (11 + 16 * i) % 16 ≡ 11 = omega arith in
     let e2 : (11 + 16 * i) / 16 ≡ i = omega arith in
-    record { is = rw (e, e2) refl; kinded = tt; back = λ c j. omega arith }
+    record { is = rw (e, e2) refl; back = λ c j. omega arith }

@@ -1,5 +1,5 @@
-use Rattle.std.proofs.Common.{◌-◌, lt_of_lt_of_le, arith}
-use Rattle.sifc_value.proofs.Scanned.{Scanned, scanned-none, scanned-more, room, scale-room, read_all, read-stop, below-digit, above-digit}
+use Rattle.std.proofs.Common.{◌-◌}
+use Rattle.sifc_value.proofs.Scanned.{Scanned}
 use Rattle.sifc_value.proofs.digits.Given as goal
 
 abbrev pub invariant-loop-next : goal.invariant-loop-next

@@ -1,22 +1,14 @@
-use Rattle.std.proofs.Common.{◌≡◌, ℕ, ◌-◌, ◌^◌, ◌<◌, length, sym, ap, ◌∙◌, lt_of_lt_of_le, arith, rules}
+use Rattle.std.proofs.Common.{ℕ, ◌-◌, ◌^◌, sym, ap, ◌∙◌, lt_of_lt_of_le, arith}
 use lib.Ieee.{of_int}
 use Rattle.sifc_value.specs.Decimal.{ten-pos, ten-le}
 use Rattle.sifc_value.specs.declared.ValueAnswer.TheVariants.{Number}
 use Rattle.sifc_value.proofs.Literal.{none, only, other, more, pointed}
 use Rattle.sifc_value.proofs.value.Goals as goal
 
-inside : (c : tie.Else3) → c.before.before.before.before.digits.result.next < length c.before.before.before.before.before.before.before.args.literal.now
-inside c =
-    let read = c.before.before.before.before in
-    let d = read.digits.ensures.stop in
-    let l = read.before.capped.ensures.low in
-    let n = c.before.before.if2.false in
-    omega arith
-
 pub digits-whole-requires : goal.digits-whole-requires
 digits-whole-requires c =
     let k = c.capped.ensures in
-    (omega arith, (k.low, (omega (arith, k.high), ten-pos _)))
+    record { from_le_end = omega arith; end_in_bounds = k.low; from_bound = omega (arith, k.high); before_bound = ten-pos _ }
 
 pub returns-then-point-eq0 : goal.returns-then-point-eq0
 returns-then-point-eq0 c = sym (none c.args.literal.now c.capped.result c.digits-whole.result.number c.digits-whole.result.scale c.digits-whole.result.next c.capped.ensures c.digits-whole.ensures (omega arith))
@@ -41,13 +33,10 @@ digits-all-requires c =
     let m = g.high in
     let n = g.low in
     let x = g.reach (c.capped-2.result - 1) (omega arith) (omega arith) in
-    (k.reach _ (omega arith) (omega arith), (k.low, (omega arith, lt_of_lt_of_le r.small (ten-le _ _ (omega arith)))))
+    record { from_le_end = k.reach _ (omega arith) (omega arith); end_in_bounds = k.low; from_bound = omega arith; before_bound = lt_of_lt_of_le r.small (ten-le _ _ (omega arith)) }
 
 pub returns-then-all-n : goal.returns-then-all-n
-returns-then-all-n c = sym (more c.args.literal.now c.capped.result c.digits-whole.result.number c.digits-whole.result.scale c.digits-whole.result.next c.capped.ensures c.digits-whole.ensures (inside ⟪Else3⟫) c.if-literal-point-ne46.false c.capped-2.result c.digits-all.result.number c.digits-all.result.scale c.digits-all.result.next c.capped-2.ensures c.digits-all.ensures (λ e. omega arith))
-
-whole-read : (c : tie.Else4) → c.before.before.digits2.result.next ≡ length c.before.before.before.before.before.before.before.before.before.before.before.args.literal.now
-whole-read c = omega arith
+returns-then-all-n c = sym (more c.args.literal.now c.capped.result c.digits-whole.result.number c.digits-whole.result.scale c.digits-whole.result.next c.capped.ensures c.digits-whole.ensures (omega arith) c.if-literal-point-ne46.false c.capped-2.result c.digits-all.result.number c.digits-all.result.scale c.digits-all.result.next c.capped-2.ensures c.digits-all.ensures (λ e. omega arith))
 
 pub decimal-requires : goal.decimal-requires
 decimal-requires c =
@@ -55,8 +44,7 @@ decimal-requires c =
     let h = r.stop in
     let k = c.capped-2.ensures.high in
     let z = c.if-point-eq0.false in
-    let e = whole-read c in
-    (r.scale-is ∙ ap (λ (n : ℕ). 10 ^ n) (omega arith), omega arith)
+    record { scale_value = r.scale-is ∙ ap (λ (n : ℕ). 10 ^ n) (omega arith); places_bound = omega arith }
 
 pub returns : goal.returns
-returns c = ap Number c.decimal.ensures ∙ sym (pointed c.args.literal.now c.capped.result c.digits-whole.result.number c.digits-whole.result.scale c.digits-whole.result.next c.capped.ensures c.digits-whole.ensures (inside ⟪Else3⟫) c.if-literal-point-ne46.false c.capped-2.result c.digits-all.result.number c.digits-all.result.scale c.digits-all.result.next c.capped-2.ensures c.digits-all.ensures (let z = c.if-point-eq0.false in omega arith) (whole-read ⟪Else4⟫))
+returns c = ap Number c.decimal.ensures ∙ sym (pointed c.args.literal.now c.capped.result c.digits-whole.result.number c.digits-whole.result.scale c.digits-whole.result.next c.capped.ensures c.digits-whole.ensures (omega arith) c.if-literal-point-ne46.false c.capped-2.result c.digits-all.result.number c.digits-all.result.scale c.digits-all.result.next c.capped-2.ensures c.digits-all.ensures (let z = c.if-point-eq0.false in omega arith) (omega arith))

@@ -1,10 +1,3 @@
-use borrow.Author.Rules.{rules}
-use native.Mathlib.Omega.{arith}
-use mathlib.Core.Path.{◌≡◌, refl, sym, ap, ◌∙◌, subst}
-use Rattle.sifc_def.specs.Stmt.{bind as bind_all}
-use Rattle.sifc_step.specs.Steps.{begin, gives, fin, by}
-use Rattle.sifc_block.specs.declared.block.Names.{Names}
-use Rattle.sifc_block.specs.Bound.{names_of, NamesFit}
 use Rattle.sifc_block.proofs.Blocks.{names-fit, bind-none, bind-as}
 use Rattle.sifc_block.proofs.block.bind.Goals as goal
 

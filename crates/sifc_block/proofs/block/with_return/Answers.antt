@@ -1,14 +1,10 @@
-use borrow.Author.Rules.{rules}
 use native.Mathlib.Omega.{arith}
-use Prim.Native.Nat.{ℕ, suc}
-use native.Mathlib.Numerals.{add-one}
-use mathlib.Core.Path.{◌≡◌, refl, sym, ap, ◌∙◌}
+use mathlib.Core.Path.{refl, sym, ap, ◌∙◌}
 use mathlib.Core.Bool.{true, false}
-use borrow.Author.Tests.{not-true, not-false}
 use Rattle.sifc_def.specs.State.{push}
 use Rattle.sifc_def.specs.Stmt.{with_return}
 use Rattle.sifc_step.specs.declared.walk.Walk.{Walk}
-use Rattle.sifc_step.specs.Steps.{begin, gives, kept-nodes, go, halt, last, yes, no, read, aimed, counted, none_is}
+use Rattle.sifc_step.specs.Steps.{begin, gives, kept-nodes, go, halt, yes, no, aimed, counted}
 use Rattle.sifc_step.specs.SmallLaws.{pushed}
 use Rattle.sifc_block.proofs.Tags.{not_done}
 use Rattle.sifc_block.proofs.Blocks.{body_is, none-few, counted-more}
@@ -40,8 +36,8 @@ returns-in_default c =
       does = λ I ys p. gives (λ E e. let p0 = begin 0 (λ x. with_return x c.args.body c.args.n) E e p in
           let p1 = aimed _ _ (body_is true c.args.body c.args.n p0 (c.if-not-body.false)) c.top-last.ensures in
           let p2 = no _ _ p1 (sym c.ends_with_return.ensures ∙ c.if-ends_with_return.false) in
-          halt 0 (λ x. push x 6 false 0 0) _ p2 refl (pushed p2.is c.push_node-made.ensures) c.push_node-made.ensures.sure (not_done _ c.in_default.in_default-own.keys2));
-      few = none-few (not_done c.push_node-made.result c.in_default.in_default-own.keys2);
+          halt 0 (λ x. push x 6 false 0 0) _ p2 refl (pushed p2.is c.push_node-made.ensures) c.push_node-made.ensures.sure (not_done _ c.in_default.not-Done));
+      few = none-few (not_done c.push_node-made.result c.in_default.not-Done);
     }
 
 pub returns : goal.returns
@@ -51,7 +47,7 @@ returns c =
       does = λ I ys p. gives (λ E e. let p0 = begin 0 (λ x. with_return x c.args.body c.args.n) E e p in
           let p1 = aimed _ _ (body_is true c.args.body c.args.n p0 (c.if-not-body.false)) c.top-last.ensures in
           let p2 = no _ _ p1 (sym c.ends_with_return.ensures ∙ c.if-ends_with_return.false) in
-          let p3 = go 0 (λ x. push x 6 false 0 0) _ p2 refl (pushed p2.is c.push_node-made.ensures) (kept-nodes c.push_node-made.auto.0 c.push_node-made.auto.1.0) c.in-Done.is in
+          let p3 = go 0 (λ x. push x 6 false 0 0) _ p2 refl (pushed p2.is c.push_node-made.ensures) (kept-nodes c.push_node-made.auto.head c.push_node-made.auto.load) c.in-Done.is in
           counted p3 (counted-more c.in-Done.x c.args.n c.with_count-2.ensures));
       few = omega (arith, ap (λ (y : Walk). y.count) c.with_count-2.ensures);
     }

@@ -1,8 +1,7 @@
-use borrow.Author.Rules.{rules}
 use native.Mathlib.Omega.{arith}
-use mathlib.Core.Path.{◌≡◌, refl, sym, ap, ◌∙◌, subst}
+use mathlib.Core.Path.{refl}
 use mathlib.Core.Bool.{false}
-use Prim.Native.Nat.{ℕ, ◌+◌}
+use Prim.Native.Nat.{◌+◌}
 use Rattle.sifc_def.specs.State.{push}
 use Rattle.sifc_def.specs.Stmt.{end_if}
 use Rattle.sifc_step.specs.Steps.{begin, same, last}
@@ -18,7 +17,7 @@ returns-in_default c =
     record {
       does = λ s os ks ys p. record {
         tells = λ E e t. let p0 = begin 0 (λ x. end_if x c.args.n c.args.elses) E e p in
-            stops 0 (λ x. second_else x c.args.elses) _ p0 refl (omega arith) t (c.second_else-told.ensures.does s os ks _ p) (not_done _ c.in_default.in_default-own.keys2);
+            stops 0 (λ x. second_else x c.args.elses) _ p0 refl (omega arith) t (c.second_else-told.ensures.does s os ks _ p) (not_done _ c.in_default.not-Done);
       };
     }
 

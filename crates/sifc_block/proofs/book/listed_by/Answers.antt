@@ -1,4 +1,3 @@
-use borrow.Author.Rules.{rules}
 use mathlib.Core.Path.{sym, ap, ◌∙◌}
 use Rattle.sifc_step.specs.Abs.{listed_by}
 use Rattle.sifc_block.proofs.book.listed_by.Goals as goal

@@ -1,4 +1,3 @@
-use borrow.Author.Rules.{rules}
 use native.Mathlib.Omega.{arith}
 use mathlib.Core.Path.{refl, sym, ◌∙◌}
 use Rattle.sifc_block.proofs.Blocks.{noted-none, noted_one, noted-two}
@@ -23,7 +22,7 @@ pub note-requires-2 : goal.note-requires-2
 note-requires-2 c = (omega (arith, c.requires.room, c.requires.listed, c.requires.even, c.listed_by-many.ensures, c.if-many-eq0.false, c.if-many-eq1.false), omega (arith, c.requires.room, c.requires.listed, c.requires.even, c.listed_by-many.ensures, c.if-many-eq0.false, c.if-many-eq1.false), (c.requires.fits (λ z. c.if-many-eq0.false (c.listed_by-many.ensures ∙ z))).place, (c.requires.fits (λ z. c.if-many-eq0.false (c.listed_by-many.ensures ∙ z))).place, omega arith)
 
 pub note-requires-3 : goal.note-requires-3
-note-requires-3 c = (omega (arith, c.requires.room, c.requires.listed, c.requires.even, c.listed_by-many.ensures, c.if-many-eq0.false, c.note-2.auto.0), omega (arith, c.requires.room, c.requires.listed, c.requires.even, c.listed_by-many.ensures, c.if-many-eq0.false, c.note-2.auto.1.0), (c.requires.fits (λ z. c.if-many-eq0.false (c.listed_by-many.ensures ∙ z))).place, (c.requires.fits (λ z. c.if-many-eq0.false (c.listed_by-many.ensures ∙ z))).first, (c.requires.fits (λ z. c.if-many-eq0.false (c.listed_by-many.ensures ∙ z))).second)
+note-requires-3 c = (omega (arith, c.requires.room, c.requires.listed, c.requires.even, c.listed_by-many.ensures, c.if-many-eq0.false, c.note-2.auto.places), omega (arith, c.requires.room, c.requires.listed, c.requires.even, c.listed_by-many.ensures, c.if-many-eq0.false, c.note-2.auto.reasons), (c.requires.fits (λ z. c.if-many-eq0.false (c.listed_by-many.ensures ∙ z))).place, (c.requires.fits (λ z. c.if-many-eq0.false (c.listed_by-many.ensures ∙ z))).first, (c.requires.fits (λ z. c.if-many-eq0.false (c.listed_by-many.ensures ∙ z))).second)
 
 pub returns : goal.returns
 returns c = (c.listed_by-many.ensures, noted-two c.requires _ (sym c.listed_by-many.ensures) c.if-many-eq0.false c.if-many-eq1.false refl refl c.note-2.ensures c.note-3.ensures)

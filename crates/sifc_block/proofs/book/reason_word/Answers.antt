@@ -1,4 +1,3 @@
-use borrow.Author.Rules.{rules}
 use native.Mathlib.Omega.{arith}
 use Rattle.sifc_block.proofs.Blocks.{number_small}
 use Rattle.sifc_block.proofs.book.reason_word.Goals as goal

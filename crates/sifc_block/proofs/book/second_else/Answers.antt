@@ -1,4 +1,3 @@
-use borrow.Author.Rules.{rules}
 use Rattle.sifc_block.proofs.Blocks.{else-none, else-full, else-listed}
 use Rattle.sifc_block.proofs.book.second_else.Goals as goal
 

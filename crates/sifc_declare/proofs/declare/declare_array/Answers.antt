@@ -1,4 +1,3 @@
-use borrow.Author.Rules.{rules}
 use native.Mathlib.Omega.{arith}
 use mathlib.Core.Path.{refl}
 use mathlib.Core.Bool.{false}
@@ -22,7 +21,7 @@ returns-in_default c =
     record {
       does = λ l p. gives (λ E e. let p0 = begin 0 (λ x. array_and_name x c.args.i c.args.n) E e p in
           let p1 = by p0 (array-some _ _ _ _ c.if-n-eq0.false) in
-          stop 0 (λ x. push x 17 false c.args.n 0) _ p1 refl (omega arith) (pushed-as p1.is c.head_word-word.ensures c.push_node-items.ensures) (not_done _ c.in_default.in_default-own.keys2));
+          stop 0 (λ x. push x 17 false c.args.n 0) _ p1 refl (omega arith) (pushed-as p1.is c.head_word-word.ensures c.push_node-items.ensures) (not_done _ c.in_default.not-Done));
     }
 
 pub declare_other-requires-2 : goal.declare_other-requires-2
@@ -32,7 +31,7 @@ declare_other-requires-2 c =
     let e = blanks c.args.w.errors in
     let p0 = begin 0 (λ x. array_and_name x c.args.i c.args.n) E e p in
     let p1 = by p0 (array-some _ _ _ _ c.if-n-eq0.false) in
-    let p2 = go 0 (λ x. push x 17 false c.args.n 0) _ p1 refl (pushed-as p1.is c.head_word-word.ensures c.push_node-items.ensures) (kept-nodes c.push_node-items.auto.0 c.push_node-items.auto.1.0) c.in-Done.is in
+    let p2 = go 0 (λ x. push x 17 false c.args.n 0) _ p1 refl (pushed-as p1.is c.head_word-word.ensures c.push_node-items.ensures) (kept-nodes c.push_node-items.auto.head c.push_node-items.auto.load) c.in-Done.is in
     (free p2.is, c.requires.1)
 
 pub returns : goal.returns
@@ -40,6 +39,6 @@ returns c =
     record {
       does = λ l p. gives (λ E e. let p0 = begin 0 (λ x. array_and_name x c.args.i c.args.n) E e p in
           let p1 = by p0 (array-some _ _ _ _ c.if-n-eq0.false) in
-          let p2 = go 0 (λ x. push x 17 false c.args.n 0) _ p1 refl (pushed-as p1.is c.head_word-word.ensures c.push_node-items.ensures) (kept-nodes c.push_node-items.auto.0 c.push_node-items.auto.1.0) c.in-Done.is in
+          let p2 = go 0 (λ x. push x 17 false c.args.n 0) _ p1 refl (pushed-as p1.is c.head_word-word.ensures c.push_node-items.ensures) (kept-nodes c.push_node-items.auto.head c.push_node-items.auto.load) c.in-Done.is in
           last 0 (λ x. node_and_name x 80 c.args.i) p2 refl (omega arith) (c.declare_other-2.ensures.does l p2.is));
     }

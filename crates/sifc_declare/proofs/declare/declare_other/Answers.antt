@@ -1,4 +1,3 @@
-use borrow.Author.Rules.{rules}
 use native.Mathlib.Omega.{arith}
 use mathlib.Core.Path.{refl}
 use Rattle.sifc_def.specs.declared.What.TheVariants.{Other}
@@ -16,7 +15,7 @@ pub returns-in_default : goal.returns-in_default
 returns-in_default c =
     record {
       does = λ l p. gives (λ E e. let p0 = begin 0 (λ x. node_and_name x c.args.word c.args.i) E e p in
-          stop 0 (λ x. push x (kind_in c.args.word) (flag_in c.args.word) (kids_in c.args.word) c.args.i) _ p0 refl (omega arith) (pushed p0.is c.push_node-made.ensures) (not_done _ c.in_default.in_default-own.keys2));
+          stop 0 (λ x. push x (kind_in c.args.word) (flag_in c.args.word) (kids_in c.args.word) c.args.i) _ p0 refl (omega arith) (pushed p0.is c.push_node-made.ensures) (not_done _ c.in_default.not-Done));
     }
 
 pub store_name-requires : goal.store_name-requires
@@ -25,13 +24,13 @@ store_name-requires c =
     let E = blank c.args.w.errors in
     let e = blanks c.args.w.errors in
     let p0 = begin 0 (λ x. node_and_name x c.args.word c.args.i) E e p in
-    let p1 = go 0 (λ x. push x (kind_in c.args.word) (flag_in c.args.word) (kids_in c.args.word) c.args.i) _ p0 refl (pushed p0.is c.push_node-made.ensures) (kept-nodes c.push_node-made.auto.0 c.push_node-made.auto.1.0) c.in-Done.is in
+    let p1 = go 0 (λ x. push x (kind_in c.args.word) (flag_in c.args.word) (kids_in c.args.word) c.args.i) _ p0 refl (pushed p0.is c.push_node-made.ensures) (kept-nodes c.push_node-made.auto.head c.push_node-made.auto.load) c.in-Done.is in
     fits-other c.args.i p1.is c.requires.1
 
 pub returns : goal.returns
 returns c =
     record {
       does = λ l p. gives (λ E e. let p0 = begin 0 (λ x. node_and_name x c.args.word c.args.i) E e p in
-          let p1 = go 0 (λ x. push x (kind_in c.args.word) (flag_in c.args.word) (kids_in c.args.word) c.args.i) _ p0 refl (pushed p0.is c.push_node-made.ensures) (kept-nodes c.push_node-made.auto.0 c.push_node-made.auto.1.0) c.in-Done.is in
+          let p1 = go 0 (λ x. push x (kind_in c.args.word) (flag_in c.args.word) (kids_in c.args.word) c.args.i) _ p0 refl (pushed p0.is c.push_node-made.ensures) (kept-nodes c.push_node-made.auto.head c.push_node-made.auto.load) c.in-Done.is in
           last 0 (λ x. store x c.args.i Other) p1 refl (omega arith) (put p1.is c.store_name.ensures));
     }

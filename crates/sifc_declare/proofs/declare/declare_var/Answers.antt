@@ -1,4 +1,3 @@
-use borrow.Author.Rules.{rules}
 use native.Mathlib.Omega.{arith}
 use mathlib.Core.Path.{refl}
 use lib.Dec.{eqb}
@@ -17,7 +16,7 @@ unfolding declare_var
 returns-in_default c =
     record {
       does = λ l p. gives (λ E e. let p1 = read _ (begin 0 (λ x. declare_var x c.args.i c.args.n) E e p) in
-          stop 0 (λ x. push x 8 (eqb c.args.w.level 0) c.args.n c.args.i) _ p1 refl (omega arith) (pushed-as p1.is c.head_word-word.ensures c.push_node-made.ensures) (not_done _ c.in_default.in_default-own.keys2));
+          stop 0 (λ x. push x 8 (eqb c.args.w.level 0) c.args.n c.args.i) _ p1 refl (omega arith) (pushed-as p1.is c.head_word-word.ensures c.push_node-made.ensures) (not_done _ c.in_default.not-Done));
     }
 
 pub store_name-requires : goal.store_name-requires
@@ -27,7 +26,7 @@ store_name-requires c =
     let E = blank c.args.w.errors in
     let e = blanks c.args.w.errors in
     let p1 = read _ (begin 0 (λ x. declare_var x c.args.i c.args.n) E e p) in
-    let p2 = go 0 (λ x. push x 8 (eqb c.args.w.level 0) c.args.n c.args.i) _ p1 refl (pushed-as p1.is c.head_word-word.ensures c.push_node-made.ensures) (kept-nodes c.push_node-made.auto.0 c.push_node-made.auto.1.0) c.in-Done.is in
+    let p2 = go 0 (λ x. push x 8 (eqb c.args.w.level 0) c.args.n c.args.i) _ p1 refl (pushed-as p1.is c.head_word-word.ensures c.push_node-made.ensures) (kept-nodes c.push_node-made.auto.head c.push_node-made.auto.load) c.in-Done.is in
     fits-variable c.args.i (eqb c.args.w.level 0) p2.is c.requires.1
 
 pub returns : goal.returns
@@ -35,6 +34,6 @@ unfolding declare_var
 returns c =
     record {
       does = λ l p. gives (λ E e. let p1 = read _ (begin 0 (λ x. declare_var x c.args.i c.args.n) E e p) in
-          let p2 = go 0 (λ x. push x 8 (eqb c.args.w.level 0) c.args.n c.args.i) _ p1 refl (pushed-as p1.is c.head_word-word.ensures c.push_node-made.ensures) (kept-nodes c.push_node-made.auto.0 c.push_node-made.auto.1.0) c.in-Done.is in
+          let p2 = go 0 (λ x. push x 8 (eqb c.args.w.level 0) c.args.n c.args.i) _ p1 refl (pushed-as p1.is c.head_word-word.ensures c.push_node-made.ensures) (kept-nodes c.push_node-made.auto.head c.push_node-made.auto.load) c.in-Done.is in
           last 0 (λ x. store x c.args.i (Variable c.args.i (eqb c.args.w.level 0))) p2 refl (omega arith) (put p2.is c.store_name.ensures));
     }

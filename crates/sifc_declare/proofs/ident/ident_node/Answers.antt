@@ -1,4 +1,3 @@
-use borrow.Author.Rules.{rules}
 use native.Mathlib.Omega.{arith}
 use mathlib.Core.Path.{refl}
 use mathlib.Core.Bool.{false}
@@ -15,7 +14,7 @@ pub returns-in_default : goal.returns-in_default
 unfolding ident_node
 returns-in_default c =
     gives (λ E e. let p0 = begin 0 (λ x. ident_node x) E e c.requires in
-    stop 0 (λ x. ident x ExpectedIdent) _ p0 refl (omega arith) (named ExpectedIdent p0.is c.match_ident-named.ensures refl) (not_done _ c.in_default.in_default-own.keys2))
+    stop 0 (λ x. ident x ExpectedIdent) _ p0 refl (omega arith) (named ExpectedIdent p0.is c.match_ident-named.ensures refl) (not_done _ c.in_default.not-Done))
 
 pub push_node-requires : goal.push_node-requires
 unfolding ident_node

@@ -1,19 +1,16 @@
-use borrow.Author.Rules.{rules}
-use Prim.Native.Nat.{◌-◌, ◌≤◌, suc}
+use Prim.Native.Nat.{suc}
 use borrow.Author.Tests.{eq-eqb, ne_eqb, le-leb, lt-leb}
 use native.Mathlib.Omega.{arith}
 use mathlib.Core.Path.{refl, sym, ap, ◌∙◌}
 use lib.Dec.{eqb}
-use lib.ListN.{length}
 use Rattle.sifc_def.specs.declared.Why.TheVariants.{InvalidTknMsg, FnParmCntExceeded}
 use Rattle.sifc_def.specs.State.{throw}
 use Rattle.sifc_def.specs.Expr.{fuel, separator as separator_of, param_list}
 use Rattle.sifc_def.specs.Stmt.{param}
 use Rattle.sifc_step.specs.declared.walk.Walk.{Walk}
-use Rattle.sifc_step.specs.Abs.{inp, mem}
-use Rattle.sifc_step.specs.Steps.{kept, same, begin, blank, blanks, gives, go, stop, last, read, yes, no, test, ahead_of, none_is, counted}
+use Rattle.sifc_step.specs.Steps.{same, begin, blank, blanks, gives, go, stop, last, read, yes, no, test, ahead_of, none_is, counted}
 use Rattle.sifc_step.specs.SmallLaws.{separated, thrown-counting}
-use Rattle.sifc_step.specs.Loops.{Looping, looping, turn, turn-own, onward, recount}
+use Rattle.sifc_step.specs.Loops.{looping, turn, turn-own, onward, recount}
 use Rattle.sifc_declare.proofs.Tags.{not_done}
 use Rattle.sifc_declare.proofs.Ends.{as_param, none-used, zero-used, node-ahead, separated-kept}
 use Rattle.sifc_declare.proofs.ident.param_list.Goals as goal
@@ -94,13 +91,13 @@ pub ident_node-item-requires : goal.ident_node-item-requires
 ident_node-item-requires c = c.loop-lim.invariant.0.is
 
 pub shape_of-symbols-in_default : goal.shape_of-symbols-in_default
-shape_of-symbols-in_default c = c.ident_node-item.auto.1.1.1.0 ∙ c.loop-lim.invariant.0.kept.symbols
+shape_of-symbols-in_default c = c.ident_node-item.auto.symbols ∙ c.loop-lim.invariant.0.kept.symbols
 
 pub shape_of-head-in_default : goal.shape_of-head-in_default
-shape_of-head-in_default c = c.ident_node-item.auto.1.1.1.1.0 ∙ c.loop-lim.invariant.0.kept.head
+shape_of-head-in_default c = c.ident_node-item.auto.head ∙ c.loop-lim.invariant.0.kept.head
 
 pub shape_of-load-in_default : goal.shape_of-load-in_default
-shape_of-load-in_default c = c.ident_node-item.auto.1.1.1.1.1.0 ∙ c.loop-lim.invariant.0.kept.load
+shape_of-load-in_default c = c.ident_node-item.auto.load ∙ c.loop-lim.invariant.0.kept.load
 
 pub returns-in_default : goal.returns-in_default
 unfolding param_list
@@ -110,9 +107,9 @@ returns-in_default c = (
       let p2 = no _ _ p1 (test (λ k. eqb k 2) p1 (ne_eqb _ _ (λ z. c.if-k-eq-RIGHT_PAREN.false (c.kind_at-k.ensures ∙ z)))) in
       let p3 = no _ _ p2 (lt-leb _ _ c.if-n-ge-FN_PARAM_MAX_LEN.false) in
       let p4 = no _ _ p3 (test (λ k. eqb k 47) p3 (ne_eqb _ _ (λ z. c.if-k-eq-EOF.false (c.kind_at-k.ensures ∙ z)))) in
-      stop 0 (λ x. param x) _ p4 refl (omega arith) (as_param c.loop-lim.invariant.0.is c.ident_node-item.ensures) (not_done _ c.in_default.in_default-own.keys2)),
-  none_is c.ident_node-item.result (not_done _ c.in_default.in_default-own.keys2),
-  none-used c.ident_node-item.result (not_done _ c.in_default.in_default-own.keys2),
+      stop 0 (λ x. param x) _ p4 refl (omega arith) (as_param c.loop-lim.invariant.0.is c.ident_node-item.ensures) (not_done _ c.in_default.not-Done)),
+  none_is c.ident_node-item.result (not_done _ c.in_default.not-Done),
+  none-used c.ident_node-item.result (not_done _ c.in_default.not-Done),
 )
 
 pub separator-comma-requires : goal.separator-comma-requires
@@ -125,17 +122,17 @@ separator-comma-requires c =
     let p2 = no _ _ p1 (test (λ k. eqb k 2) p1 (ne_eqb _ _ (λ z. c.if-k-eq-RIGHT_PAREN.false (c.kind_at-k.ensures ∙ z)))) in
     let p3 = no _ _ p2 (lt-leb _ _ c.if-n-ge-FN_PARAM_MAX_LEN.false) in
     let p4 = no _ _ p3 (test (λ k. eqb k 47) p3 (ne_eqb _ _ (λ z. c.if-k-eq-EOF.false (c.kind_at-k.ensures ∙ z)))) in
-    let p5 = go 0 (λ x. param x) _ p4 refl (as_param c.loop-lim.invariant.0.is c.ident_node-item.ensures) (kept c.ident_node-item.auto) c.in-Done.is in
+    let p5 = go 0 (λ x. param x) _ p4 refl (as_param c.loop-lim.invariant.0.is c.ident_node-item.ensures) (record { symbols = c.ident_node-item.auto.symbols; head = c.ident_node-item.auto.head; load = c.ident_node-item.auto.load }) c.in-Done.is in
     p5.is.stands
 
 pub shape_of-symbols-in_default-comma : goal.shape_of-symbols-in_default-comma
-shape_of-symbols-in_default-comma c = c.ident_node-item.auto.1.1.1.0 ∙ c.loop-lim.invariant.0.kept.symbols
+shape_of-symbols-in_default-comma c = c.ident_node-item.auto.symbols ∙ c.loop-lim.invariant.0.kept.symbols
 
 pub shape_of-head-in_default-comma : goal.shape_of-head-in_default-comma
-shape_of-head-in_default-comma c = c.ident_node-item.auto.1.1.1.1.0 ∙ c.loop-lim.invariant.0.kept.head
+shape_of-head-in_default-comma c = c.ident_node-item.auto.head ∙ c.loop-lim.invariant.0.kept.head
 
 pub shape_of-load-in_default-comma : goal.shape_of-load-in_default-comma
-shape_of-load-in_default-comma c = c.ident_node-item.auto.1.1.1.1.1.0 ∙ c.loop-lim.invariant.0.kept.load
+shape_of-load-in_default-comma c = c.ident_node-item.auto.load ∙ c.loop-lim.invariant.0.kept.load
 
 pub returns-in_default-comma : goal.returns-in_default-comma
 unfolding param_list
@@ -145,10 +142,10 @@ returns-in_default-comma c = (
       let p2 = no _ _ p1 (test (λ k. eqb k 2) p1 (ne_eqb _ _ (λ z. c.if-k-eq-RIGHT_PAREN.false (c.kind_at-k.ensures ∙ z)))) in
       let p3 = no _ _ p2 (lt-leb _ _ c.if-n-ge-FN_PARAM_MAX_LEN.false) in
       let p4 = no _ _ p3 (test (λ k. eqb k 47) p3 (ne_eqb _ _ (λ z. c.if-k-eq-EOF.false (c.kind_at-k.ensures ∙ z)))) in
-      let p5 = go 0 (λ x. param x) _ p4 refl (as_param c.loop-lim.invariant.0.is c.ident_node-item.ensures) (kept c.ident_node-item.auto) c.in-Done.is in
-      stop 0 (λ x. separator_of x) _ p5 refl (omega arith) (separated p5.is c.separator-comma.ensures) (not_done _ c.in_default-comma.in_default-comma-own.keys2)),
-  none_is c.separator-comma.result (not_done _ c.in_default-comma.in_default-comma-own.keys2),
-  none-used c.separator-comma.result (not_done _ c.in_default-comma.in_default-comma-own.keys2),
+      let p5 = go 0 (λ x. param x) _ p4 refl (as_param c.loop-lim.invariant.0.is c.ident_node-item.ensures) (record { symbols = c.ident_node-item.auto.symbols; head = c.ident_node-item.auto.head; load = c.ident_node-item.auto.load }) c.in-Done.is in
+      stop 0 (λ x. separator_of x) _ p5 refl (omega arith) (separated p5.is c.separator-comma.ensures) (not_done _ c.in_default-comma.not-Done)),
+  none_is c.separator-comma.result (not_done _ c.in_default-comma.not-Done),
+  none-used c.separator-comma.result (not_done _ c.in_default-comma.not-Done),
 )
 
 pub overflow_add-n : goal.overflow_add-n
@@ -164,7 +161,7 @@ loop-lim-smaller c =
     let p2 = no _ _ p1 (test (λ k. eqb k 2) p1 (ne_eqb _ _ (λ z. c.if-k-eq-RIGHT_PAREN.false (c.kind_at-k.ensures ∙ z)))) in
     let p3 = no _ _ p2 (lt-leb _ _ c.if-n-ge-FN_PARAM_MAX_LEN.false) in
     let p4 = no _ _ p3 (test (λ k. eqb k 47) p3 (ne_eqb _ _ (λ z. c.if-k-eq-EOF.false (c.kind_at-k.ensures ∙ z)))) in
-    let p5 = go 0 (λ x. param x) _ p4 refl (as_param c.loop-lim.invariant.0.is c.ident_node-item.ensures) (kept c.ident_node-item.auto) c.in-Done.is in
+    let p5 = go 0 (λ x. param x) _ p4 refl (as_param c.loop-lim.invariant.0.is c.ident_node-item.ensures) (record { symbols = c.ident_node-item.auto.symbols; head = c.ident_node-item.auto.head; load = c.ident_node-item.auto.load }) c.in-Done.is in
     let p6 = go 0 (λ x. separator_of x) _ p5 refl (separated p5.is c.separator-comma.ensures) same c.in-Done-comma.is in
     omega (arith, (node-ahead c.loop-lim.invariant.0.is c.ident_node-item.ensures c.in-Done.is).at, ahead_of (separated p5.is c.separator-comma.ensures) c.in-Done-comma.is, p6.is.stands.here)
 
@@ -178,13 +175,13 @@ loop-lim-preserved c = (
       let p2 = no _ _ p1 (test (λ k. eqb k 2) p1 (ne_eqb _ _ (λ z. c.if-k-eq-RIGHT_PAREN.false (c.kind_at-k.ensures ∙ z)))) in
       let p3 = no _ _ p2 (lt-leb _ _ c.if-n-ge-FN_PARAM_MAX_LEN.false) in
       let p4 = no _ _ p3 (test (λ k. eqb k 47) p3 (ne_eqb _ _ (λ z. c.if-k-eq-EOF.false (c.kind_at-k.ensures ∙ z)))) in
-      let p5 = go 0 (λ x. param x) _ p4 refl (as_param c.loop-lim.invariant.0.is c.ident_node-item.ensures) (kept c.ident_node-item.auto) c.in-Done.is in
+      let p5 = go 0 (λ x. param x) _ p4 refl (as_param c.loop-lim.invariant.0.is c.ident_node-item.ensures) (record { symbols = c.ident_node-item.auto.symbols; head = c.ident_node-item.auto.head; load = c.ident_node-item.auto.load }) c.in-Done.is in
       omega (arith, (node-ahead c.loop-lim.invariant.0.is c.ident_node-item.ensures c.in-Done.is).at, ahead_of (separated p5.is c.separator-comma.ensures) c.in-Done-comma.is)) (λ E e. let p0 = turn-own c.loop-lim.invariant.0 E e in
       let p1 = read _ p0 in
       let p2 = no _ _ p1 (test (λ k. eqb k 2) p1 (ne_eqb _ _ (λ z. c.if-k-eq-RIGHT_PAREN.false (c.kind_at-k.ensures ∙ z)))) in
       let p3 = no _ _ p2 (lt-leb _ _ c.if-n-ge-FN_PARAM_MAX_LEN.false) in
       let p4 = no _ _ p3 (test (λ k. eqb k 47) p3 (ne_eqb _ _ (λ z. c.if-k-eq-EOF.false (c.kind_at-k.ensures ∙ z)))) in
-      let p5 = go 0 (λ x. param x) _ p4 refl (as_param c.loop-lim.invariant.0.is c.ident_node-item.ensures) (kept c.ident_node-item.auto) c.in-Done.is in
+      let p5 = go 0 (λ x. param x) _ p4 refl (as_param c.loop-lim.invariant.0.is c.ident_node-item.ensures) (record { symbols = c.ident_node-item.auto.symbols; head = c.ident_node-item.auto.head; load = c.ident_node-item.auto.load }) c.in-Done.is in
       let p6 = go 0 (λ x. separator_of x) _ p5 refl (separated p5.is c.separator-comma.ensures) same c.in-Done-comma.is in
       p6)),
   omega (arith, c.if-n-ge-FN_PARAM_MAX_LEN.false),
@@ -195,6 +192,6 @@ loop-lim-preserved c = (
       let p2 = no _ _ p1 (test (λ k. eqb k 2) p1 (ne_eqb _ _ (λ z. c.if-k-eq-RIGHT_PAREN.false (c.kind_at-k.ensures ∙ z)))) in
       let p3 = no _ _ p2 (lt-leb _ _ c.if-n-ge-FN_PARAM_MAX_LEN.false) in
       let p4 = no _ _ p3 (test (λ k. eqb k 47) p3 (ne_eqb _ _ (λ z. c.if-k-eq-EOF.false (c.kind_at-k.ensures ∙ z)))) in
-      let p5 = go 0 (λ x. param x) _ p4 refl (as_param c.loop-lim.invariant.0.is c.ident_node-item.ensures) (kept c.ident_node-item.auto) c.in-Done.is in
+      let p5 = go 0 (λ x. param x) _ p4 refl (as_param c.loop-lim.invariant.0.is c.ident_node-item.ensures) (record { symbols = c.ident_node-item.auto.symbols; head = c.ident_node-item.auto.head; load = c.ident_node-item.auto.load }) c.in-Done.is in
       omega (arith, c.loop-lim.invariant.2, (node-ahead c.loop-lim.invariant.0.is c.ident_node-item.ensures c.in-Done.is).nodes, separated-kept p5.is c.separator-comma.ensures c.in-Done-comma.is),
 )

@@ -1,6 +1,8 @@
-use borrow.Author.Rules.{rules}
 use native.Mathlib.Omega.{arith}
-use mathlib.Core.Path.{◌≡◌, refl, sym, ap, ◌∙◌}
+use Prim.Native.Nat.{ℕ}
+use mathlib.Core.List.{List}
+use lib.ListN.{get_or}
+use mathlib.Core.Path.{refl, sym, ap, ◌∙◌}
 use borrow.Author.Tests.{eq-eqb, ne_eqb}
 use Rattle.sifc_def.specs.declared.Why.TheVariants.{InvalidAssign}
 use Rattle.sifc_def.specs.State.{throw}
@@ -18,7 +20,7 @@ returns-then-token_kind-ne-IDENT c =
     last 0 (λ x. throw x (InvalidAssign c.args.i)) (no _ _ p0 (ne_eqb _ _ (λ z. c.if-token_kind-ne-IDENT.true (c.token_kind.ensures ∙ z)))) refl (omega arith) (thrown p0.is c.add_error.ensures))
 
 pub assign_var-requires : goal.assign_var-requires
-assign_var-requires c = (c.requires.even, c.requires.used, found-small 4294967296 (omega arith) (λ k. omega (arith, c.slice_known-1.given k)) c.retrieve-found.ensures)
+assign_var-requires c = (c.requires.even, c.requires.used, found-small 4294967296 (omega arith) (λ k. omega (arith, c.type_inv.symbols k, ap (λ (ys : List ℕ). get_or ys k 0) c.retrieve-found.ensures.kept)) c.retrieve-found.ensures)
 
 pub returns : goal.returns
 unfolding assign_token

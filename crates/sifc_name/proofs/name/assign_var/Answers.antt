@@ -1,6 +1,4 @@
-use borrow.Author.Rules.{rules}
 use native.Mathlib.Omega.{arith}
-use mathlib.Core.Path.{◌≡◌, refl, sym, ap, ◌∙◌}
 use Rattle.sifc_name.proofs.Names.{assign-not, assign-global, assign_local, no-var, none-var, small_at}
 use Rattle.sifc_name.proofs.name.assign_var.Goals as goal
 
@@ -8,7 +6,7 @@ pub returns-in_default : goal.returns-in_default
 returns-in_default c = assign-not (none-var c.in_default.is) c.add_error.ensures
 
 pub returns-in_default-what : goal.returns-in_default-what
-returns-in_default-what c = assign-not (no-var c.in-Declared.is c.in_default-what.in_default-what-own.keys2) c.add_error-in_default-what.ensures
+returns-in_default-what c = assign-not (no-var c.in-Declared.is c.in_default-what.not-Variable) c.add_error-in_default-what.ensures
 
 pub overflow_cast-token : goal.overflow_cast-token
 overflow_cast-token c = omega (arith, small_at c.requires.2 c.in-Declared.is c.in-Variable.is)

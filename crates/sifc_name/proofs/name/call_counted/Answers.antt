@@ -1,4 +1,3 @@
-use borrow.Author.Rules.{rules}
 use Rattle.sifc_name.proofs.Names.{counted-wrong, counted-right}
 use Rattle.sifc_name.proofs.name.call_counted.Goals as goal
 

@@ -1,4 +1,3 @@
-use borrow.Author.Rules.{rules}
 use Rattle.sifc_name.proofs.Names.{declared-none, declared-null, declared-fn, declared-var, declared-other}
 use Rattle.sifc_name.proofs.name.call_declared.Goals as goal
 

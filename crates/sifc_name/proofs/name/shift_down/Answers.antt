@@ -1,7 +1,6 @@
 use native.Mathlib.Omega.{arith}
-use Prim.Native.Nat.{◌-◌, ◌≤◌}
-use lib.ListN.{length, length-set}
-use Rattle.sifc_name.proofs.Names.{Shifting, shifting, shifted-on, shifted}
+use lib.ListN.{length-set}
+use Rattle.sifc_name.proofs.Names.{shifting, shifted-on, shifted}
 use Rattle.sifc_name.proofs.name.shift_down.Goals as goal
 
 pub loop-i-init : goal.loop-i-init

@@ -18,19 +18,19 @@ pub program-requires : goal.program-requires
 program-requires c = (c.requires, λ z. c.if-kind_at-eq-LEX_PANIC.false (c.kind_at.ensures ∙ z), c.open.ensures c.args.script.now c.args.offs.now)
 
 pub shape_of-symbols : goal.shape_of-symbols
-shape_of-symbols c = c.program.auto.1.1.1.0 ∙ c.open.auto.1.0
+shape_of-symbols c = c.program.auto.symbols ∙ c.open.auto.symbols
 
 pub shape_of-head : goal.shape_of-head
-shape_of-head c = c.program.auto.1.1.1.1.0
+shape_of-head c = c.program.auto.head
 
 pub shape_of-load : goal.shape_of-load
-shape_of-load c = c.program.auto.1.1.1.1.1.0
+shape_of-load c = c.program.auto.load
 
 pub shape_of-places : goal.shape_of-places
-shape_of-places c = c.program.auto.1.1.1.1.1.1.0
+shape_of-places c = c.program.auto.places
 
 pub shape_of-reasons : goal.shape_of-reasons
-shape_of-reasons c = c.program.auto.1.1.1.1.1.1.1.0
+shape_of-reasons c = c.program.auto.reasons
 
 pub returns : goal.returns
-returns c = walks-room (inp c.args.script.now c.args.offs.now c.args.words.now c.args.lim) c.args.symbols.now c.open.new.1.0 c.args.head.now c.args.load.now (mem c.program.new.1.1.1.0 c.program.new.1.1.1.1.0 c.program.new.1.1.1.1.1.0) c.program.new.1.1.1.1.1.1.0 c.program.new.1.1.1.1.1.1.1.0 c.program.result c.open.auto.1.0 c.program.ensures
+returns c = walks-room (inp c.args.script.now c.args.offs.now c.args.words.now c.args.lim) c.args.symbols.now c.open.new.1.0 c.args.head.now c.args.load.now (mem c.program.new.1.1.1.0 c.program.new.1.1.1.1.0 c.program.new.1.1.1.1.1.0) c.program.new.1.1.1.1.1.1.0 c.program.new.1.1.1.1.1.1.1.0 c.program.result c.open.auto.symbols c.program.ensures

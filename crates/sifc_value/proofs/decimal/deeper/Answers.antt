@@ -1,4 +1,4 @@
-use Rattle.std.proofs.Common.{arith, rules}
+use Rattle.std.proofs.Common.{arith}
 use Rattle.sifc_value.proofs.Worked.{deep-far, deep-near}
 use Rattle.sifc_value.proofs.decimal.deeper.Goals as goal
 

@@ -1,4 +1,4 @@
-use Rattle.std.proofs.Common.{ℕ, ◌+◌, ◌*◌, ap, arith, rules}
+use Rattle.std.proofs.Common.{ℕ, ◌+◌, ◌*◌, ap, arith}
 use Rattle.sifc_value.specs.Decimal.{bit_le}
 use Rattle.sifc_value.proofs.decimal.with_bit.Goals as goal
 

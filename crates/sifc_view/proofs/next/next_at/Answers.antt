@@ -1,9 +1,5 @@
-use Prim.Native.Nat.{◌-◌, ◌≤◌}
-use mathlib.Core.Path.{◌≡◌, sym, ◌∙◌}
+use mathlib.Core.Path.{sym, ◌∙◌}
 use native.Mathlib.Omega.{arith}
-use borrow.Author.Rules.{rules}
-use lib.ListN.{length, drop}
-use Rattle.sifc_view.specs.View.{next_of, next_at}
 use Rattle.sifc_view.proofs.ViewLaws.{next_start, next-skip, next_word, next-stopped, skip-in, word_in, stop-in}
 use Rattle.sifc_view.proofs.next.next_at.Goals as goal
 

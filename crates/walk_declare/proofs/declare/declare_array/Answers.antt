@@ -26,7 +26,7 @@ pub returns-in_default : goal.returns-in_default
 returns-in_default c =
     gives (λ E e. let p0 = begin 0 (λ x. array_and_name x c.args.i c.args.n) E e c.requires.0 in
     let p1 = by p0 (array-some _ _ _ _ c.if-n-eq0.false) in
-    stop 0 (λ x. push x 17 false c.args.n 0) _ p1 refl (omega arith) (pushed-as p1 c.head_word-word.ensures c.push_node-items.ensures) (not_done _ c.in_default.in_default-own.keys2))
+    stop 0 (λ x. push x 17 false c.args.n 0) _ p1 refl (omega arith) (pushed-as p1 c.head_word-word.ensures c.push_node-items.ensures) (not_done _ c.in_default.not-Done))
 
 pub declare_other-requires-2 : goal.declare_other-requires-2
 declare_other-requires-2 c =
@@ -34,12 +34,12 @@ declare_other-requires-2 c =
     let e = blanks (get_or c.args.st.now 4 0) in
     let p0 = begin 0 (λ x. array_and_name x c.args.i c.args.n) E e c.requires.0 in
     let p1 = by p0 (array-some _ _ _ _ c.if-n-eq0.false) in
-    let p2 = go 0 (λ x. push x 17 false c.args.n 0) _ p1 refl (pushed-as p1 c.head_word-word.ensures c.push_node-items.ensures) (kept-nodes c.push_node-items.auto.0 c.push_node-items.auto.1.0) c.in-Done.is in
+    let p2 = go 0 (λ x. push x 17 false c.args.n 0) _ p1 refl (pushed-as p1 c.head_word-word.ensures c.push_node-items.ensures) (kept-nodes c.push_node-items.auto.head c.push_node-items.auto.load) c.in-Done.is in
     (begins p2, c.requires.1)
 
 pub returns : goal.returns
 returns c =
     gives (λ E e. let p0 = begin 0 (λ x. array_and_name x c.args.i c.args.n) E e c.requires.0 in
     let p1 = by p0 (array-some _ _ _ _ c.if-n-eq0.false) in
-    let p2 = go 0 (λ x. push x 17 false c.args.n 0) _ p1 refl (pushed-as p1 c.head_word-word.ensures c.push_node-items.ensures) (kept-nodes c.push_node-items.auto.0 c.push_node-items.auto.1.0) c.in-Done.is in
+    let p2 = go 0 (λ x. push x 17 false c.args.n 0) _ p1 refl (pushed-as p1 c.head_word-word.ensures c.push_node-items.ensures) (kept-nodes c.push_node-items.auto.head c.push_node-items.auto.load) c.in-Done.is in
     last 0 (λ x. node_and_name x 80 c.args.i) p2 refl (omega arith) (called p2 c.declare_other-2.ensures))

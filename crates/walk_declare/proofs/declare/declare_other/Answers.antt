@@ -19,18 +19,18 @@ push_node-made-requires c = pushable-at c.requires.0
 pub returns-in_default : goal.returns-in_default
 returns-in_default c =
     gives (λ E e. let p0 = begin 0 (λ x. node_and_name x c.args.word c.args.i) E e c.requires.0 in
-    stop 0 (λ x. push x (kind_in c.args.word) (flag_in c.args.word) (kids_in c.args.word) c.args.i) _ p0 refl (omega arith) (pushed p0 c.push_node-made.ensures) (not_done _ c.in_default.in_default-own.keys2))
+    stop 0 (λ x. push x (kind_in c.args.word) (flag_in c.args.word) (kids_in c.args.word) c.args.i) _ p0 refl (omega arith) (pushed p0 c.push_node-made.ensures) (not_done _ c.in_default.not-Done))
 
 pub store_name-requires : goal.store_name-requires
 store_name-requires c =
     let E = blank (get_or c.args.st.now 4 0) in
     let e = blanks (get_or c.args.st.now 4 0) in
     let p0 = begin 0 (λ x. node_and_name x c.args.word c.args.i) E e c.requires.0 in
-    let p1 = go 0 (λ x. push x (kind_in c.args.word) (flag_in c.args.word) (kids_in c.args.word) c.args.i) _ p0 refl (pushed p0 c.push_node-made.ensures) (kept-nodes c.push_node-made.auto.0 c.push_node-made.auto.1.0) c.in-Done.is in
+    let p1 = go 0 (λ x. push x (kind_in c.args.word) (flag_in c.args.word) (kids_in c.args.word) c.args.i) _ p0 refl (pushed p0 c.push_node-made.ensures) (kept-nodes c.push_node-made.auto.head c.push_node-made.auto.load) c.in-Done.is in
     storing-other (starts p1) c.args.i c.requires.1
 
 pub returns : goal.returns
 returns c =
     gives (λ E e. let p0 = begin 0 (λ x. node_and_name x c.args.word c.args.i) E e c.requires.0 in
-    let p1 = go 0 (λ x. push x (kind_in c.args.word) (flag_in c.args.word) (kids_in c.args.word) c.args.i) _ p0 refl (pushed p0 c.push_node-made.ensures) (kept-nodes c.push_node-made.auto.0 c.push_node-made.auto.1.0) c.in-Done.is in
+    let p1 = go 0 (λ x. push x (kind_in c.args.word) (flag_in c.args.word) (kids_in c.args.word) c.args.i) _ p0 refl (pushed p0 c.push_node-made.ensures) (kept-nodes c.push_node-made.auto.head c.push_node-made.auto.load) c.in-Done.is in
     last 0 (λ x. store x c.args.i Other) p1 refl (omega arith) (put p1 c.store_name.ensures))

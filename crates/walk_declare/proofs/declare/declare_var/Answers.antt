@@ -20,7 +20,7 @@ pub returns-in_default : goal.returns-in_default
 unfolding declare_var
 returns-in_default c =
     gives (λ E e. let p1 = read _ (begin 0 (λ x. declare_var x c.args.i c.args.n) E e c.requires.0) in
-    stop 0 (λ x. push x 8 (eqb (get_or c.args.st.now 3 0) 0) c.args.n c.args.i) _ p1 refl (omega arith) (pushed-as p1 c.head_word-word.ensures c.push_node-made.ensures) (not_done _ c.in_default.in_default-own.keys2))
+    stop 0 (λ x. push x 8 (eqb (get_or c.args.st.now 3 0) 0) c.args.n c.args.i) _ p1 refl (omega arith) (pushed-as p1 c.head_word-word.ensures c.push_node-made.ensures) (not_done _ c.in_default.not-Done))
 
 pub store_name-requires : goal.store_name-requires
 unfolding declare_var
@@ -28,12 +28,12 @@ store_name-requires c =
     let E = blank (get_or c.args.st.now 4 0) in
     let e = blanks (get_or c.args.st.now 4 0) in
     let p1 = read _ (begin 0 (λ x. declare_var x c.args.i c.args.n) E e c.requires.0) in
-    let p2 = go 0 (λ x. push x 8 (eqb (get_or c.args.st.now 3 0) 0) c.args.n c.args.i) _ p1 refl (pushed-as p1 c.head_word-word.ensures c.push_node-made.ensures) (kept-nodes c.push_node-made.auto.0 c.push_node-made.auto.1.0) c.in-Done.is in
+    let p2 = go 0 (λ x. push x 8 (eqb (get_or c.args.st.now 3 0) 0) c.args.n c.args.i) _ p1 refl (pushed-as p1 c.head_word-word.ensures c.push_node-made.ensures) (kept-nodes c.push_node-made.auto.head c.push_node-made.auto.load) c.in-Done.is in
     storing-variable (starts p2) c.args.i c.requires.1 (eqb (get_or c.args.st.now 3 0) 0)
 
 pub returns : goal.returns
 unfolding declare_var
 returns c =
     gives (λ E e. let p1 = read _ (begin 0 (λ x. declare_var x c.args.i c.args.n) E e c.requires.0) in
-    let p2 = go 0 (λ x. push x 8 (eqb (get_or c.args.st.now 3 0) 0) c.args.n c.args.i) _ p1 refl (pushed-as p1 c.head_word-word.ensures c.push_node-made.ensures) (kept-nodes c.push_node-made.auto.0 c.push_node-made.auto.1.0) c.in-Done.is in
+    let p2 = go 0 (λ x. push x 8 (eqb (get_or c.args.st.now 3 0) 0) c.args.n c.args.i) _ p1 refl (pushed-as p1 c.head_word-word.ensures c.push_node-made.ensures) (kept-nodes c.push_node-made.auto.head c.push_node-made.auto.load) c.in-Done.is in
     last 0 (λ x. store x c.args.i (Variable c.args.i (eqb (get_or c.args.st.now 3 0) 0))) p2 refl (omega arith) (put p2 c.store_name.ensures))

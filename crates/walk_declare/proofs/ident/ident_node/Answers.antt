@@ -22,7 +22,7 @@ unfolding ident_node
 returns-in_default c =
     record {
       goes = λ sc os ys q. gives (λ E e. let p0 = begin 0 (λ x. ident_node x) E e q in
-          stop 0 (λ x. ident x ExpectedIdent) _ p0 refl (omega arith) (named p0 ExpectedIdent (ident-word _) c.match_ident-named.ensures) (not_done _ c.in_default.in_default-own.keys2));
+          stop 0 (λ x. ident x ExpectedIdent) _ p0 refl (omega arith) (named p0 ExpectedIdent (ident-word _) c.match_ident-named.ensures) (not_done _ c.in_default.not-Done));
     }
 
 pub push_node-requires : goal.push_node-requires

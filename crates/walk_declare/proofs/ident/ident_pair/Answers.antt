@@ -18,9 +18,9 @@ returns-in_default c =
     record {
       does = record {
         goes = λ sc os ys q. gives (λ E e. let p0 = begin 0 (λ x. ident_pair x) E e q in
-            stop 0 (λ x. ident_node x) _ p0 refl (omega arith) (c.ident_node-first.ensures.goes _ _ _ q) (not_done _ c.in_default.in_default-own.keys2));
+            stop 0 (λ x. ident_node x) _ p0 refl (omega arith) (c.ident_node-first.ensures.goes _ _ _ q) (not_done _ c.in_default.not-Done));
       };
-      few = none-counted (not_done _ c.in_default.in_default-own.keys2);
+      few = none-counted (not_done _ c.in_default.not-Done);
     }
 
 pub expect-comma-requires : goal.expect-comma-requires
@@ -30,7 +30,7 @@ expect-comma-requires c =
     let E = blank (get_or c.args.st.now 4 0) in
     let e = blanks (get_or c.args.st.now 4 0) in
     let p0 = begin 0 (λ x. ident_pair x) E e q in
-    let p1 = go 0 (λ x. ident_node x) _ p0 refl (c.ident_node-first.ensures.goes _ _ _ q) (kept-nodes c.ident_node-first.auto.1.0 c.ident_node-first.auto.1.1.0) c.in-Done.is in
+    let p1 = go 0 (λ x. ident_node x) _ p0 refl (c.ident_node-first.ensures.goes _ _ _ q) (kept-nodes c.ident_node-first.auto.head c.ident_node-first.auto.load) c.in-Done.is in
     standing-at (starts p1)
 
 pub returns-in_default-comma : goal.returns-in_default-comma
@@ -39,10 +39,10 @@ returns-in_default-comma c =
     record {
       does = record {
         goes = λ sc os ys q. gives (λ E e. let p0 = begin 0 (λ x. ident_pair x) E e q in
-            let p1 = go 0 (λ x. ident_node x) _ p0 refl (c.ident_node-first.ensures.goes _ _ _ q) (kept-nodes c.ident_node-first.auto.1.0 c.ident_node-first.auto.1.1.0) c.in-Done.is in
-            stop 0 (λ x. expect x 12) _ p1 refl (omega arith) (expected p1 c.expect-comma.ensures) (not_done _ c.in_default-comma.in_default-comma-own.keys2));
+            let p1 = go 0 (λ x. ident_node x) _ p0 refl (c.ident_node-first.ensures.goes _ _ _ q) (kept-nodes c.ident_node-first.auto.head c.ident_node-first.auto.load) c.in-Done.is in
+            stop 0 (λ x. expect x 12) _ p1 refl (omega arith) (expected p1 c.expect-comma.ensures) (not_done _ c.in_default-comma.not-Done));
       };
-      few = none-counted (not_done _ c.in_default-comma.in_default-comma-own.keys2);
+      few = none-counted (not_done _ c.in_default-comma.not-Done);
     }
 
 pub ident_node-second-requires : goal.ident_node-second-requires
@@ -52,7 +52,7 @@ ident_node-second-requires c =
     let E = blank (get_or c.args.st.now 4 0) in
     let e = blanks (get_or c.args.st.now 4 0) in
     let p0 = begin 0 (λ x. ident_pair x) E e q in
-    let p1 = go 0 (λ x. ident_node x) _ p0 refl (c.ident_node-first.ensures.goes _ _ _ q) (kept-nodes c.ident_node-first.auto.1.0 c.ident_node-first.auto.1.1.0) c.in-Done.is in
+    let p1 = go 0 (λ x. ident_node x) _ p0 refl (c.ident_node-first.ensures.goes _ _ _ q) (kept-nodes c.ident_node-first.auto.head c.ident_node-first.auto.load) c.in-Done.is in
     let p2 = go 0 (λ x. expect x 12) _ p1 refl (expected p1 c.expect-comma.ensures) same c.in-Done-comma.is in
     midst p2
 
@@ -62,11 +62,11 @@ returns-in_default-second c =
     record {
       does = record {
         goes = λ sc os ys q. gives (λ E e. let p0 = begin 0 (λ x. ident_pair x) E e q in
-            let p1 = go 0 (λ x. ident_node x) _ p0 refl (c.ident_node-first.ensures.goes _ _ _ q) (kept-nodes c.ident_node-first.auto.1.0 c.ident_node-first.auto.1.1.0) c.in-Done.is in
+            let p1 = go 0 (λ x. ident_node x) _ p0 refl (c.ident_node-first.ensures.goes _ _ _ q) (kept-nodes c.ident_node-first.auto.head c.ident_node-first.auto.load) c.in-Done.is in
             let p2 = go 0 (λ x. expect x 12) _ p1 refl (expected p1 c.expect-comma.ensures) same c.in-Done-comma.is in
-            stop 0 (λ x. ident_node x) _ p2 refl (omega arith) (any_at p2 c.ident_node-second.ensures) (not_done _ c.in_default-second.in_default-second-own.keys2));
+            stop 0 (λ x. ident_node x) _ p2 refl (omega arith) (any_at p2 c.ident_node-second.ensures) (not_done _ c.in_default-second.not-Done));
       };
-      few = none-counted (not_done _ c.in_default-second.in_default-second-own.keys2);
+      few = none-counted (not_done _ c.in_default-second.not-Done);
     }
 
 pub push_node-made-requires : goal.push_node-made-requires
@@ -76,9 +76,9 @@ push_node-made-requires c =
     let E = blank (get_or c.args.st.now 4 0) in
     let e = blanks (get_or c.args.st.now 4 0) in
     let p0 = begin 0 (λ x. ident_pair x) E e q in
-    let p1 = go 0 (λ x. ident_node x) _ p0 refl (c.ident_node-first.ensures.goes _ _ _ q) (kept-nodes c.ident_node-first.auto.1.0 c.ident_node-first.auto.1.1.0) c.in-Done.is in
+    let p1 = go 0 (λ x. ident_node x) _ p0 refl (c.ident_node-first.ensures.goes _ _ _ q) (kept-nodes c.ident_node-first.auto.head c.ident_node-first.auto.load) c.in-Done.is in
     let p2 = go 0 (λ x. expect x 12) _ p1 refl (expected p1 c.expect-comma.ensures) same c.in-Done-comma.is in
-    let p3 = go 0 (λ x. ident_node x) _ p2 refl (any_at p2 c.ident_node-second.ensures) (kept-nodes c.ident_node-second.auto.1.0 c.ident_node-second.auto.1.1.0) c.in-Done-second.is in
+    let p3 = go 0 (λ x. ident_node x) _ p2 refl (any_at p2 c.ident_node-second.ensures) (kept-nodes c.ident_node-second.auto.head c.ident_node-second.auto.load) c.in-Done-second.is in
     pushable-at (starts p3)
 
 pub returns-in_default-made : goal.returns-in_default-made
@@ -87,12 +87,12 @@ returns-in_default-made c =
     record {
       does = record {
         goes = λ sc os ys q. gives (λ E e. let p0 = begin 0 (λ x. ident_pair x) E e q in
-            let p1 = go 0 (λ x. ident_node x) _ p0 refl (c.ident_node-first.ensures.goes _ _ _ q) (kept-nodes c.ident_node-first.auto.1.0 c.ident_node-first.auto.1.1.0) c.in-Done.is in
+            let p1 = go 0 (λ x. ident_node x) _ p0 refl (c.ident_node-first.ensures.goes _ _ _ q) (kept-nodes c.ident_node-first.auto.head c.ident_node-first.auto.load) c.in-Done.is in
             let p2 = go 0 (λ x. expect x 12) _ p1 refl (expected p1 c.expect-comma.ensures) same c.in-Done-comma.is in
-            let p3 = go 0 (λ x. ident_node x) _ p2 refl (any_at p2 c.ident_node-second.ensures) (kept-nodes c.ident_node-second.auto.1.0 c.ident_node-second.auto.1.1.0) c.in-Done-second.is in
-            stop 0 (λ x. push x 11 false 2 0) _ p3 refl (omega arith) (pushed p3 c.push_node-made.ensures) (not_done _ c.in_default-made.in_default-made-own.keys2));
+            let p3 = go 0 (λ x. ident_node x) _ p2 refl (any_at p2 c.ident_node-second.ensures) (kept-nodes c.ident_node-second.auto.head c.ident_node-second.auto.load) c.in-Done-second.is in
+            stop 0 (λ x. push x 11 false 2 0) _ p3 refl (omega arith) (pushed p3 c.push_node-made.ensures) (not_done _ c.in_default-made.not-Done));
       };
-      few = none-counted (not_done _ c.in_default-made.in_default-made-own.keys2);
+      few = none-counted (not_done _ c.in_default-made.not-Done);
     }
 
 pub returns : goal.returns
@@ -101,17 +101,17 @@ returns c =
     record {
       does = record {
         goes = λ sc os ys q. gives (λ E e. let p0 = begin 0 (λ x. ident_pair x) E e q in
-            let p1 = go 0 (λ x. ident_node x) _ p0 refl (c.ident_node-first.ensures.goes _ _ _ q) (kept-nodes c.ident_node-first.auto.1.0 c.ident_node-first.auto.1.1.0) c.in-Done.is in
+            let p1 = go 0 (λ x. ident_node x) _ p0 refl (c.ident_node-first.ensures.goes _ _ _ q) (kept-nodes c.ident_node-first.auto.head c.ident_node-first.auto.load) c.in-Done.is in
             let p2 = go 0 (λ x. expect x 12) _ p1 refl (expected p1 c.expect-comma.ensures) same c.in-Done-comma.is in
-            let p3 = go 0 (λ x. ident_node x) _ p2 refl (any_at p2 c.ident_node-second.ensures) (kept-nodes c.ident_node-second.auto.1.0 c.ident_node-second.auto.1.1.0) c.in-Done-second.is in
-            let p4 = go 0 (λ x. push x 11 false 2 0) _ p3 refl (pushed p3 c.push_node-made.ensures) (kept-nodes c.push_node-made.auto.0 c.push_node-made.auto.1.0) c.in-Done-made.is in
+            let p3 = go 0 (λ x. ident_node x) _ p2 refl (any_at p2 c.ident_node-second.ensures) (kept-nodes c.ident_node-second.auto.head c.ident_node-second.auto.load) c.in-Done-second.is in
+            let p4 = go 0 (λ x. push x 11 false 2 0) _ p3 refl (pushed p3 c.push_node-made.ensures) (kept-nodes c.push_node-made.auto.head c.push_node-made.auto.load) c.in-Done-made.is in
             paired p4);
       };
       few = let q = c.requires.starts in
           let E = blank (get_or c.args.st.now 4 0) in
           let e = blanks (get_or c.args.st.now 4 0) in
           let p0 = begin 0 (λ x. ident_pair x) E e q in
-          let p1 = go 0 (λ x. ident_node x) _ p0 refl (c.ident_node-first.ensures.goes _ _ _ q) (kept-nodes c.ident_node-first.auto.1.0 c.ident_node-first.auto.1.1.0) c.in-Done.is in
+          let p1 = go 0 (λ x. ident_node x) _ p0 refl (c.ident_node-first.ensures.goes _ _ _ q) (kept-nodes c.ident_node-first.auto.head c.ident_node-first.auto.load) c.in-Done.is in
           let p2 = go 0 (λ x. expect x 12) _ p1 refl (expected p1 c.expect-comma.ensures) same c.in-Done-comma.is in
           count_set _ c.push_node-made.ensures.left.words (omega (arith, p2.at.is.stands.here, c.requires.starts.is.stands.toks.few));
     }

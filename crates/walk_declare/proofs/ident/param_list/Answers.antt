@@ -94,10 +94,10 @@ pub ident_node-item-requires : goal.ident_node-item-requires
 ident_node-item-requires c = amid c.loop-st.invariant.0
 
 pub shape_of-head-in_default : goal.shape_of-head-in_default
-shape_of-head-in_default c = c.ident_node-item.auto.1.0 ∙ (own c.loop-st.invariant.0).kept.head
+shape_of-head-in_default c = c.ident_node-item.auto.head ∙ (own c.loop-st.invariant.0).kept.head
 
 pub shape_of-load-in_default : goal.shape_of-load-in_default
-shape_of-load-in_default c = c.ident_node-item.auto.1.1.0 ∙ (own c.loop-st.invariant.0).kept.load
+shape_of-load-in_default c = c.ident_node-item.auto.load ∙ (own c.loop-st.invariant.0).kept.load
 
 pub returns-in_default : goal.returns-in_default
 unfolding param_list
@@ -111,9 +111,9 @@ returns-in_default c =
             let p4 = no _ _ p3 (test (λ k. eqb k 47) p3 (ne_eqb _ _ (λ z. c.if-k-eq-EOF.false (c.kind_at-k.ensures ∙ z)))) in
             let g4 = any_at p4 c.ident_node-item.ensures in
             let one = as_param p4 g4 in
-            stop 0 (λ x. param x) _ p4 refl (omega arith) one (not_done _ c.in_default.in_default-own.keys2));
+            stop 0 (λ x. param x) _ p4 refl (omega arith) one (not_done _ c.in_default.not-Done));
       };
-      count = none_within (not_done _ c.in_default.in_default-own.keys2);
+      count = none_within (not_done _ c.in_default.not-Done);
     }
 
 pub separator-comma-requires : goal.separator-comma-requires
@@ -132,14 +132,14 @@ separator-comma-requires c =
     let p4 = no _ _ p3 (test (λ k. eqb k 47) p3 (ne_eqb _ _ (λ z. c.if-k-eq-EOF.false (c.kind_at-k.ensures ∙ z)))) in
     let g4 = any_at p4 c.ident_node-item.ensures in
     let one = as_param p4 g4 in
-    let p5 = go 0 (λ x. param x) _ p4 refl one (kept-nodes c.ident_node-item.auto.1.0 c.ident_node-item.auto.1.1.0) c.in-Done.is in
+    let p5 = go 0 (λ x. param x) _ p4 refl one (kept-nodes c.ident_node-item.auto.head c.ident_node-item.auto.load) c.in-Done.is in
     standing-at (starts p5)
 
 pub shape_of-head-in_default-comma : goal.shape_of-head-in_default-comma
-shape_of-head-in_default-comma c = c.ident_node-item.auto.1.0 ∙ (own c.loop-st.invariant.0).kept.head
+shape_of-head-in_default-comma c = c.ident_node-item.auto.head ∙ (own c.loop-st.invariant.0).kept.head
 
 pub shape_of-load-in_default-comma : goal.shape_of-load-in_default-comma
-shape_of-load-in_default-comma c = c.ident_node-item.auto.1.1.0 ∙ (own c.loop-st.invariant.0).kept.load
+shape_of-load-in_default-comma c = c.ident_node-item.auto.load ∙ (own c.loop-st.invariant.0).kept.load
 
 pub returns-in_default-comma : goal.returns-in_default-comma
 unfolding param_list
@@ -153,10 +153,10 @@ returns-in_default-comma c =
             let p4 = no _ _ p3 (test (λ k. eqb k 47) p3 (ne_eqb _ _ (λ z. c.if-k-eq-EOF.false (c.kind_at-k.ensures ∙ z)))) in
             let g4 = any_at p4 c.ident_node-item.ensures in
             let one = as_param p4 g4 in
-            let p5 = go 0 (λ x. param x) _ p4 refl one (kept-nodes c.ident_node-item.auto.1.0 c.ident_node-item.auto.1.1.0) c.in-Done.is in
-            stop 0 (λ x. separator_of x) _ p5 refl (omega arith) (separated p5 c.separator-comma.ensures) (not_done _ c.in_default-comma.in_default-comma-own.keys2));
+            let p5 = go 0 (λ x. param x) _ p4 refl one (kept-nodes c.ident_node-item.auto.head c.ident_node-item.auto.load) c.in-Done.is in
+            stop 0 (λ x. separator_of x) _ p5 refl (omega arith) (separated p5 c.separator-comma.ensures) (not_done _ c.in_default-comma.not-Done));
       };
-      count = none_within (not_done _ c.in_default-comma.in_default-comma-own.keys2);
+      count = none_within (not_done _ c.in_default-comma.not-Done);
     }
 
 pub overflow_add-n : goal.overflow_add-n
@@ -178,7 +178,7 @@ loop-st-smaller c =
     let p4 = no _ _ p3 (test (λ k. eqb k 47) p3 (ne_eqb _ _ (λ z. c.if-k-eq-EOF.false (c.kind_at-k.ensures ∙ z)))) in
     let g4 = any_at p4 c.ident_node-item.ensures in
     let one = as_param p4 g4 in
-    let p5 = go 0 (λ x. param x) _ p4 refl one (kept-nodes c.ident_node-item.auto.1.0 c.ident_node-item.auto.1.1.0) c.in-Done.is in
+    let p5 = go 0 (λ x. param x) _ p4 refl one (kept-nodes c.ident_node-item.auto.head c.ident_node-item.auto.load) c.in-Done.is in
     let p6 = go 0 (λ x. separator_of x) _ p5 refl (separated p5 c.separator-comma.ensures) same c.in-Done-comma.is in
     omega (arith, (node-ahead p4 g4 c.in-Done.is).at, separated-ahead p5 c.separator-comma.ensures c.in-Done-comma.is, p6.at.is.stands.here)
 
@@ -198,7 +198,7 @@ loop-st-preserved c = (
       let p4 = no _ _ p3 (test (λ k. eqb k 47) p3 (ne_eqb _ _ (λ z. c.if-k-eq-EOF.false (c.kind_at-k.ensures ∙ z)))) in
       let g4 = any_at p4 c.ident_node-item.ensures in
       let one = as_param p4 g4 in
-      let p5 = go 0 (λ x. param x) _ p4 refl one (kept-nodes c.ident_node-item.auto.1.0 c.ident_node-item.auto.1.1.0) c.in-Done.is in
+      let p5 = go 0 (λ x. param x) _ p4 refl one (kept-nodes c.ident_node-item.auto.head c.ident_node-item.auto.load) c.in-Done.is in
       omega (arith, (node-ahead p4 g4 c.in-Done.is).at, separated-ahead p5 c.separator-comma.ensures c.in-Done-comma.is)) (λ sc os ys q E e. let p0 = turn-own c.loop-st.invariant.0 sc os ys q E e in
       let p1 = read _ p0 in
       let p2 = no _ _ p1 (test (λ k. eqb k 2) p1 (ne_eqb _ _ (λ z. c.if-k-eq-RIGHT_PAREN.false (c.kind_at-k.ensures ∙ z)))) in
@@ -206,7 +206,7 @@ loop-st-preserved c = (
       let p4 = no _ _ p3 (test (λ k. eqb k 47) p3 (ne_eqb _ _ (λ z. c.if-k-eq-EOF.false (c.kind_at-k.ensures ∙ z)))) in
       let g4 = any_at p4 c.ident_node-item.ensures in
       let one = as_param p4 g4 in
-      let p5 = go 0 (λ x. param x) _ p4 refl one (kept-nodes c.ident_node-item.auto.1.0 c.ident_node-item.auto.1.1.0) c.in-Done.is in
+      let p5 = go 0 (λ x. param x) _ p4 refl one (kept-nodes c.ident_node-item.auto.head c.ident_node-item.auto.load) c.in-Done.is in
       let p6 = go 0 (λ x. separator_of x) _ p5 refl (separated p5 c.separator-comma.ensures) same c.in-Done-comma.is in
       p6)),
   omega (arith, c.if-n-ge-FN_PARAM_MAX_LEN.false),
@@ -223,6 +223,6 @@ loop-st-preserved c = (
       let p4 = no _ _ p3 (test (λ k. eqb k 47) p3 (ne_eqb _ _ (λ z. c.if-k-eq-EOF.false (c.kind_at-k.ensures ∙ z)))) in
       let g4 = any_at p4 c.ident_node-item.ensures in
       let one = as_param p4 g4 in
-      let p5 = go 0 (λ x. param x) _ p4 refl one (kept-nodes c.ident_node-item.auto.1.0 c.ident_node-item.auto.1.1.0) c.in-Done.is in
+      let p5 = go 0 (λ x. param x) _ p4 refl one (kept-nodes c.ident_node-item.auto.head c.ident_node-item.auto.load) c.in-Done.is in
       omega (arith, c.loop-st.invariant.2, (node-ahead p4 g4 c.in-Done.is).nodes, separated-kept p5 c.separator-comma.ensures c.in-Done-comma.is),
 )

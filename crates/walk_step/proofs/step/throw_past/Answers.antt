@@ -13,7 +13,7 @@ pub consume-passed-requires : goal.consume-passed-requires
 consume-passed-requires c = record { words = words-set _ 4 _ (omega arith) c.requires.0.words; offs = c.requires.0.offs; stands = stands-more c.requires.0.stands (counts-one c.requires.0.words) }
 
 pub returns-in_default : goal.returns-in_default
-returns-in_default c = past-stops _ c.requires.1 c.if-e-st.true c.consume-passed.ensures (not_done _ c.in_default.in_default-own.keys2)
+returns-in_default c = past-stops _ c.requires.1 c.if-e-st.true c.consume-passed.ensures (not_done _ c.in_default.not-Done)
 
 pub fail-requires : goal.fail-requires
 fail-requires c = record { words = c.consume-passed.ensures.left.words; reason = c.requires.1.reason }

@@ -1,0 +1,29 @@
+use native.Mathlib.Omega.{arith}
+use Prim.Native.Nat.{◌+◌}
+use mathlib.Core.Path.{◌≡◌, refl, sym, ap, subst, ◌∙◌}
+use lib.ListN.{take}
+use Rattle.sifc_symtab.specs.Toks.{toks_of}
+use Rattle.sifc_record.specs.Record.{blank_from}
+use Rattle.sifc_record.proofs.Turn.{Turn, turned, over}
+use Rattle.sifc_record.proofs.Lists.{firsts, firsts-more, firsts-none, filled}
+use Rattle.sifc_record.proofs.slice.fill.Goals as goal
+
+pub loop-i-init : goal.loop-i-init
+loop-i-init c =
+    (omega arith, record { front = firsts-none (toks_of (take c.args.tokens c.args.offs.now) (take c.args.tokens c.args.words.now)) c.args.places.now c.args.reasons.now; back = refl })
+
+pub loop-i-preserved : goal.loop-i-preserved
+loop-i-preserved c =
+    let ts = toks_of (take c.args.tokens c.args.offs.now) (take c.args.tokens c.args.words.now) in
+    (omega (arith, c.loop-i-test.true),
+      subst (Turn (firsts ts c.args.places.now c.args.reasons.now) c.args.errors.now (c.loop-i.i + 1)) (sym c.push.ensures)
+      (turned (firsts ts c.args.places.now c.args.reasons.now) c.args.errors.now c.loop-i.invariant.1 c.record_at-e.result (omega (arith, c.loop-i-test.true, c.loop-i.auto.errors, c.requires.used, c.requires.room))
+      (firsts-more ts c.loop-i.i c.args.places.now c.args.reasons.now c.record_at-e.result (omega (arith, c.loop-i-test.true, c.requires.places)) (omega (arith, c.loop-i-test.true, c.requires.reasons)) c.record_at-e.ensures)))
+
+pub returns : goal.returns
+returns c =
+    let ts = toks_of (take c.args.tokens c.args.offs.now) (take c.args.tokens c.args.words.now) in
+    let e : c.loop-i.i ≡ c.args.n = omega (arith, c.loop-i.invariant.0, c.loop-i-test.false) in
+    c.clear.ensures
+    ∙ ap (blank_from c.args.from) (over (firsts ts c.args.places.now c.args.reasons.now) c.args.errors.now c.loop-i.invariant.1)
+    ∙ filled ts c.args.places.now c.args.reasons.now c.args.n c.args.from c.loop-i.i c.args.errors.now e
