@@ -9,19 +9,19 @@ pub after_entry-answer-requires : goal.after_entry-answer-requires
 after_entry-answer-requires c = entered-is c.args.script.now (arrays c.args.offs.now c.args.words.now c.args.heads.now c.args.loads.now c.args.symbols.now c.args.places.now c.args.reasons.now) c.requires
 
 pub write_found-requires : goal.write_found-requires
-write_found-requires c = left_is c.args.script.now (arrays c.args.offs.now c.args.words.now c.args.heads.now c.args.loads.now c.args.symbols.now c.args.places.now c.args.reasons.now) c.after_entry-answer.ensures c.requires (record { offs = c.after_entry-answer.auto.1.0; words = c.after_entry-answer.auto.1.1.0; heads = c.after_entry-answer.auto.1.1.1.0; loads = c.after_entry-answer.auto.1.1.1.1.0; symbols = c.after_entry-answer.auto.1.1.1.1.1.0; places = c.after_entry-answer.auto.1.1.1.1.1.1.0; reasons = c.after_entry-answer.auto.1.1.1.1.1.1.1.0 }) c.in-Read.is
+write_found-requires c = left_is c.args.script.now (arrays c.args.offs.now c.args.words.now c.args.heads.now c.args.loads.now c.args.symbols.now c.args.places.now c.args.reasons.now) c.after_entry-answer.ensures c.requires (record { offs = c.after_entry-answer.auto.offs; words = c.after_entry-answer.auto.words; heads = c.after_entry-answer.auto.heads; loads = c.after_entry-answer.auto.loads; symbols = c.after_entry-answer.auto.symbols; places = c.after_entry-answer.auto.places; reasons = c.after_entry-answer.auto.reasons }) c.in-Read.is
 
 pub shape_of-offs-in-Read : goal.shape_of-offs-in-Read
-shape_of-offs-in-Read c = c.write_found.auto.1.0 ∙ c.after_entry-answer.auto.1.0
+shape_of-offs-in-Read c = c.write_found.auto.offs ∙ c.after_entry-answer.auto.offs
 
 pub shape_of-words-in-Read : goal.shape_of-words-in-Read
-shape_of-words-in-Read c = c.write_found.auto.1.1.0 ∙ c.after_entry-answer.auto.1.1.0
+shape_of-words-in-Read c = c.write_found.auto.words ∙ c.after_entry-answer.auto.words
 
 pub shape_of-heads-in-Read : goal.shape_of-heads-in-Read
-shape_of-heads-in-Read c = c.write_found.auto.1.1.1.0 ∙ c.after_entry-answer.auto.1.1.1.0
+shape_of-heads-in-Read c = c.write_found.auto.heads ∙ c.after_entry-answer.auto.heads
 
 pub returns-in-Read : goal.returns-in-Read
-returns-in-Read c = texts-is c.args.script.now (arrays c.args.offs.now c.args.words.now c.args.heads.now c.args.loads.now c.args.symbols.now c.args.places.now c.args.reasons.now) c.after_entry-answer.ensures c.requires (record { offs = c.after_entry-answer.auto.1.0; words = c.after_entry-answer.auto.1.1.0; heads = c.after_entry-answer.auto.1.1.1.0; loads = c.after_entry-answer.auto.1.1.1.1.0; symbols = c.after_entry-answer.auto.1.1.1.1.1.0; places = c.after_entry-answer.auto.1.1.1.1.1.1.0; reasons = c.after_entry-answer.auto.1.1.1.1.1.1.1.0 }) c.in-Read.is c.write_found.ensures
+returns-in-Read c = texts-is c.args.script.now (arrays c.args.offs.now c.args.words.now c.args.heads.now c.args.loads.now c.args.symbols.now c.args.places.now c.args.reasons.now) c.after_entry-answer.ensures c.requires (record { offs = c.after_entry-answer.auto.offs; words = c.after_entry-answer.auto.words; heads = c.after_entry-answer.auto.heads; loads = c.after_entry-answer.auto.loads; symbols = c.after_entry-answer.auto.symbols; places = c.after_entry-answer.auto.places; reasons = c.after_entry-answer.auto.reasons }) c.in-Read.is c.write_found.ensures
 
 pub returns-in-Refused : goal.returns-in-Refused
 returns-in-Refused c = refused-is c.args.script.now (arrays c.args.offs.now c.args.words.now c.args.heads.now c.args.loads.now c.args.symbols.now c.args.places.now c.args.reasons.now) c.after_entry-answer.ensures c.args.text.now c.in-Refused.is c.clear_from.ensures

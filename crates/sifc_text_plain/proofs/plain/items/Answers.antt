@@ -17,7 +17,7 @@ pub item-next-requires : goal.item-next-requires
 item-next-requires c = spot (seq (list_l (item_l (inp c.args.script.now c.args.offs.now c.args.words.now c.args.heads.now c.args.loads.now)) (c.loop-left.left - 1)) (fixed (comma (c.loop-left.left - 1)))) (item_l (inp c.args.script.now c.args.offs.now c.args.words.now c.args.heads.now c.args.loads.now)) c.loop-left.invariant (cut_list (item_l (inp c.args.script.now c.args.offs.now c.args.words.now c.args.heads.now c.args.loads.now)) c.loop-left.left _ (some_left c.loop-left-test.true)) c.requires
 
 pub shape_of-text-in_default : goal.shape_of-text-in_default
-shape_of-text-in_default c = c.item-next.auto.1.1.1.1.1.0 ∙ c.loop-left.invariant.kept
+shape_of-text-in_default c = c.item-next.auto.text ∙ c.loop-left.invariant.kept
 
 pub returns-in_default : goal.returns-in_default
 returns-in_default c = stop (seq (list_l (item_l (inp c.args.script.now c.args.offs.now c.args.words.now c.args.heads.now c.args.loads.now)) (c.loop-left.left - 1)) (fixed (comma (c.loop-left.left - 1)))) (item_l (inp c.args.script.now c.args.offs.now c.args.words.now c.args.heads.now c.args.loads.now)) c.loop-left.invariant (cut_list (item_l (inp c.args.script.now c.args.offs.now c.args.words.now c.args.heads.now c.args.loads.now)) c.loop-left.left _ (some_left c.loop-left-test.true)) c.item-next.ensures c.in_default.is
@@ -27,15 +27,15 @@ overflow_sub-left c = omega (arith, c.loop-left-test.true)
 
 pub separator-between-requires : goal.separator-between-requires
 separator-between-requires c =
-    let p = put (seq (list_l (item_l (inp c.args.script.now c.args.offs.now c.args.words.now c.args.heads.now c.args.loads.now)) (c.loop-left.left - 1)) (fixed (comma (c.loop-left.left - 1)))) (item_l (inp c.args.script.now c.args.offs.now c.args.words.now c.args.heads.now c.args.loads.now)) c.loop-left.invariant (cut_list (item_l (inp c.args.script.now c.args.offs.now c.args.words.now c.args.heads.now c.args.loads.now)) c.loop-left.left _ (some_left c.loop-left-test.true)) c.requires (item-low (inp c.args.script.now c.args.offs.now c.args.words.now c.args.heads.now c.args.loads.now)) c.item-next.ensures c.item-next.auto.1.1.1.1.1.0 c.in-Done.is in
+    let p = put (seq (list_l (item_l (inp c.args.script.now c.args.offs.now c.args.words.now c.args.heads.now c.args.loads.now)) (c.loop-left.left - 1)) (fixed (comma (c.loop-left.left - 1)))) (item_l (inp c.args.script.now c.args.offs.now c.args.words.now c.args.heads.now c.args.loads.now)) c.loop-left.invariant (cut_list (item_l (inp c.args.script.now c.args.offs.now c.args.words.now c.args.heads.now c.args.loads.now)) c.loop-left.left _ (some_left c.loop-left-test.true)) c.requires (item-low (inp c.args.script.now c.args.offs.now c.args.words.now c.args.heads.now c.args.loads.now)) c.item-next.ensures c.item-next.auto.text c.in-Done.is in
     (here p c.requires).room
 
 pub shape_of-text-in_default-between : goal.shape_of-text-in_default-between
-shape_of-text-in_default-between c = c.separator-between.auto.0 ∙ c.item-next.auto.1.1.1.1.1.0 ∙ c.loop-left.invariant.kept
+shape_of-text-in_default-between c = c.separator-between.auto.text ∙ c.item-next.auto.text ∙ c.loop-left.invariant.kept
 
 pub returns-in_default-between : goal.returns-in_default-between
 returns-in_default-between c =
-    let p = put (seq (list_l (item_l (inp c.args.script.now c.args.offs.now c.args.words.now c.args.heads.now c.args.loads.now)) (c.loop-left.left - 1)) (fixed (comma (c.loop-left.left - 1)))) (item_l (inp c.args.script.now c.args.offs.now c.args.words.now c.args.heads.now c.args.loads.now)) c.loop-left.invariant (cut_list (item_l (inp c.args.script.now c.args.offs.now c.args.words.now c.args.heads.now c.args.loads.now)) c.loop-left.left _ (some_left c.loop-left-test.true)) c.requires (item-low (inp c.args.script.now c.args.offs.now c.args.words.now c.args.heads.now c.args.loads.now)) c.item-next.ensures c.item-next.auto.1.1.1.1.1.0 c.in-Done.is in
+    let p = put (seq (list_l (item_l (inp c.args.script.now c.args.offs.now c.args.words.now c.args.heads.now c.args.loads.now)) (c.loop-left.left - 1)) (fixed (comma (c.loop-left.left - 1)))) (item_l (inp c.args.script.now c.args.offs.now c.args.words.now c.args.heads.now c.args.loads.now)) c.loop-left.invariant (cut_list (item_l (inp c.args.script.now c.args.offs.now c.args.words.now c.args.heads.now c.args.loads.now)) c.loop-left.left _ (some_left c.loop-left-test.true)) c.requires (item-low (inp c.args.script.now c.args.offs.now c.args.words.now c.args.heads.now c.args.loads.now)) c.item-next.ensures c.item-next.auto.text c.in-Done.is in
     stop (list_l (item_l (inp c.args.script.now c.args.offs.now c.args.words.now c.args.heads.now c.args.loads.now)) (c.loop-left.left - 1)) (fixed (comma (c.loop-left.left - 1))) p (cut-seq (list_l (item_l (inp c.args.script.now c.args.offs.now c.args.words.now c.args.heads.now c.args.loads.now)) (c.loop-left.left - 1)) (fixed (comma (c.loop-left.left - 1))) _) c.separator-between.ensures c.in_default-between.is
 
 pub loop-left-smaller : goal.loop-left-smaller
@@ -43,8 +43,8 @@ loop-left-smaller c = omega (arith, c.loop-left-test.true)
 
 pub loop-left-preserved : goal.loop-left-preserved
 loop-left-preserved c =
-    let p = put (seq (list_l (item_l (inp c.args.script.now c.args.offs.now c.args.words.now c.args.heads.now c.args.loads.now)) (c.loop-left.left - 1)) (fixed (comma (c.loop-left.left - 1)))) (item_l (inp c.args.script.now c.args.offs.now c.args.words.now c.args.heads.now c.args.loads.now)) c.loop-left.invariant (cut_list (item_l (inp c.args.script.now c.args.offs.now c.args.words.now c.args.heads.now c.args.loads.now)) c.loop-left.left _ (some_left c.loop-left-test.true)) c.requires (item-low (inp c.args.script.now c.args.offs.now c.args.words.now c.args.heads.now c.args.loads.now)) c.item-next.ensures c.item-next.auto.1.1.1.1.1.0 c.in-Done.is in
-    put (list_l (item_l (inp c.args.script.now c.args.offs.now c.args.words.now c.args.heads.now c.args.loads.now)) (c.loop-left.left - 1)) (fixed (comma (c.loop-left.left - 1))) p (cut-seq (list_l (item_l (inp c.args.script.now c.args.offs.now c.args.words.now c.args.heads.now c.args.loads.now)) (c.loop-left.left - 1)) (fixed (comma (c.loop-left.left - 1))) _) c.requires (fixed-low (comma (c.loop-left.left - 1))) c.separator-between.ensures c.separator-between.auto.0 c.in-Done-between.is
+    let p = put (seq (list_l (item_l (inp c.args.script.now c.args.offs.now c.args.words.now c.args.heads.now c.args.loads.now)) (c.loop-left.left - 1)) (fixed (comma (c.loop-left.left - 1)))) (item_l (inp c.args.script.now c.args.offs.now c.args.words.now c.args.heads.now c.args.loads.now)) c.loop-left.invariant (cut_list (item_l (inp c.args.script.now c.args.offs.now c.args.words.now c.args.heads.now c.args.loads.now)) c.loop-left.left _ (some_left c.loop-left-test.true)) c.requires (item-low (inp c.args.script.now c.args.offs.now c.args.words.now c.args.heads.now c.args.loads.now)) c.item-next.ensures c.item-next.auto.text c.in-Done.is in
+    put (list_l (item_l (inp c.args.script.now c.args.offs.now c.args.words.now c.args.heads.now c.args.loads.now)) (c.loop-left.left - 1)) (fixed (comma (c.loop-left.left - 1))) p (cut-seq (list_l (item_l (inp c.args.script.now c.args.offs.now c.args.words.now c.args.heads.now c.args.loads.now)) (c.loop-left.left - 1)) (fixed (comma (c.loop-left.left - 1))) _) c.requires (fixed-low (comma (c.loop-left.left - 1))) c.separator-between.ensures c.separator-between.auto.text c.in-Done-between.is
 
 pub shape_of-text : goal.shape_of-text
 shape_of-text c = c.loop-left.invariant.kept

@@ -16,7 +16,7 @@ pub leaf-next-requires : goal.leaf-next-requires
 leaf-next-requires c = spot (seq (list_l (leaf_l c.args.script.now c.args.offs.now c.args.words.now c.args.loads.now) (c.loop-left.left - 1)) (fixed (comma (c.loop-left.left - 1)))) (leaf_l c.args.script.now c.args.offs.now c.args.words.now c.args.loads.now) c.loop-left.invariant (cut_list (leaf_l c.args.script.now c.args.offs.now c.args.words.now c.args.loads.now) c.loop-left.left _ (some_left c.loop-left-test.true)) c.requires
 
 pub shape_of-text-in_default : goal.shape_of-text-in_default
-shape_of-text-in_default c = c.leaf-next.auto.1.1.1.1.0 ∙ c.loop-left.invariant.kept
+shape_of-text-in_default c = c.leaf-next.auto.text ∙ c.loop-left.invariant.kept
 
 pub returns-in_default : goal.returns-in_default
 returns-in_default c = stop (seq (list_l (leaf_l c.args.script.now c.args.offs.now c.args.words.now c.args.loads.now) (c.loop-left.left - 1)) (fixed (comma (c.loop-left.left - 1)))) (leaf_l c.args.script.now c.args.offs.now c.args.words.now c.args.loads.now) c.loop-left.invariant (cut_list (leaf_l c.args.script.now c.args.offs.now c.args.words.now c.args.loads.now) c.loop-left.left _ (some_left c.loop-left-test.true)) c.leaf-next.ensures c.in_default.is
@@ -26,15 +26,15 @@ overflow_sub-left c = omega (arith, c.loop-left-test.true)
 
 pub separator-comma-requires : goal.separator-comma-requires
 separator-comma-requires c =
-    let p = put (seq (list_l (leaf_l c.args.script.now c.args.offs.now c.args.words.now c.args.loads.now) (c.loop-left.left - 1)) (fixed (comma (c.loop-left.left - 1)))) (leaf_l c.args.script.now c.args.offs.now c.args.words.now c.args.loads.now) c.loop-left.invariant (cut_list (leaf_l c.args.script.now c.args.offs.now c.args.words.now c.args.loads.now) c.loop-left.left _ (some_left c.loop-left-test.true)) c.requires (leaf-low c.args.script.now c.args.offs.now c.args.words.now c.args.loads.now) c.leaf-next.ensures c.leaf-next.auto.1.1.1.1.0 c.in-Done.is in
+    let p = put (seq (list_l (leaf_l c.args.script.now c.args.offs.now c.args.words.now c.args.loads.now) (c.loop-left.left - 1)) (fixed (comma (c.loop-left.left - 1)))) (leaf_l c.args.script.now c.args.offs.now c.args.words.now c.args.loads.now) c.loop-left.invariant (cut_list (leaf_l c.args.script.now c.args.offs.now c.args.words.now c.args.loads.now) c.loop-left.left _ (some_left c.loop-left-test.true)) c.requires (leaf-low c.args.script.now c.args.offs.now c.args.words.now c.args.loads.now) c.leaf-next.ensures c.leaf-next.auto.text c.in-Done.is in
     (here p c.requires).room
 
 pub shape_of-text-in_default-comma : goal.shape_of-text-in_default-comma
-shape_of-text-in_default-comma c = c.separator-comma.auto.0 ∙ c.leaf-next.auto.1.1.1.1.0 ∙ c.loop-left.invariant.kept
+shape_of-text-in_default-comma c = c.separator-comma.auto.text ∙ c.leaf-next.auto.text ∙ c.loop-left.invariant.kept
 
 pub returns-in_default-comma : goal.returns-in_default-comma
 returns-in_default-comma c =
-    let p = put (seq (list_l (leaf_l c.args.script.now c.args.offs.now c.args.words.now c.args.loads.now) (c.loop-left.left - 1)) (fixed (comma (c.loop-left.left - 1)))) (leaf_l c.args.script.now c.args.offs.now c.args.words.now c.args.loads.now) c.loop-left.invariant (cut_list (leaf_l c.args.script.now c.args.offs.now c.args.words.now c.args.loads.now) c.loop-left.left _ (some_left c.loop-left-test.true)) c.requires (leaf-low c.args.script.now c.args.offs.now c.args.words.now c.args.loads.now) c.leaf-next.ensures c.leaf-next.auto.1.1.1.1.0 c.in-Done.is in
+    let p = put (seq (list_l (leaf_l c.args.script.now c.args.offs.now c.args.words.now c.args.loads.now) (c.loop-left.left - 1)) (fixed (comma (c.loop-left.left - 1)))) (leaf_l c.args.script.now c.args.offs.now c.args.words.now c.args.loads.now) c.loop-left.invariant (cut_list (leaf_l c.args.script.now c.args.offs.now c.args.words.now c.args.loads.now) c.loop-left.left _ (some_left c.loop-left-test.true)) c.requires (leaf-low c.args.script.now c.args.offs.now c.args.words.now c.args.loads.now) c.leaf-next.ensures c.leaf-next.auto.text c.in-Done.is in
     stop (list_l (leaf_l c.args.script.now c.args.offs.now c.args.words.now c.args.loads.now) (c.loop-left.left - 1)) (fixed (comma (c.loop-left.left - 1))) p (cut-seq (list_l (leaf_l c.args.script.now c.args.offs.now c.args.words.now c.args.loads.now) (c.loop-left.left - 1)) (fixed (comma (c.loop-left.left - 1))) _) c.separator-comma.ensures c.in_default-comma.is
 
 pub loop-left-smaller : goal.loop-left-smaller
@@ -42,8 +42,8 @@ loop-left-smaller c = omega (arith, c.loop-left-test.true)
 
 pub loop-left-preserved : goal.loop-left-preserved
 loop-left-preserved c =
-    let p = put (seq (list_l (leaf_l c.args.script.now c.args.offs.now c.args.words.now c.args.loads.now) (c.loop-left.left - 1)) (fixed (comma (c.loop-left.left - 1)))) (leaf_l c.args.script.now c.args.offs.now c.args.words.now c.args.loads.now) c.loop-left.invariant (cut_list (leaf_l c.args.script.now c.args.offs.now c.args.words.now c.args.loads.now) c.loop-left.left _ (some_left c.loop-left-test.true)) c.requires (leaf-low c.args.script.now c.args.offs.now c.args.words.now c.args.loads.now) c.leaf-next.ensures c.leaf-next.auto.1.1.1.1.0 c.in-Done.is in
-    put (list_l (leaf_l c.args.script.now c.args.offs.now c.args.words.now c.args.loads.now) (c.loop-left.left - 1)) (fixed (comma (c.loop-left.left - 1))) p (cut-seq (list_l (leaf_l c.args.script.now c.args.offs.now c.args.words.now c.args.loads.now) (c.loop-left.left - 1)) (fixed (comma (c.loop-left.left - 1))) _) c.requires (fixed-low (comma (c.loop-left.left - 1))) c.separator-comma.ensures c.separator-comma.auto.0 c.in-Done-comma.is
+    let p = put (seq (list_l (leaf_l c.args.script.now c.args.offs.now c.args.words.now c.args.loads.now) (c.loop-left.left - 1)) (fixed (comma (c.loop-left.left - 1)))) (leaf_l c.args.script.now c.args.offs.now c.args.words.now c.args.loads.now) c.loop-left.invariant (cut_list (leaf_l c.args.script.now c.args.offs.now c.args.words.now c.args.loads.now) c.loop-left.left _ (some_left c.loop-left-test.true)) c.requires (leaf-low c.args.script.now c.args.offs.now c.args.words.now c.args.loads.now) c.leaf-next.ensures c.leaf-next.auto.text c.in-Done.is in
+    put (list_l (leaf_l c.args.script.now c.args.offs.now c.args.words.now c.args.loads.now) (c.loop-left.left - 1)) (fixed (comma (c.loop-left.left - 1))) p (cut-seq (list_l (leaf_l c.args.script.now c.args.offs.now c.args.words.now c.args.loads.now) (c.loop-left.left - 1)) (fixed (comma (c.loop-left.left - 1))) _) c.requires (fixed-low (comma (c.loop-left.left - 1))) c.separator-comma.ensures c.separator-comma.auto.text c.in-Done-comma.is
 
 pub shape_of-text : goal.shape_of-text
 shape_of-text c = c.loop-left.invariant.kept

@@ -24,25 +24,25 @@ returns-in_default c =
 pub put_sign-comma-requires : goal.put_sign-comma-requires
 put_sign-comma-requires c =
     let p = narrowed (seq (seq (target_l (inp c.args.script.now c.args.offs.now c.args.words.now c.args.heads.now c.args.loads.now)) (word_l comma)) (target_l (inp c.args.script.now c.args.offs.now c.args.words.now c.args.heads.now c.args.loads.now))) (c.args.hi - 1) (opening {L = pair_l (inp c.args.script.now c.args.offs.now c.args.words.now c.args.heads.now c.args.loads.now)} {text = c.args.text.now} {hi = c.args.hi} {at = c.args.at}) (is-pair (inp c.args.script.now c.args.offs.now c.args.words.now c.args.heads.now c.args.loads.now) c.args.hi) (omega arith) in
-    let p1 = put (seq (target_l (inp c.args.script.now c.args.offs.now c.args.words.now c.args.heads.now c.args.loads.now)) (word_l comma)) (target_l (inp c.args.script.now c.args.offs.now c.args.words.now c.args.heads.now c.args.loads.now)) p (cut-seq (seq (target_l (inp c.args.script.now c.args.offs.now c.args.words.now c.args.heads.now c.args.loads.now)) (word_l comma)) (target_l (inp c.args.script.now c.args.offs.now c.args.words.now c.args.heads.now c.args.loads.now)) _) c.requires (leaf-low c.args.script.now c.args.offs.now c.args.words.now c.args.loads.now) c.leaf-second.ensures c.leaf-second.auto.1.1.1.1.0 c.in-Done.is in
+    let p1 = put (seq (target_l (inp c.args.script.now c.args.offs.now c.args.words.now c.args.heads.now c.args.loads.now)) (word_l comma)) (target_l (inp c.args.script.now c.args.offs.now c.args.words.now c.args.heads.now c.args.loads.now)) p (cut-seq (seq (target_l (inp c.args.script.now c.args.offs.now c.args.words.now c.args.heads.now c.args.loads.now)) (word_l comma)) (target_l (inp c.args.script.now c.args.offs.now c.args.words.now c.args.heads.now c.args.loads.now)) _) c.requires (leaf-low c.args.script.now c.args.offs.now c.args.words.now c.args.loads.now) c.leaf-second.ensures c.leaf-second.auto.text c.in-Done.is in
     (here p1 c.requires).room
 
 pub returns-in_default-comma : goal.returns-in_default-comma
 returns-in_default-comma c =
     let p = narrowed (seq (seq (target_l (inp c.args.script.now c.args.offs.now c.args.words.now c.args.heads.now c.args.loads.now)) (word_l comma)) (target_l (inp c.args.script.now c.args.offs.now c.args.words.now c.args.heads.now c.args.loads.now))) (c.args.hi - 1) (opening {L = pair_l (inp c.args.script.now c.args.offs.now c.args.words.now c.args.heads.now c.args.loads.now)} {text = c.args.text.now} {hi = c.args.hi} {at = c.args.at}) (is-pair (inp c.args.script.now c.args.offs.now c.args.words.now c.args.heads.now c.args.loads.now) c.args.hi) (omega arith) in
-    let p1 = put (seq (target_l (inp c.args.script.now c.args.offs.now c.args.words.now c.args.heads.now c.args.loads.now)) (word_l comma)) (target_l (inp c.args.script.now c.args.offs.now c.args.words.now c.args.heads.now c.args.loads.now)) p (cut-seq (seq (target_l (inp c.args.script.now c.args.offs.now c.args.words.now c.args.heads.now c.args.loads.now)) (word_l comma)) (target_l (inp c.args.script.now c.args.offs.now c.args.words.now c.args.heads.now c.args.loads.now)) _) c.requires (leaf-low c.args.script.now c.args.offs.now c.args.words.now c.args.loads.now) c.leaf-second.ensures c.leaf-second.auto.1.1.1.1.0 c.in-Done.is in
+    let p1 = put (seq (target_l (inp c.args.script.now c.args.offs.now c.args.words.now c.args.heads.now c.args.loads.now)) (word_l comma)) (target_l (inp c.args.script.now c.args.offs.now c.args.words.now c.args.heads.now c.args.loads.now)) p (cut-seq (seq (target_l (inp c.args.script.now c.args.offs.now c.args.words.now c.args.heads.now c.args.loads.now)) (word_l comma)) (target_l (inp c.args.script.now c.args.offs.now c.args.words.now c.args.heads.now c.args.loads.now)) _) c.requires (leaf-low c.args.script.now c.args.offs.now c.args.words.now c.args.loads.now) c.leaf-second.ensures c.leaf-second.auto.text c.in-Done.is in
     stop (target_l (inp c.args.script.now c.args.offs.now c.args.words.now c.args.heads.now c.args.loads.now)) (word_l comma) p1 (cut-seq (target_l (inp c.args.script.now c.args.offs.now c.args.words.now c.args.heads.now c.args.loads.now)) (word_l comma) _) c.put_sign-comma.ensures c.in_default-comma.is
 
 pub leaf-requires : goal.leaf-requires
 leaf-requires c =
     let p = narrowed (seq (seq (target_l (inp c.args.script.now c.args.offs.now c.args.words.now c.args.heads.now c.args.loads.now)) (word_l comma)) (target_l (inp c.args.script.now c.args.offs.now c.args.words.now c.args.heads.now c.args.loads.now))) (c.args.hi - 1) (opening {L = pair_l (inp c.args.script.now c.args.offs.now c.args.words.now c.args.heads.now c.args.loads.now)} {text = c.args.text.now} {hi = c.args.hi} {at = c.args.at}) (is-pair (inp c.args.script.now c.args.offs.now c.args.words.now c.args.heads.now c.args.loads.now) c.args.hi) (omega arith) in
-    let p1 = put (seq (target_l (inp c.args.script.now c.args.offs.now c.args.words.now c.args.heads.now c.args.loads.now)) (word_l comma)) (target_l (inp c.args.script.now c.args.offs.now c.args.words.now c.args.heads.now c.args.loads.now)) p (cut-seq (seq (target_l (inp c.args.script.now c.args.offs.now c.args.words.now c.args.heads.now c.args.loads.now)) (word_l comma)) (target_l (inp c.args.script.now c.args.offs.now c.args.words.now c.args.heads.now c.args.loads.now)) _) c.requires (leaf-low c.args.script.now c.args.offs.now c.args.words.now c.args.loads.now) c.leaf-second.ensures c.leaf-second.auto.1.1.1.1.0 c.in-Done.is in
-    let p2 = put (target_l (inp c.args.script.now c.args.offs.now c.args.words.now c.args.heads.now c.args.loads.now)) (word_l comma) p1 (cut-seq (target_l (inp c.args.script.now c.args.offs.now c.args.words.now c.args.heads.now c.args.loads.now)) (word_l comma) _) c.requires (fixed-low (worded comma)) c.put_sign-comma.ensures c.put_sign-comma.auto.0 c.in-Done-comma.is in
+    let p1 = put (seq (target_l (inp c.args.script.now c.args.offs.now c.args.words.now c.args.heads.now c.args.loads.now)) (word_l comma)) (target_l (inp c.args.script.now c.args.offs.now c.args.words.now c.args.heads.now c.args.loads.now)) p (cut-seq (seq (target_l (inp c.args.script.now c.args.offs.now c.args.words.now c.args.heads.now c.args.loads.now)) (word_l comma)) (target_l (inp c.args.script.now c.args.offs.now c.args.words.now c.args.heads.now c.args.loads.now)) _) c.requires (leaf-low c.args.script.now c.args.offs.now c.args.words.now c.args.loads.now) c.leaf-second.ensures c.leaf-second.auto.text c.in-Done.is in
+    let p2 = put (target_l (inp c.args.script.now c.args.offs.now c.args.words.now c.args.heads.now c.args.loads.now)) (word_l comma) p1 (cut-seq (target_l (inp c.args.script.now c.args.offs.now c.args.words.now c.args.heads.now c.args.loads.now)) (word_l comma) _) c.requires (fixed-low (worded comma)) c.put_sign-comma.ensures c.put_sign-comma.auto.text c.in-Done-comma.is in
     here p2 c.requires
 
 pub returns : goal.returns
 returns c =
     let p = narrowed (seq (seq (target_l (inp c.args.script.now c.args.offs.now c.args.words.now c.args.heads.now c.args.loads.now)) (word_l comma)) (target_l (inp c.args.script.now c.args.offs.now c.args.words.now c.args.heads.now c.args.loads.now))) (c.args.hi - 1) (opening {L = pair_l (inp c.args.script.now c.args.offs.now c.args.words.now c.args.heads.now c.args.loads.now)} {text = c.args.text.now} {hi = c.args.hi} {at = c.args.at}) (is-pair (inp c.args.script.now c.args.offs.now c.args.words.now c.args.heads.now c.args.loads.now) c.args.hi) (omega arith) in
-    let p1 = put (seq (target_l (inp c.args.script.now c.args.offs.now c.args.words.now c.args.heads.now c.args.loads.now)) (word_l comma)) (target_l (inp c.args.script.now c.args.offs.now c.args.words.now c.args.heads.now c.args.loads.now)) p (cut-seq (seq (target_l (inp c.args.script.now c.args.offs.now c.args.words.now c.args.heads.now c.args.loads.now)) (word_l comma)) (target_l (inp c.args.script.now c.args.offs.now c.args.words.now c.args.heads.now c.args.loads.now)) _) c.requires (leaf-low c.args.script.now c.args.offs.now c.args.words.now c.args.loads.now) c.leaf-second.ensures c.leaf-second.auto.1.1.1.1.0 c.in-Done.is in
-    let p2 = put (target_l (inp c.args.script.now c.args.offs.now c.args.words.now c.args.heads.now c.args.loads.now)) (word_l comma) p1 (cut-seq (target_l (inp c.args.script.now c.args.offs.now c.args.words.now c.args.heads.now c.args.loads.now)) (word_l comma) _) c.requires (fixed-low (worded comma)) c.put_sign-comma.ensures c.put_sign-comma.auto.0 c.in-Done-comma.is in
+    let p1 = put (seq (target_l (inp c.args.script.now c.args.offs.now c.args.words.now c.args.heads.now c.args.loads.now)) (word_l comma)) (target_l (inp c.args.script.now c.args.offs.now c.args.words.now c.args.heads.now c.args.loads.now)) p (cut-seq (seq (target_l (inp c.args.script.now c.args.offs.now c.args.words.now c.args.heads.now c.args.loads.now)) (word_l comma)) (target_l (inp c.args.script.now c.args.offs.now c.args.words.now c.args.heads.now c.args.loads.now)) _) c.requires (leaf-low c.args.script.now c.args.offs.now c.args.words.now c.args.loads.now) c.leaf-second.ensures c.leaf-second.auto.text c.in-Done.is in
+    let p2 = put (target_l (inp c.args.script.now c.args.offs.now c.args.words.now c.args.heads.now c.args.loads.now)) (word_l comma) p1 (cut-seq (target_l (inp c.args.script.now c.args.offs.now c.args.words.now c.args.heads.now c.args.loads.now)) (word_l comma) _) c.requires (fixed-low (worded comma)) c.put_sign-comma.ensures c.put_sign-comma.auto.text c.in-Done-comma.is in
     end p2 c.requires.room c.leaf.ensures

@@ -45,7 +45,7 @@ clear_from-requires c =
 pub shape_of-text : goal.shape_of-text
 shape_of-text c =
     let l : length c.loop-i.text ≡ length c.args.text.now = ap length c.loop-i.invariant.1 ∙ length_moved c.args.text.now c.args.a c.loop-i.i (omega (arith, c.loop-i.invariant.0, c.requires)) in
-    c.clear_from.auto.0 ∙ l
+    c.clear_from.auto.text ∙ l
 
 pub returns : goal.returns
 returns c =
