@@ -1,6 +1,6 @@
 -- The contracts of the functions that are lent all arrays, over their parameters: script, offs, words, symbols, head, load and the state words, in this order.
 use Rattle.std.specs.Prelude.{ℕ, List}
-use Rattle.std.specs.Borrow.{Bor}
+use Rattle.std.specs.Borrow.{Bor, MutBor}
 use Rattle.sifc_def.specs.State.{Ctx, St, Out, Void}
 use Rattle.sifc_step.specs.declared.walk.Walk.{Walk}
 use Rattle.sifc_step.specs.Abs.{inp, mem, void, many}
@@ -11,7 +11,7 @@ use Rattle.walk_step.specs.Moves.{Starts, Goes}
 
 -- a `&mut` slice or array, and a `&&` slice, as a `requires` has them
 abbrev pub Ref : Type 0
-Ref = Bor (List ℕ)
+Ref = MutBor (List ℕ)
 
 abbrev pub RefRef : Type 0
 RefRef = Bor (Bor (List ℕ))

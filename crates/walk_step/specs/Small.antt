@@ -1,6 +1,6 @@
 -- What the small functions of the walk may assume and promise, over their parameters: the promises of sifc_step (there Small.antt), of what the words stand for.
 use Rattle.std.specs.Prelude.{ℕ, ◌≤◌, ◌<◌, ◌≡◌, List, true, length, get_or}
-use Rattle.std.specs.Borrow.{Bor}
+use Rattle.std.specs.Borrow.{Bor, MutBor}
 use denote.Triple.Both.{Both}
 use Rattle.sifc_def.specs.declared.What.{What}
 use Rattle.sifc_def.specs.State.{err}
@@ -18,7 +18,7 @@ use Rattle.walk_step.specs.Words.{walk_of, lim_of, why_of, Reason, refusal_of, t
 
 -- a `&mut` slice or array, and a `&&` slice
 abbrev pub Lent : Type 0
-Lent = Both (Bor (List ℕ)) (Bor (List ℕ))
+Lent = Both (MutBor (List ℕ)) (MutBor (List ℕ))
 
 abbrev pub Shown : Type 0
 Shown = Both (Bor (Bor (List ℕ))) (Bor (Bor (List ℕ)))

@@ -7,8 +7,7 @@ use Rattle.sifc_def.specs.Stmt.{ident_node, ident_pair}
 use Rattle.sifc_step.specs.Steps.{kept-nodes, same, blank, blanks}
 use lib.ListN.{get_or}
 use Rattle.walk_step.specs.Moves.{begin, gives, go, stop, standing-at, pushable-at, starts, expected, pushed}
-use Rattle.walk_step.specs.Amid.{any_at, midst}
-use Rattle.walk_declare.proofs.Ends.{paired, none-counted, count_set}
+use Rattle.walk_declare.proofs.Ends.{paired, none-counted, count_set, any_at, midst}
 use Rattle.walk_step.proofs.Tags.{not_done}
 use Rattle.walk_declare.proofs.ident.ident_pair.Goals as goal
 

@@ -1,5 +1,6 @@
 use borrow.Author.Rules.{rules}
 use Prim.Native.Nat.{ℕ, ◌-◌, ◌≤◌, suc}
+use mathlib.Core.List.{[]}
 use borrow.Author.Tests.{eq-eqb, ne_eqb, le-leb, lt-leb}
 use native.Mathlib.Omega.{arith}
 use mathlib.Core.Path.{refl, sym, ◌∙◌}
@@ -14,9 +15,8 @@ use Rattle.walk_step.specs.WordsLaws.{exceeded-word, message-word}
 use Rattle.walk_step.specs.SmallLaws.{listing}
 use Rattle.walk_step.specs.Moves.{begin, gives, go, stop, last, read, yes, no, test, standing-at, starts, separated, thrown-counting}
 use Rattle.walk_step.proofs.Tags.{not_done}
-use Rattle.walk_step.specs.Ends.{counted, separated-ahead}
-use Rattle.walk_step.specs.Amid.{any_at, Turns, turns, own, amid, turn, turn-own, onward, recount}
-use Rattle.walk_declare.proofs.Ends.{as_param, node-ahead, separated-kept, none_within, thrown-within, written-within}
+use Rattle.walk_declare.proofs.Turns.{Turns, turns, own, amid, turn, turn-own, onward, recount}
+use Rattle.walk_declare.proofs.Ends.{any_at, as_param, node-ahead, separated-kept, separated-ahead, counted, none_within, thrown-within, written-within}
 use Rattle.walk_declare.proofs.ident.param_list.Goals as goal
 
 pub loop-st-init : goal.loop-st-init
@@ -63,7 +63,7 @@ returns-then-n-ge-FN_PARAM_MAX_LEN c =
             let y2 = yes _ _ p2 (le-leb _ _ c.if-n-ge-FN_PARAM_MAX_LEN.true) in
             last 0 (λ x. throw x (FnParmCntExceeded 64)) y2 refl (omega arith) (thrown-counting y2 (exceeded-word 64) c.add_error.ensures));
       };
-      count = thrown-within (c.add_error.ensures.is _).none;
+      count = thrown-within (c.add_error.ensures.is []).none;
     }
 
 pub add_error-requires-then-k-eq-EOF : goal.add_error-requires-then-k-eq-EOF
@@ -87,7 +87,7 @@ returns-then-k-eq-EOF c =
             let y3 = yes _ _ p3 (test (λ k. eqb k 47) p3 (eq-eqb _ _ (sym c.kind_at-k.ensures ∙ c.if-k-eq-EOF.true))) in
             last 0 (λ x. throw x (InvalidTknMsg 2)) y3 refl (omega arith) (thrown-counting y3 (message-word 2 (λ z. omega arith)) c.add_error-then-k-eq-EOF.ensures));
       };
-      count = thrown-within (c.add_error-then-k-eq-EOF.ensures.is _).none;
+      count = thrown-within (c.add_error-then-k-eq-EOF.ensures.is []).none;
     }
 
 pub ident_node-item-requires : goal.ident_node-item-requires

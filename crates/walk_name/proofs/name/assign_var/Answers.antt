@@ -17,7 +17,7 @@ pub add_error-requires-in_default-what : goal.add_error-requires-in_default-what
 add_error-requires-in_default-what c = listing c.requires.push.words (undecl-word _) refl
 
 pub returns-in_default-what : goal.returns-in_default-what
-returns-in_default-what c = assign-not (no-var c.in-Declared.is c.in_default-what.not-Done) c.add_error-in_default-what.ensures
+returns-in_default-what c = assign-not (no-var c.in-Declared.is c.in_default-what.not-Variable) c.add_error-in_default-what.ensures
 
 pub overflow_cast-token : goal.overflow_cast-token
 overflow_cast-token c = omega (arith, small_at c.requires.fits c.in-Declared.is c.in-Variable.is)

@@ -7,4 +7,4 @@ pub returns-then-i-words : goal.returns-then-i-words
 returns-then-i-words c = record { is = λ os e. c.kind_at.ensures ∙ token-kind-in os _ _ e c.if-i-words.true }
 
 pub returns : goal.returns
-returns c = record { is = λ os e. token-kind-past os _ _ c.if1.false }
+returns c = record { is = λ os e. token-kind-past os _ _ c.if-i-words.false }
