@@ -1,5 +1,5 @@
 -- A list of scripts, as the programs that replay stored answers read it: a script's length in decimal, a newline, the script, a newline, and so on.
-use Rattle.std.specs.Prelude.{ℕ, ◌+◌, ◌-◌, ◌*◌, ◌%◌, List, [], ◌∷◌, Bool, true, false, ◌&&◌, ◌||◌, leb, length, drop}
+use Rattle.std.specs.Prelude.{ℕ, ◌+◌, ◌-◌, ◌*◌, ◌%◌, List, [], ◌∷◌, Bool, ◌&&◌, ◌||◌, leb, length, drop}
 use Rattle.sifc_word.specs.Base.{if◌then◌else◌, within}
 use Rattle.sif_show.specs.declared.entries.Number.{Number}
 use Rattle.sif_show.specs.declared.entries.Entry.{Entry}

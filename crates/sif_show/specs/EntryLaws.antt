@@ -1,6 +1,6 @@
 -- Laws of entries: a number, one byte at a time, and the bounds of an entry's script.
-use Rattle.std.specs.Prelude.{ℕ, suc, ◌+◌, ◌-◌, ◌*◌, ◌%◌, ◌≤◌, ◌<◌, ◌≡◌, refl, List, [], ◌∷◌, Bool, true, false, ◌&&◌, ◌||◌, leb, length, drop, get_or}
-use Rattle.std.proofs.Common.{sym, ap, ◌∙◌, subst, arith, add-one, le-leb, leb-true, leb-false, drop_of_length-le, drop-cons}
+use Rattle.std.specs.Prelude.{ℕ, ◌+◌, ◌-◌, ◌*◌, ◌%◌, ◌≤◌, ◌<◌, ◌≡◌, refl, List, Bool, true, false, ◌||◌, leb, length, drop, get_or}
+use Rattle.std.proofs.Common.{sym, subst, arith, add-one, le-leb, leb-false, drop_of_length-le, drop-cons}
 use Rattle.std.proofs.lemmas.Bool.{lt-leb}
 use Rattle.sifc_word.specs.Base.{if◌then◌else◌, within}
 use Rattle.sifc_word.specs.BaseLaws.{and-false}

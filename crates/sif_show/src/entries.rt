@@ -17,6 +17,12 @@ pub struct Entry {
     pub end: usize,
 }
 
+// The byte of 0.
+const FIRST_DIGIT: u8 = 48;
+
+// The byte of 9.
+const LAST_DIGIT: u8 = 57;
+
 // The decimal number at an index, up to the first byte that is no digit. It stops at 100,000, which no
 // script of a list reaches.
 fn number_at(list: &[u8], from: usize) -> Number
@@ -26,10 +32,10 @@ fn number_at(list: &[u8], from: usize) -> Number
     let mut i = from;
     while i < list.len() {
         let b = list[i];
-        if b < 48 {
+        if b < FIRST_DIGIT {
             break;
         }
-        if 57 < b {
+        if LAST_DIGIT < b {
             break;
         }
         if 9999 < value {

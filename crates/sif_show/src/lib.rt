@@ -1,12 +1,14 @@
-// What the programs print of tokens, and the lists of scripts that they replay.
+// What the programs print of tokens, and the lists of scripts that they replay. What prints takes the
+// writer, and a write that fails is the answer.
 #![tactic(auto)]
 
 mod entries;
 
 pub use entries::{Entry, after_newline, entry_at};
-use libc::STDOUT_FILENO;
 use sifc_err::Refusal;
 use sifc_tokens::TokensAnswer;
+use std::io;
+use std::io::Write;
 
 // A token a line, its spelling as it stands; or all tokens on one line with a space between, the
 // spelling in hexadecimal and none for a Val, which is how the stored answers of the Rust are written.
@@ -16,117 +18,123 @@ pub enum Layout {
     List,
 }
 
-pub fn print(text: &[u8]) {
-    io::write_all(STDOUT_FILENO, text);
+pub fn print<W: Write>(out: &mut W, text: &[u8]) -> io::Result<()> {
+    out.write_all(text)
 }
 
-pub fn print_number(n: usize) {
-    io::print_decimal(STDOUT_FILENO, n as u64);
+pub fn print_number<W: Write>(out: &mut W, n: usize) -> io::Result<()> {
+    write!(out, "{n}")
 }
 
-fn print_hex(text: &[u8]) {
-    let mut i = 0;
-    while i < text.len() {
-        io::print_hex(STDOUT_FILENO, wide(text[i]), 2);
-        i += 1;
+fn print_hex<W: Write>(out: &mut W, text: &[u8]) -> io::Result<()> {
+    for b in text {
+        let byte = *b;
+        write!(out, "{byte:02x}")?;
     }
-}
-
-fn wide(b: u8) -> u64 {
-    b as u64
+    Ok(())
 }
 
 // The bytes of a spelling, with a point for a byte that is no sign.
-fn print_plain(text: &[u8]) {
-    let mut i = 0;
-    while i < text.len() {
-        let b = text[i];
-        if b < 32 {
-            print(b".");
+fn print_plain<W: Write>(out: &mut W, text: &[u8]) -> io::Result<()> {
+    for b in text {
+        if *b < 32 {
+            print(out, b".")?;
         } else {
-            print(&text[i..i + 1]);
+            print(out, &[*b])?;
         }
-        i += 1;
     }
+    Ok(())
 }
 
-fn print_spelling(text: &[u8], kind: u32, layout: Layout) {
+fn print_spelling<W: Write>(out: &mut W, text: &[u8], kind: u32, layout: Layout) -> io::Result<()> {
     match layout {
         Layout::Lines => {
-            print_plain(text);
-            print(b"\n");
+            print_plain(out, text)?;
+            print(out, b"\n")
         }
         Layout::List => {
-            if kind != 33 {
-                print_hex(text);
+            if kind == 33 {
+                return Ok(());
             }
+            print_hex(out, text)
         }
     }
 }
 
 // KIND:LINE:COLUMN:SPELLING of one token.
-fn print_token<'a>(script: &'a [u8], fixed: &'a [u8], off: u32, word: u32, layout: Layout) {
+fn print_token<'a, W: Write>(
+    out: &mut W,
+    script: &'a [u8],
+    fixed: &'a [u8],
+    off: u32,
+    word: u32,
+    layout: Layout,
+) -> io::Result<()> {
     let kind = word % 64;
     let len = (word / 64) as usize;
     let at = off as usize;
     let place = sifc_tokens::place_at(script, at);
-    print_number(kind as usize);
-    print(b":");
-    print_number(place.line);
-    print(b":");
-    print_number(place.pos);
-    print(b":");
-    print_spelling(
-        sifc_word::spelling(script, fixed, kind, at, len),
-        kind,
-        layout,
-    );
+    print_number(out, kind as usize)?;
+    print(out, b":")?;
+    print_number(out, place.line)?;
+    print(out, b":")?;
+    print_number(out, place.pos)?;
+    print(out, b":")?;
+    let text = sifc_word::spelling(script, fixed, kind, at, len);
+    print_spelling(out, text, kind, layout)
 }
 
 // `refused`, number, kind, offset.
-pub fn print_refusal(refusal: Refusal) {
-    print(b"refused ");
-    print_number(refusal.number() as usize);
-    print(b" ");
-    print_number(refusal.kind() as usize);
-    print(b" ");
-    print_number(refusal.offset());
+pub fn print_refusal<W: Write>(out: &mut W, refusal: Refusal) -> io::Result<()> {
+    print(out, b"refused ")?;
+    print_number(out, refusal.number() as usize)?;
+    print(out, b" ")?;
+    print_number(out, refusal.kind() as usize)?;
+    print(out, b" ")?;
+    print_number(out, refusal.offset())
 }
 
-fn print_gap(i: usize, layout: Layout) {
+fn print_gap<W: Write>(out: &mut W, i: usize, layout: Layout) -> io::Result<()> {
     match layout {
-        Layout::Lines => {}
+        Layout::Lines => Ok(()),
         Layout::List => {
-            if 0 < i {
-                print(b" ");
+            if i == 0 {
+                return Ok(());
             }
+            print(out, b" ")
         }
     }
 }
 
-fn print_tokens(script: &[u8], offs: &[u32], words: &[u32], n: usize, layout: Layout) {
+fn print_tokens<W: Write>(
+    out: &mut W,
+    script: &[u8],
+    offs: &[u32],
+    words: &[u32],
+    n: usize,
+    layout: Layout,
+) -> io::Result<()> {
     let fixed = sifc_word::spellings();
-    let mut i = 0;
-    while i < n {
+    for i in 0..n {
         if offs.len() <= i {
-            return;
+            break;
         }
         if words.len() <= i {
-            return;
+            break;
         }
-        print_gap(i, layout);
-        print_token(script, &fixed, offs[i], words[i], layout);
-        i += 1;
+        print_gap(out, i, layout)?;
+        print_token(out, script, &fixed, offs[i], words[i], layout)?;
     }
+    Ok(())
 }
 
 // The tokens of a script of at most 4,096 bytes, or why there are none.
-pub fn show(script: &[u8], layout: Layout) {
+pub fn show<W: Write>(out: &mut W, script: &[u8], layout: Layout) -> io::Result<()> {
     let mut offs = [0u32; 4097];
     let mut words = [0u32; 4097];
     let said = sifc_tokens::tokens(script, &mut offs, &mut words);
     match said {
-        TokensAnswer::Count(n) => print_tokens(script, &offs, &words, n, layout),
-        TokensAnswer::Refused(refusal) => print_refusal(refusal),
+        TokensAnswer::Count(n) => print_tokens(out, script, &offs, &words, n, layout),
+        TokensAnswer::Refused(refusal) => print_refusal(out, refusal),
     }
 }

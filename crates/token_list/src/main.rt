@@ -2,17 +2,27 @@
 // script of more than 4,096 bytes is refused with 1.
 #![tactic(auto)]
 
-use libc::{STDIN_FILENO, STDOUT_FILENO};
 use sif_show::Layout;
 use sifc_err::Refusal;
+use std::io;
+use std::io::{BufWriter, Read, Write};
 
-fn main() {
-    let mut script = [0u8; 4097];
-    let n = io::read_full(STDIN_FILENO, &mut script);
-    if 4096 < n {
-        sif_show::print_refusal(Refusal::LongScript);
-        io::write_all(STDOUT_FILENO, b"\n");
-        return;
+// The longest script that is listed.
+const MOST: usize = 4096;
+
+fn main(rt: HostRuntime) -> io::Result<()> {
+    let mut script = Vec::new(rt.alloc());
+    rt.stdin().take(MOST as u64 + 1).read_to_end(&mut script)?;
+    let mut out = BufWriter::new(rt.alloc(), rt.stdout())?;
+    answer(&mut out, script.as_slice())?;
+    out.flush()
+}
+
+// Prints the tokens, or the refusal of a script that is too long.
+fn answer<W: Write>(out: &mut W, script: &[u8]) -> io::Result<()> {
+    if MOST < script.len() {
+        sif_show::print_refusal(out, Refusal::LongScript)?;
+        return sif_show::print(out, b"\n");
     }
-    sif_show::show(&script[..n], Layout::Lines);
+    sif_show::show(out, script, Layout::Lines)
 }

@@ -1,7 +1,5 @@
-use mathlib.Core.Path.{◌≡◌, refl, sym, ap, ◌∙◌, subst}
-use borrow.Author.Rules.{rules}
+use mathlib.Core.Path.{sym, ap, ◌∙◌}
 use native.Mathlib.Omega.{arith}
-use Rattle.sif_show.specs.declared.entries.Number.{Number}
 use Rattle.sif_show.specs.Entries.{entry_at, entry_after}
 use Rattle.sif_show.specs.EntryLaws.{entry-none, entry-cut, entry_whole}
 use Rattle.sif_show.proofs.entries.entry_at.Goals as goal

@@ -1,10 +1,7 @@
-use Prim.Native.Nat.{ℕ, ◌≤◌, ◌<◌, ◌-◌, ◌+◌, ◌*◌, ◌%◌}
-use native.Mathlib.Omega.{arith}
-use mathlib.Core.Path.{◌≡◌, refl, sym, ap, ◌∙◌, subst}
-use borrow.Author.Rules.{rules}
-use lib.ListN.{length, get_or, drop}
+use Prim.Native.Nat.{◌≤◌, ◌-◌}
+use mathlib.Core.Path.{◌≡◌}
+use lib.ListN.{length, drop}
 use Rattle.sif_show.specs.Entries.{number_in, number_at}
-use Rattle.sif_show.specs.EntryLaws.{goes_on, goes-below, goes_above, goes-full, number_more, number-stop, number-end}
 use Rattle.sif_show.proofs.entries.number_at.Given as goal
 
 abbrev pub invariant-loop-i : goal.invariant-loop-i
