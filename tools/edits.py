@@ -199,7 +199,7 @@ def faults_of(edit, functions):
 
 def table():
     """The table as Markdown, and all faults."""
-    crates = {path.name: functions_of(path.name) for path in sorted(CRATES.iterdir()) if (path / "src").is_dir()}
+    crates = {crate: functions_of(crate) for crate in sorted(listed())}
     callers = called_elsewhere(crates)
     rows, faults = [], []
     for crate, functions in crates.items():
@@ -355,7 +355,7 @@ def faults_in(said, name):
 
 
 def main(words):
-    """Prints the table, or checks it, or what the prover said of the edits."""
+    """Prints the table, or checks it, or what the prover says of the edits."""
     rows, faults = table()
     count = len(rows)
     if words == ["--write"]:
