@@ -13,7 +13,7 @@ PREFIX ?= /usr/local
 DESTDIR ?=
 ARCHIVE = target/staticlib/libsif_c.a
 # What the archive is made from; a file of the code, of a definition or of a proof that is newer has it made again.
-CODE = crates.txt $(shell find crates -name '*.rt' -o -name '*.antt')
+CODE = crates.txt $(shell find crates -name out -prune -o \( -name '*.rt' -o -name '*.antt' \) -print)
 SONAME = libsif_c.so.0
 SHARED = target/lib/$(SONAME)
 WHERE = $(if $(filter /%,$(PREFIX)),,$(CURDIR)/)$(PREFIX)
@@ -30,8 +30,9 @@ lib: $(ARCHIVE)
 shared: $(SHARED) target/lib/sif.pc
 
 $(ARCHIVE): $(CODE)
-	@rt staticlib sif_c
-	@touch $@
+	@cd crates/sif_c_c && rt lib
+	@mkdir -p $(@D)
+	@cp crates/sif_c_c/out/libsif_c_c.a $@
 
 # The archive's objects are position independent. Only the calls of include/sif.h are exported.
 $(SHARED): $(ARCHIVE) hosts/c/exports.map
@@ -65,17 +66,15 @@ install: install-lib sif
 hosts-test:
 	@bash hosts/test
 
-target/bin/%: $(CODE)
-	@rt check $* 1>&2
+# What `rt` says of the proof and the build goes to standard error, and the program's output to standard output.
+run:
+	@cd crates/sif_list && rt run
 
-run: target/bin/sif_list
-	@target/bin/sif_list
+tokens:
+	@cd crates/token_list && rt run
 
-tokens: target/bin/token_list
-	@target/bin/token_list
-
-text: target/bin/sif_text
-	@target/bin/sif_text
+text:
+	@cd crates/sif_text && rt run
 
 compare-long: lib
 	@cargo run -q --release -p compare -- --long

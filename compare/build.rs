@@ -1,5 +1,5 @@
 //! Links the static library of the proved code: that of the folder SIF_LIB_DIR where it is set, else that of
-//! the checkout that is built, which `rt staticlib sif_c` writes. One that lies outside of the checkout is
+//! the checkout that is built, which `make lib` writes. One that lies outside of the checkout is
 //! refused, unless SIF_LIB_DIR names it. src/archive.rs gets its place and its digest.
 
 #[path = "src/digest.rs"]
@@ -29,7 +29,7 @@ fn main() {
         tell(&archive, (!is_named).then_some(root));
     } else {
         let archive = archive.display();
-        println!("cargo:warning={archive} is not there: run `rt staticlib sif_c` first");
+        println!("cargo:warning={archive} is not there: run `make lib` first");
     }
     let folder = archive.parent().expect("the archive lies in a folder");
     println!("cargo:rustc-link-search=native={}", folder.display());

@@ -16,20 +16,28 @@ ROOT = Path(__file__).resolve().parent.parent
 KEPT = ROOT / ".ci" / "counts"
 
 
-def texts(pattern):
-    """The files of the crates that a pattern names."""
-    return [path.read_text() for path in sorted((ROOT / "crates").glob(pattern))]
-
-
-def crates():
+def listed():
     """The crates that crates.txt lists."""
-    lines = (ROOT / "crates.txt").read_text().split("\n")
-    return sum(1 for line in lines if re.match(r"\w+:", line))
+    return re.findall(r"^(\w+)(?: staticlib)?:", (ROOT / "crates.txt").read_text(), re.M)
+
+
+def texts(pattern):
+    """The files that a pattern names in the crates."""
+    return [path.read_text() for crate in listed() for path in sorted((ROOT / "crates" / crate).glob(pattern))]
+
+
+def laws():
+    """The files of definitions and lemmas, without those that prove one function: what stands in or below a folder with its
+    invariants, answers or walk."""
+    folders = [ROOT / "crates" / crate / kind for crate in listed() for kind in ("specs", "proofs")]
+    paths = [path for folder in folders for path in sorted(folder.glob("**/*.antt"))]
+    ours = {path.parent for path in paths if path.name in ("Invariants.antt", "Answers.antt", "Proof.antt")}
+    return [path.read_text() for path in paths if not ours.intersection(path.parents)]
 
 
 def functions():
     """The functions of the code: each is proved."""
-    return sum(len(re.findall(r'^ *(?:pub )?(?:extern "C" )?fn \w+', text, re.M)) for text in texts("*/src/**/*.rt"))
+    return sum(len(re.findall(r'^ *(?:pub )?(?:extern "C" )?fn \w+', text, re.M)) for text in texts("src/**/*.rt"))
 
 
 def statements(text):
@@ -52,11 +60,11 @@ def wrong_answers(text):
 
 def counted():
     """All numbers, as .ci/counts has them."""
-    edits = texts("*/must-fail/*.edit")
+    edits = texts("must-fail/*.edit")
     numbers = {
-        "crates": crates(),
+        "crates": len(listed()),
         "functions": functions(),
-        "statements": sum(statements(text) for text in texts("*/specs/**/*.antt") + texts("*/proofs/**/*.antt")),
+        "statements": sum(statements(text) for text in laws()),
         "edits": len(edits),
         "wrong answers": sum(wrong_answers(text) for text in edits),
     }

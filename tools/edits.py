@@ -13,12 +13,21 @@ reaches through functions that no other crate calls: what these answer is a part
   tools/edits.py           prints the table (docs/EDITS.md has it)
   tools/edits.py --check   fails where an edit names no function, where a public function that another crate or
                            a host calls has fewer than two wrong answers, or where docs/EDITS.md is another table
-  tools/edits.py --logs    fails where the prover's log of an edit (target/must-fail) does not say that it is refused,
-                           or has no fault in a function's own proof, for each of several functions that it names
+  tools/edits.py --logs LOG   fails where what `rt ci` wrote does not say of each edit that it is refused, by a fault that is
+                           more than a name which the edit took away
+  tools/edits.py --each [CRATE..]   fails where an edit that names several functions leaves one of them without a fault of
+                           its own: `rt ci` says the first fault alone, so each such edit is checked here once more, in a
+                           copy of its crate, over the libraries that `rt all check` left in out/. Names the functions
+                           whose only faults are names that the edit took away
 """
 
+import os
 import re
+import shutil
+import subprocess
 import sys
+import tempfile
+from concurrent.futures import ThreadPoolExecutor
 from pathlib import Path
 
 ROOT = Path(__file__).resolve().parent.parent
@@ -26,7 +35,14 @@ CRATES = ROOT / "crates"
 PAGE = ROOT / "docs" / "EDITS.md"
 LEAST = 2
 HEADER = re.compile(r"^# ([\w:]+): \S")
-ALIAS = re.compile(r"^pub use (?:\w+::)*(\w+) as (\w+);", re.M)
+USE = re.compile(r"^(pub )?use ([^;]*);", re.M)
+# what `rt ci` says of an edit
+TOLD = re.compile(r"^rt: must-fail (\S+)\.edit: (.*)$", re.M)
+# an error in a file of proofs: the folder, the file, the words
+ERROR = re.compile(r"^\S*?proofs/(\S+?)/(Answers|Invariants|Proof|Proof/\w+)\.antt:\d+:\d+: error: (.*)$", re.M)
+# a proof that names what the edit took away; one that rests on another that is not proved
+GONE = re.compile(r"has no field|is not in scope|has no `|no module, record or data type|expected (a measure|an invariant)")
+LATER = re.compile(r"was not admitted|which was rejected, was not checked")
 FUNCTION = re.compile(r'^( *)(pub )?(extern "C" )?fn (\w+)', re.M)
 
 
@@ -71,20 +87,44 @@ def source_of(crate):
     return "".join(without_comments(path.read_text()) for path in sorted((CRATES / crate / "src").rglob("*.rt")))
 
 
+def named(text):
+    """What a `use` item names: its paths, each with the name that it has there."""
+    text = " ".join(text.split())
+    head, brace, rest = text.partition("{")
+    if not brace:
+        path, _, name = text.partition(" as ")
+        return [(path, name or path.split("::")[-1])]
+    parts, depth = [""], 0
+    for sign in rest.rpartition("}")[0]:
+        depth += {"{": 1, "}": -1}.get(sign, 0)
+        if sign == "," and depth == 0:
+            parts.append("")
+        else:
+            parts[-1] += sign
+    return [(head + path, name) for part in parts if part.strip() for path, name in named(part)]
+
+
+def uses(source, public=False):
+    """What the `use` items of a source name, or the `pub use` items alone."""
+    return [it for is_public, text in USE.findall(source) if is_public or not public for it in named(text)]
+
+
 def called_elsewhere(crates):
     """The public functions that another crate calls, and those that hosts link: crate and name, with the callers."""
     sources = {crate: source_of(crate) for crate in crates}
+    imports = {crate: {path for path, _ in uses(source)} for crate, source in sources.items()}
     callers = {}
     for crate, functions in crates.items():
-        aliases = dict(ALIAS.findall(sources[crate]))
+        aliases = {path.split("::")[-1]: name for path, name in uses(sources[crate], public=True)}
         for function in functions.values():
             if not function.public:
                 continue
+            path = f"{crate}::{aliases.get(function.short, function.short)}"
             if "::" in function.name:
                 used = re.compile(r"\.%s\(" % function.short)
             else:
-                used = re.compile(r"\b%s::%s\b" % (crate, aliases.get(function.short, function.short)))
-            names = [c for c, source in sources.items() if c != crate and used.search(source)]
+                used = re.compile(r"\b%s\b" % path)
+            names = [c for c in sources if c != crate and (path in imports[c] or used.search(sources[c]))]
             if function.exported:
                 names.append("hosts")
             if names:
@@ -102,6 +142,23 @@ class Edit:
         header = [line for line in lines[: lines.index(next(l for l in lines if l.startswith("file: ")))]]
         self.names = [HEADER.match(line).group(1) for line in header if HEADER.match(line)]
         self.bad = [line for line in header if line.strip() and not HEADER.match(line)]
+        self.lines = lines
+
+    def applied(self, folder):
+        """The texts of the files that it changes, by their paths below a crate's folder."""
+        texts = {}
+        for line in self.lines:
+            word, _, text = line.partition(" ")
+            if word == "file:":
+                path = folder / text.strip()
+                texts.setdefault(path, path.read_text())
+            elif word == "old:":
+                old = text
+            elif word == "new:":
+                if texts[path].count(old) != 1:
+                    raise ValueError(f"{self.label}: a text is in {path.name} {texts[path].count(old)} times, and not once")
+                texts[path] = texts[path].replace(old, text)
+        return texts
 
 
 def edits_of(crate):
@@ -142,7 +199,7 @@ def faults_of(edit, functions):
 
 def table():
     """The table as Markdown, and all faults."""
-    crates = {path.name: functions_of(path.name) for path in sorted(CRATES.iterdir()) if (path / "src").is_dir()}
+    crates = {crate: functions_of(crate) for crate in sorted(listed())}
     callers = called_elsewhere(crates)
     rows, faults = [], []
     for crate, functions in crates.items():
@@ -175,41 +232,138 @@ def page(rows):
     return head + "\n".join(rows) + "\n"
 
 
-def log_faults():
-    """Where a log does not say that each named function is refused for a reason of its own."""
-    faults, count = [], 0
-    for crate in sorted(path.name for path in CRATES.iterdir()):
-        for edit in edits_of(crate):
-            path = ROOT / "target" / "must-fail" / crate / edit.label / ".log"
-            said = path.read_text() if path.exists() else ""
-            if "logic=not-proved" not in said:
-                faults.append(f"{crate}/{edit.label}: no log says that it is refused")
-            count += 1
-            for name in edit.names if len(edit.names) > 1 else []:
-                if not refused(said, name):
+def log_faults(log):
+    """Where what `rt ci` wrote does not say that an edit is refused, or says that no more than a name is gone."""
+    told = dict(TOLD.findall(log))
+    edits = [edit for crate in listed() for edit in edits_of(crate)]
+    faults = []
+    for edit in edits:
+        said = told.get(f"{edit.crate}/{edit.label}", "rt ci did not say what it came to")
+        if not said.startswith("refused, as it must be") or "(only " in said:
+            faults.append(f"{edit.crate}/{edit.label}: {said}")
+    return faults, len(edits) - len(faults)
+
+
+def listed():
+    """The crates that crates.txt lists, each with those that it is on."""
+    lines = (line.partition("#")[0] for line in (ROOT / "crates.txt").read_text().split("\n"))
+    return {line.split(":")[0].split()[0]: line.split(":")[1].split() for line in lines if ":" in line}
+
+
+def below(crate, on):
+    """The repository's crates that a crate stands on."""
+    found = {other for other in on[crate] if other in on}
+    return found.union(*(below(other, on) for other in found))
+
+
+class Room:
+    """A copy of a crate, with those below it as they were built, in which its edits are checked."""
+
+    def __init__(self, folder, crate, on):
+        self.crate, self.folder = crate, folder / "crates" / crate
+        names = {crate} | below(crate, on)
+        lines = [line for line in (ROOT / "crates.txt").read_text().split("\n") if line.split(":")[0].split(" ")[0] in names]
+        for name in names:
+            parts = ["src", "specs", "proofs"] + ["out/rlib"] * (name != crate)
+            for part in parts:
+                if (CRATES / name / part).is_dir():
+                    shutil.copytree(CRATES / name / part, folder / "crates" / name / part)
+        (folder / "crates.txt").write_text("\n".join(lines) + "\n")
+
+    def checked(self):
+        """The status of a check of the crate as it stands in the room, and what it said."""
+        ran = subprocess.run(["rt", "check", "--jobs", "1"], cwd=self.folder, capture_output=True, text=True, errors="replace")
+        return ran.returncode, ran.stdout + ran.stderr
+
+    def with_edit(self, edit):
+        """The same with an edit; the crate is then as it was."""
+        texts = edit.applied(self.folder)
+        kept = {path: path.read_text() for path in texts}
+        try:
+            for path, text in texts.items():
+                path.write_text(text)
+            return self.checked()
+        finally:
+            for path, text in kept.items():
+                path.write_text(text)
+
+
+def each_of(crate, on, room):
+    """Of a crate's edits that name several functions: how many there are, the faults, and the notes."""
+    edits = [edit for edit in edits_of(crate) if len(edit.names) > 1]
+    faults, notes = [], []
+    try:
+        room = Room(room, crate, on)
+        status, said = room.checked()
+        if status:
+            return len(edits), [f"{crate}: a copy of it is not proved: {said[-600:]}"], []
+        for edit in edits:
+            status, said = room.with_edit(edit)
+            if status != 1:
+                faults.append(f"{crate}/{edit.label}: its check ended with status {status}")
+            for name in edit.names:
+                found = faults_in(said, name)
+                if not found:
                     faults.append(f"{crate}/{edit.label}: {name} is not refused for a fault of its own")
-    return faults, count
+                elif all(GONE.search(fault) for fault in found):
+                    notes.append(f"{crate}/{edit.label}: {name} is refused as its proof names what the edit took away: {found[0][:160]}")
+    except (OSError, ValueError) as error:
+        faults.append(f"{crate}: {error}")
+    return len(edits), faults, notes
 
 
-def refused(said, name):
-    """Whether a log has a fault of a function's own: in its own file of proofs, and not that another proof is missing
-    there; or in the proof that is made for it where it has no file."""
-    short = name.split("::")[-1]
+def lanes():
+    """How many checks run side by side: one a processor, where there are 4 GB for each."""
+    free = int(re.search(r"MemAvailable:\s+(\d+)", Path("/proc/meminfo").read_text()).group(1)) // 4_000_000
+    return max(1, min(len(os.sched_getaffinity(0)), free))
+
+
+def each_fault(crates):
+    """Where an edit that names several functions leaves one of them without a fault of its own."""
+    on = listed()
+    several = [crate for crate in crates or on if any(len(edit.names) > 1 for edit in edits_of(crate))]
+    several.sort(key=lambda crate: -sum(path.stat().st_size for path in (CRATES / crate).glob("proofs/**/*.antt")))
+    with tempfile.TemporaryDirectory(prefix="sif-edits-") as folder, ThreadPoolExecutor(lanes()) as pool:
+        found = list(pool.map(lambda crate: each_of(crate, on, Path(folder) / crate), several))
+    for _, _, notes in found:
+        for note in notes:
+            print(f"note: {note}")
+    return [fault for _, faults, _ in found for fault in faults], sum(count for count, _, _ in found)
+
+
+def faults_in(said, name):
+    """The faults of a function's own in what a check said: errors in its own files of proofs, or among its own goals in the
+    file of a cycle, and not that another proof is missing there; and goals of its own that are not proved."""
+    *owner, short = name.split("::")
     title = "".join(word.capitalize() for word in short.split("_"))
-    own = re.compile(r"^\S*/(?:%s/Proof|Proof/%s)\.antt:\d+:\d+: error: (.*)$" % (short, title), re.M)
-    if any("was not admitted" not in fault for fault in own.findall(said)):
-        return True
-    return re.search(r"^fn (?:\S*::)?%s: no proof: .*`search` does not close" % name, said, re.M) is not None
+    found = []
+    for folder, rest, fault in ERROR.findall(said):
+        last = folder.split("/")[-1]
+        is_own = "/".join(folder.split("/")[-len(owner) - 1 :]).replace("+", "") == "/".join([*owner, short])
+        in_cycle = last.startswith("+") and re.match(r"`(?:\w+::)*%s-" % short, fault)
+        if (is_own or in_cycle or rest == f"Proof/{title}") and not LATER.search(fault):
+            found.append(fault)
+    for line in re.findall(r"^fn (?:\S*::)?%s: (?:not proved|no proof)(.*)$" % re.escape(name), said, re.M):
+        for part in line.split("; "):
+            goals = re.findall(r"`([^`]*)`", part.partition("did not prove")[2])
+            in_cycle = re.search(r"/\+(?!%s/)" % short, line)
+            if [goal for goal in goals if not in_cycle or re.match(r"(?:\w+::)*%s-" % short, goal)]:
+                found.append(part)
+            elif re.search(r"expected (a measure|an invariant|invariants)", part):
+                found.append(part)
+    return found
 
 
 def main(words):
-    """Prints the table, or checks it, or the logs."""
+    """Prints the table, or checks it, or what the prover says of the edits."""
     rows, faults = table()
     count = len(rows)
     if words == ["--write"]:
         PAGE.write_text(page(rows))
-    elif words == ["--logs"]:
-        faults, count = log_faults()
+    elif words[:1] == ["--logs"]:
+        faults, count = log_faults(Path(words[1]).read_text())
+    elif words[:1] == ["--each"]:
+        faults, count = each_fault(words[1:])
     elif words == ["--check"]:
         if not PAGE.exists() or PAGE.read_text() != page(rows):
             faults.append("docs/EDITS.md is another table: tools/edits.py --write")
