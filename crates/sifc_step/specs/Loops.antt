@@ -1,10 +1,10 @@
 -- Loops: one invariant for all of them.
-use Rattle.std.specs.Prelude.{ℕ, zero, suc, ◌+◌, ◌-◌, ◌≤◌, ◌<◌, ◌≡◌, refl, List, length}
+use Rattle.std.specs.Prelude.{ℕ, suc, ◌+◌, ◌-◌, ◌≤◌, ◌<◌, ◌≡◌, refl, List, length}
 use Rattle.std.proofs.Common.{add-one, arith, sym, ap, ◌∙◌, subst}
 use Rattle.sifc_def.specs.declared.Err.{Err}
 use Rattle.sifc_def.specs.State.{Ctx, St, Out, Void}
 use Rattle.sifc_def.specs.Expr.{fuel, param_list}
-use Rattle.sifc_symtab.specs.Toks.{toks_of, length-toks}
+use Rattle.sifc_symtab.specs.Toks.{length-toks}
 use Rattle.sifc_step.specs.declared.walk.Walk.{Walk}
 use Rattle.sifc_step.specs.Abs.{Inp, Mem, Rooms, rooms_of, ctx, ctx_of, abs, Ready}
 use Rattle.sifc_step.specs.Steps.{At, Kept, same, rooms-kept, begin, blank, blanks}

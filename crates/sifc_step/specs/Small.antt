@@ -1,17 +1,16 @@
 -- What the small functions of the walk promise, whatever else is lent.
-use Rattle.std.specs.Prelude.{ℕ, zero, suc, ◌+◌, ◌≤◌, ◌<◌, ◌≡◌, List, [], ◌∷◌, Bool, true, false, eqb, length, get_or}
+use Rattle.std.specs.Prelude.{ℕ, ◌≤◌, ◌<◌, ◌≡◌, List, Bool, false, length, get_or}
 use Rattle.sifc_word.specs.Kind.{Eof, Ident}
-use Rattle.sifc_def.specs.declared.Err.{Err}
 use Rattle.sifc_def.specs.declared.Why.{Why}
 use Rattle.sifc_def.specs.declared.What.{What}
-use Rattle.sifc_def.specs.State.{Node, node, Ctx, St, Out, M, Void, go_on, ◌>>=◌, ◌>>◌, consume, raise, add_error_w_pos, throw, throw_past, expect, ident, push}
+use Rattle.sifc_def.specs.State.{Node, node, Ctx, St, Out, go_on, consume, raise, add_error_w_pos, throw, throw_past, expect, ident, push}
 use Rattle.sifc_def.specs.Symbols.{store}
 use Rattle.sifc_def.specs.Expr.{separator, literal, single}
 use Rattle.sifc_step.specs.declared.walk.Limits.{Limits}
 use Rattle.sifc_step.specs.declared.walk.Walk.{Walk}
 use Rattle.sifc_step.specs.declared.walk.Target.{Target}
 use Rattle.sifc_step.specs.declared.walk.Parsed.{Parsed}
-use Rattle.sifc_step.specs.declared.walk.Parsed.TheVariants.{Done, Failed, Refused}
+use Rattle.sifc_step.specs.declared.walk.Parsed.TheVariants.{Done}
 use Rattle.sifc_step.specs.Abs.{Inp, Mem, inp, mem, kind_in, flag_in, kids_in, node_in, nodes_of, kind_at, Ready, DoesAs, Does, Counts, count_of, Sure, Lost, ThereOf}
 
 -- a node appended

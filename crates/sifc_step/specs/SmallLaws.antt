@@ -1,36 +1,35 @@
 -- What the proofs of the small functions cite, and what their promises say of the whole state.
 use Prim.Native.Nat.{ℕ, zero, suc, ◌+◌, ◌-◌, ◌*◌, ◌/◌, ◌%◌, ◌≤◌, ◌<◌}
 use Rattle.std.proofs.Math.Numerals.{add-one}
-use Rattle.std.proofs.Common.{sub-one, ap₂, ◌∙◌, ⊎_elim}
+use Rattle.std.proofs.Common.{sub-one, ◌∙◌}
 use native.Mathlib.Omega.{arith}
 use Rattle.std.proofs.Math.Path.{◌≡◌, refl, sym, ap, subst}
-use Rattle.std.specs.Prelude.{◌⊎◌, Bool, ◌||◌, not, get_or, set, T, ltb, leb}
+use Rattle.std.specs.Prelude.{◌⊎◌, Bool, ◌||◌, get_or, set}
 use Rattle.std.proofs.Math.Logic.{inl, inr}
-use mathlib.Core.List.{List, [], ◌∷◌}
+use mathlib.Core.List.{List, ◌∷◌}
 use Rattle.std.proofs.Math.Bool.{true, false}
 use Rattle.std.proofs.Math.ListN.{length, length-set}
 use Rattle.std.proofs.Math.Dec.{eqb, eqb→eq}
 use borrow.Author.Tests.{lt-ltb, le-ltb, eq-eqb, ne_eqb}
-use Rattle.sifc_err.specs.declared.Refusal.{Refusal}
 use Rattle.sifc_err.specs.declared.Refusal.TheVariants.{SourceFault, NodesFull, SymbolsFull, ErrorsFull}
 use Rattle.sifc_word.specs.Base.{if◌then◌else◌, member}
 use Rattle.sifc_def.specs.declared.Err.{Err}
 use Rattle.sifc_def.specs.declared.Why.{Why}
-use Rattle.sifc_def.specs.declared.Why.TheVariants.{InvalidIdent, TknMismatch}
+use Rattle.sifc_def.specs.declared.Why.TheVariants.{TknMismatch}
 use Rattle.sifc_def.specs.declared.What.{What}
-use Rattle.sifc_def.specs.State.{Node, node, err, Ctx, St, Out, done, fail, refuse, M, Void, go_on, tok_at, panic_at, arrive, consume, list, raise, add_error_w_pos, add_error, throw, throw_past, expect, match_ident, or_throw, ident, push, ok}
+use Rattle.sifc_def.specs.State.{err, St, Out, refuse, M, go_on, panic_at, arrive, consume, list, raise, add_error_w_pos, add_error, throw, throw_past, expect, match_ident, or_throw, ident, push}
 use Rattle.sifc_def.specs.Symbols.{store, set_level, init_scope, close_scope}
 use Rattle.sifc_def.specs.Expr.{looseness, is_unary, is_literal, separator, literal, single}
 use Rattle.sifc_symtab.specs.declared.symtab.Stored.{Stored}
 use Rattle.sifc_symtab.specs.declared.symtab.Stored.TheVariants.{At as Held, Full}
-use Rattle.sifc_symtab.specs.Table.{syms_of, Stores}
+use Rattle.sifc_symtab.specs.Table.{Stores}
 use Rattle.sifc_symtab.specs.Laws.{store_at, store-full}
 use Rattle.sifc_step.specs.declared.walk.Limits.{Limits}
 use Rattle.sifc_step.specs.declared.walk.Walk.{Walk}
 use Rattle.sifc_step.specs.declared.walk.Target.{Target}
 use Rattle.sifc_step.specs.declared.walk.Parsed.{Parsed}
 use Rattle.sifc_step.specs.declared.walk.Parsed.TheVariants.{Done, Failed, Refused}
-use Rattle.sifc_step.specs.Abs.{Inp, Mem, inp, mem, Rooms, rooms_of, kind_in, flag_in, kids_in, node_in, nodes_of, ctx, ctx_of, abs, listed_by, with_err, outcome_of, kind_at, Tokens, Stands, Ready, Fine, Broke, FineOf, Gives, void, many, DoesAs, Does, Counts, count_of, Sure, ThereOf, more, leveled_by, stored_by}
+use Rattle.sifc_step.specs.Abs.{Inp, Mem, inp, mem, Rooms, rooms_of, kind_in, flag_in, kids_in, node_in, nodes_of, ctx, abs, listed_by, outcome_of, kind_at, Stands, Ready, Fine, Broke, void, DoesAs, Does, Counts, count_of, more, leveled_by, stored_by}
 use Rattle.sifc_step.specs.Small.{Pushes, Consumes, Expects, Separates, throw_at, ThrowsAt, Throws, Pasts, Literals, node_of, newest, Accesses, Idents, HeadWord, Puts}
 use Rattle.sifc_step.specs.Steps.{At, by, kind-is, off-is, length-nodes, nodes-more, not_last, NotDone, none_is, fine-at}
 

@@ -1,21 +1,20 @@
 -- Where a walk stands: what is left to do gives what the whole function is to give. The steps by which the proofs of the walk go on.
-use Rattle.std.specs.Prelude.{ℕ, zero, suc, ◌+◌, ◌-◌, ◌*◌, ◌/◌, ◌%◌, ◌≤◌, ◌<◌, ◌≡◌, refl, ◌⊎◌, ◌≢◌, List, [], ◌∷◌, Bool, true, false, ◌||◌, not, length, get_or, set, T, ltb, eqb}
-use Rattle.std.proofs.Common.{add-one, sub-one, arith, le_trans, sym, ap, ap₂, ◌∙◌, inl, inr, ⊎_elim, length-set, get_or-set_same, get_or-set_other, eqb→eq, eq-eqb, ne_eqb, ltb-true, ltb-false}
+use Rattle.std.specs.Prelude.{ℕ, zero, suc, ◌+◌, ◌-◌, ◌≤◌, ◌<◌, ◌≡◌, refl, ◌≢◌, List, [], ◌∷◌, Bool, true, false, ◌||◌, length, get_or, set, T, ltb, eqb}
+use Rattle.std.proofs.Common.{add-one, arith, le_trans, sym, ap, ap₂, ◌∙◌, inl, inr, ⊎_elim, get_or-set_same, get_or-set_other, ne_eqb, ltb-true, ltb-false}
 use Rattle.std.proofs.Math.Path.{subst}
 use Rattle.sifc_err.specs.declared.Refusal.{Refusal}
 use Rattle.sifc_err.specs.declared.Token.{Token}
 use Rattle.sifc_word.specs.Base.{if◌then◌else◌}
 use Rattle.sifc_def.specs.declared.Err.{Err}
 use Rattle.sifc_def.specs.declared.Why.TheVariants.{InvalidIfStmt}
-use Rattle.sifc_def.specs.State.{Node, node, Ctx, St, Out, done, fail, refuse, M, Void, go_on, tok_at}
+use Rattle.sifc_def.specs.State.{Node, Ctx, St, Out, done, refuse, M, go_on, tok_at}
 use Rattle.sifc_def.specs.Symbols.{set_check}
-use Rattle.sifc_symtab.specs.Toks.{toks_of, toks-at, length-toks}
-use Rattle.sifc_step.specs.declared.walk.Limits.{Limits}
+use Rattle.sifc_symtab.specs.Toks.{toks-at}
 use Rattle.sifc_step.specs.declared.walk.Walk.{Walk}
 use Rattle.sifc_step.specs.declared.walk.Target.{Target}
 use Rattle.sifc_step.specs.declared.walk.Parsed.{Parsed}
 use Rattle.sifc_step.specs.declared.walk.Parsed.TheVariants.{Done, Failed, Refused}
-use Rattle.sifc_step.specs.Abs.{Inp, Mem, inp, mem, Rooms, rooms_of, kind_in, flag_in, kids_in, node_in, nodes_of, ctx, ctx_of, abs, listed_by, with_err, outcome_of, kind_at, Tokens, Stands, Ready, Fine, Broke, FineOf, Gives, void, many, DoesAs, Does, Counts, count_of, Sure, Lost, ThereOf, checked_by, counted_by}
+use Rattle.sifc_step.specs.Abs.{Inp, Mem, mem, Rooms, rooms_of, node_in, nodes_of, ctx, ctx_of, abs, outcome_of, kind_at, Tokens, Stands, Ready, Fine, FineOf, Gives, many, DoesAs, count_of, Sure, Lost, ThereOf, checked_by, counted_by}
 use Rattle.sifc_step.specs.Small.{node_of, newest}
 
 -- ── the tokens that the words stand for ──

@@ -2,7 +2,7 @@
 use Prim.Native.Nat.{ℕ, suc, ◌+◌, ◌*◌, ◌-◌, ◌≤◌, ◌<◌}
 use mathlib.Core.Path.{◌≡◌, sym, ap, subst, ◌∙◌}
 use native.Mathlib.Omega.{arith}
-use Rattle.sifc_symtab.specs.Chains.{Before, Leads, First, In, Behind, Chains}
+use Rattle.sifc_symtab.specs.Chains.{Leads, First, In, Behind, Chains}
 use Rattle.sifc_symtab.proofs.Cases.{by-eq, by-lt}
 
 -- ── the first of some entries ──

@@ -2,20 +2,19 @@
 use Prim.Native.Nat.{ℕ, suc, ◌+◌, ◌*◌, ◌-◌, ◌/◌, ◌%◌, ◌≤◌, ◌<◌, min}
 use mathlib.Core.Path.{◌≡◌, refl, sym, ap, ap₂, subst, ◌∙◌}
 use mathlib.Core.List.{List, [], ◌∷◌, ◌++◌}
-use mathlib.Core.Bool.{true, false}
 use native.Mathlib.Omega.{arith}
 use native.Mathlib.Nat.{zero-add}
 use native.Mathlib.Numerals.{add-one}
 use borrow.Author.Tests.{le-leb, lt-leb}
-use lib.ListN.{length, get_or, length-append}
+use lib.ListN.{length, length-append}
 use Rattle.sifc_def.specs.declared.What.{What}
 use Rattle.sifc_def.specs.State.{Sym}
 use Rattle.sifc_def.specs.Symbols.{put_at}
 use Rattle.sifc_symtab.specs.declared.symtab.Stored.TheVariants.{At, Full}
 use Rattle.sifc_symtab.specs.declared.symtab.Spot.{Spot}
-use Rattle.sifc_symtab.specs.Chains.{First, In, Behind, Chains}
+use Rattle.sifc_symtab.specs.Chains.{In, Behind, Chains}
 use Rattle.sifc_symtab.specs.Table.{name_in, level_at, token_in, hash_at, next_at, head_at, hash_of, sym_at, listed, syms_of, room_of, entered, with_next, with_head, buckets_of, bucket_at, linked, Holds, Fits, new_table, Stores}
-use Rattle.sifc_symtab.specs.Seek.{Hit, Seeking, Sought, Nearest, Best, InsertAt, Inserts}
+use Rattle.sifc_symtab.specs.Seek.{Hit, Sought, Nearest, Best, InsertAt, Inserts}
 use Rattle.sifc_symtab.specs.Laws.{listed-ext, listed-last, length-listed}
 use Rattle.sifc_symtab.proofs.Cases.{by-eq, by-lt}
 use Rattle.sifc_symtab.proofs.Chains.{Grown, chains-front, chains-behind, chains-same, all-below}

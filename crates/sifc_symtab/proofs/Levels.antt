@@ -1,21 +1,19 @@
 -- The entry with the highest level is what the definition's walk down the levels finds, and what a store overwrites.
 use Prim.Native.Nat.{ℕ, zero, suc, ◌+◌, ◌≤◌, ◌<◌}
-use mathlib.Core.Path.{◌≡◌, refl, sym, ap, ap₂, subst, ◌∙◌}
+use mathlib.Core.Path.{◌≡◌, refl, sym, ap, ap₂, ◌∙◌}
 use mathlib.Core.List.{List, [], ◌∷◌, ◌++◌}
-use mathlib.Core.Option.{Option, none, some}
+use mathlib.Core.Option.{none, some}
 use mathlib.Core.Bool.{Bool, true, false}
 use native.Mathlib.Omega.{arith}
-use borrow.Author.Tests.{eqb-true, eqb-false, eq-eqb, ne_eqb}
-use lib.Dec.{eqb}
+use borrow.Author.Tests.{eq-eqb, ne_eqb}
 use Rattle.sifc_word.specs.Base.{same}
 use Rattle.sifc_def.specs.declared.What.{What}
 use Rattle.sifc_def.specs.State.{Sym}
 use Rattle.sifc_def.specs.Symbols.{is_sym, find_at, find, put_at}
 use Rattle.sifc_symtab.specs.Table.{listed}
-use Rattle.sifc_symtab.specs.Seek.{Hit, Nearest, Best}
+use Rattle.sifc_symtab.specs.Seek.{Hit, Nearest}
 use Rattle.sifc_symtab.specs.Laws.{listed-ext}
 use Rattle.sifc_symtab.proofs.Cases.{by-eq}
-use Rattle.sifc_symtab.proofs.Seek.{false-true}
 
 -- ── the entry of a level and a name ──
 

@@ -1,5 +1,5 @@
 -- The walk along a chain, and what it finds.
-use Prim.Native.Nat.{ℕ, zero, suc, ◌+◌, ◌*◌, ◌-◌, ◌%◌, ◌≤◌, ◌<◌, min}
+use Prim.Native.Nat.{ℕ, zero, suc, ◌+◌, ◌*◌, ◌-◌, ◌%◌, ◌≤◌, ◌<◌}
 use mathlib.Core.Path.{◌≡◌, refl, sym, ap, subst, ◌∙◌}
 use mathlib.Core.List.{List, [], ◌∷◌}
 use mathlib.Core.Bool.{Bool, true, false, ◌&&◌}
@@ -8,9 +8,9 @@ use borrow.Author.Tests.{eqb-true}
 use lib.Dec.{eqb}
 use Rattle.sifc_word.specs.Base.{same}
 use Rattle.sifc_def.specs.State.{Sym}
-use Rattle.sifc_symtab.specs.Chains.{Before, First, In, Behind, Chains}
-use Rattle.sifc_symtab.specs.Table.{level_at, hash_at, hash_of, name_in, token_in, sym_at, buckets_of, bucket_at, linked, Holds}
-use Rattle.sifc_symtab.specs.Seek.{Hit, Stops, Hashed, Ahead, Follows, Seeking, Nearest, Best, FoundAt, Nearer}
+use Rattle.sifc_symtab.specs.Chains.{Behind, Chains}
+use Rattle.sifc_symtab.specs.Table.{hash_at, hash_of, name_in, token_in, sym_at, buckets_of, bucket_at, linked, Holds}
+use Rattle.sifc_symtab.specs.Seek.{Hit, Stops, Hashed, Ahead, Follows, Seeking, Nearest, Best, Nearer}
 use Rattle.sifc_symtab.proofs.Cases.{by-eq, by-lt}
 
 -- the two truth values differ

@@ -1,5 +1,5 @@
 -- The walk along a chain and what follows it, over the symbols' words.
-use Prim.Native.Nat.{ℕ, zero, suc, ◌+◌, ◌*◌, ◌-◌, ◌%◌, ◌≤◌, ◌<◌, min}
+use Prim.Native.Nat.{ℕ, suc, ◌+◌, ◌*◌, ◌-◌, ◌%◌, ◌≤◌, ◌<◌, min}
 use mathlib.Core.Path.{◌≡◌, refl, sym, ap, subst, ◌∙◌}
 use mathlib.Core.List.{List}
 use mathlib.Core.Bool.{Bool, true, false}
@@ -9,9 +9,8 @@ use lib.Dec.{ltb}
 use lib.ListN.{length}
 use Rattle.sifc_def.specs.State.{Sym}
 use Rattle.sifc_symtab.specs.declared.symtab.Spot.{Spot}
-use Rattle.sifc_symtab.specs.Chains.{In}
-use Rattle.sifc_symtab.specs.Table.{level_at, hash_at, next_at, head_at, hash_of, sym_at, buckets_of, bucket_at, linked, Holds}
-use Rattle.sifc_symtab.specs.Seek.{Hit, Stops, Hashed, Seeking, Seeks, Sought, Best, FoundAt, Nearer}
+use Rattle.sifc_symtab.specs.Table.{level_at, next_at, head_at, hash_of, sym_at, buckets_of, bucket_at, linked, Holds}
+use Rattle.sifc_symtab.specs.Seek.{Hit, Stops, Hashed, Seeks, Sought, Best, FoundAt, Nearer}
 use Rattle.sifc_symtab.proofs.Cases.{by-eq, by-lt}
 use Rattle.sifc_symtab.proofs.Hash.{bucket-in}
 use Rattle.sifc_symtab.proofs.Seek.{reach, seeking-start, seeking-none, seeking-next, reach-less, best-end, best-low, best-here, hit-bucket, nearer-miss, nearer-hit}

@@ -1,6 +1,6 @@
 -- The parts of the symbols' words after a symbol or a link is written.
-use Prim.Native.Nat.{ℕ, suc, ◌+◌, ◌*◌, ◌/◌, ◌%◌, ◌≤◌, ◌<◌}
-use mathlib.Core.Path.{◌≡◌, refl, sym, ap, ap₂, ◌∙◌}
+use Prim.Native.Nat.{ℕ, ◌+◌, ◌*◌, ◌/◌, ◌%◌, ◌≤◌, ◌<◌}
+use mathlib.Core.Path.{◌≡◌, refl, sym, ap, ◌∙◌}
 use mathlib.Core.List.{List}
 use mathlib.Core.Bool.{true, false}
 use native.Mathlib.Omega.{arith}
@@ -9,7 +9,6 @@ use lib.Seq.{get_or-set_same, get_or-set_other}
 use Rattle.sifc_word.specs.Base.{if◌then◌else◌}
 use Rattle.sifc_def.specs.declared.What.{What}
 use Rattle.sifc_def.specs.declared.What.TheVariants.{Placeholder, Function, Variable, Other}
-use Rattle.sifc_def.specs.State.{Sym}
 use Rattle.sifc_symtab.specs.Table.{name_in, what_of, tag_of, value_of, level_at, value_at, token_in, tag_at, hash_at, next_at, head_at, sym_at, entered, with_next, with_head, buckets_of, Opens}
 use Rattle.sifc_symtab.proofs.Cases.{by-eq}
 

@@ -3,7 +3,7 @@ use Rattle.std.specs.Prelude.{ℕ, suc, ◌+◌, ◌*◌, ◌%◌, ◌≤◌, �
 use Rattle.sifc_word.specs.Base.{same}
 use Rattle.sifc_def.specs.State.{Sym}
 use Rattle.sifc_symtab.specs.declared.symtab.Spot.{Spot}
-use Rattle.sifc_symtab.specs.Chains.{In, Behind}
+use Rattle.sifc_symtab.specs.Chains.{In}
 use Rattle.sifc_symtab.specs.Table.{level_at, hash_at, next_at, head_at, hash_of, name_in, token_in, sym_at, buckets_of, bucket_at, linked, with_next, with_head}
 
 -- an entry of the name s, of a level from low to high

@@ -1,4 +1,3 @@
-use borrow.Author.Rules.{rules}
 use Rattle.sifc_lent.proofs.Fronts.{front-none}
 use Rattle.sifc_lent.proofs.clear.clear.Goals as goal
 

@@ -1,4 +1,3 @@
-use borrow.Author.Rules.{rules}
 use Rattle.sifc_lent.proofs.PartLaws.{same-arrays}
 use Rattle.sifc_lent.proofs.clear.clear_all.Goals as goal
 

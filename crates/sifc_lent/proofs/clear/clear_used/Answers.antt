@@ -1,4 +1,3 @@
-use borrow.Author.Rules.{rules}
 use Rattle.sifc_lent.proofs.Fronts.{six-cleared}
 use Rattle.sifc_lent.proofs.clear.clear_used.Goals as goal
 

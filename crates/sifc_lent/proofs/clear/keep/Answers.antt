@@ -1,4 +1,3 @@
-use borrow.Author.Rules.{rules}
 use Rattle.sifc_lent.proofs.Fronts.{front_kept}
 use Rattle.sifc_lent.proofs.clear.keep.Goals as goal
 

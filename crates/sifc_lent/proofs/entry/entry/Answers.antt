@@ -1,4 +1,3 @@
-use borrow.Author.Rules.{rules}
 use mathlib.Core.Path.{sym, ◌∙◌}
 use Rattle.sifc_lent.proofs.Fronts.{entry-passed, entry-uneven, entry-refused}
 use Rattle.sifc_lent.proofs.entry.entry.Goals as goal

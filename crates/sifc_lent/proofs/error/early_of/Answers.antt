@@ -1,4 +1,3 @@
-use borrow.Author.Rules.{rules}
 use mathlib.Core.Path.{ap}
 use Rattle.sifc_def.specs.declared.Early.TheVariants.{By}
 use Rattle.sifc_lent.proofs.error.early_of.Goals as goal

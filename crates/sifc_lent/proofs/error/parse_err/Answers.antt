@@ -1,4 +1,3 @@
-use borrow.Author.Rules.{rules}
 use Rattle.sifc_symtab.specs.Toks.{toks_of}
 use Rattle.sifc_lent.proofs.PartLaws.{parsed-bare}
 use Rattle.sifc_lent.proofs.error.parse_err.Goals as goal

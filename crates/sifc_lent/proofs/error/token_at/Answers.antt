@@ -1,4 +1,3 @@
-use borrow.Author.Rules.{rules}
 use mathlib.Core.Path.{sym}
 use Rattle.sifc_symtab.specs.Toks.{toks-past-offs, toks-past-words}
 use Rattle.sifc_lent.proofs.Fronts.{token-in}

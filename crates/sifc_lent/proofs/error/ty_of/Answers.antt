@@ -1,4 +1,3 @@
-use borrow.Author.Rules.{rules}
 use mathlib.Core.Path.{refl, ap}
 use Rattle.sifc_err.specs.declared.parse_err.ParseErrTy.TheVariants as Ty
 use Rattle.sifc_lent.proofs.error.ty_of.Goals as goal

@@ -1,7 +1,5 @@
-use borrow.Author.Rules.{rules}
 use native.Mathlib.Omega.{arith}
-use Prim.Native.Nat.{◌-◌}
-use Rattle.sifc_lent.proofs.Spots.{Placing, placing, placing-long, placing-more, placed, place-small}
+use Rattle.sifc_lent.proofs.Spots.{placing, placing-long, placing-more, placed, place-small}
 use Rattle.sifc_lent.proofs.place.set_places.Goals as goal
 
 pub loop-i-init : goal.loop-i-init

@@ -1,4 +1,3 @@
-use borrow.Author.Rules.{rules}
 use Rattle.sifc_step.specs.SmallLaws.{throw-here}
 use Rattle.sifc_step.proofs.step.add_error.Goals as goal
 

@@ -1,4 +1,3 @@
-use borrow.Author.Rules.{rules}
 use Rattle.sifc_step.specs.SmallLaws.{throw-listed, throw-full}
 use Rattle.sifc_step.proofs.step.add_error_w_pos.Goals as goal
 

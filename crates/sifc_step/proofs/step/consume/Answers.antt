@@ -1,6 +1,5 @@
-use borrow.Author.Rules.{rules}
 use native.Mathlib.Omega.{arith}
-use mathlib.Core.Path.{ap, sym, ◌∙◌, refl}
+use mathlib.Core.Path.{sym, ◌∙◌}
 use Rattle.sifc_step.specs.Steps.{not_last}
 use Rattle.sifc_step.specs.SmallLaws.{consume-stays, consume-moves, consume-faults}
 use Rattle.sifc_step.proofs.step.consume.Goals as goal

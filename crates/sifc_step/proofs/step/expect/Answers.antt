@@ -1,4 +1,3 @@
-use borrow.Author.Rules.{rules}
 use mathlib.Core.Path.{sym, ◌∙◌}
 use Rattle.sifc_step.specs.SmallLaws.{expect-yes, expect-no}
 use Rattle.sifc_step.proofs.step.expect.Goals as goal

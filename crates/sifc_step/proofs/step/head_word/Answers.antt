@@ -1,4 +1,3 @@
-use borrow.Author.Rules.{rules}
 use mathlib.Core.Path.{refl}
 use Rattle.sifc_step.specs.SmallLaws.{word-plain, word-marked}
 use Rattle.sifc_step.proofs.step.head_word.Goals as goal

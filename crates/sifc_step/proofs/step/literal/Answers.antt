@@ -1,7 +1,6 @@
-use borrow.Author.Rules.{rules}
 use Rattle.sifc_step.proofs.Tags.{not_done}
 use native.Mathlib.Omega.{arith}
-use mathlib.Core.Path.{◌≡◌, refl, sym, ap, ◌∙◌}
+use mathlib.Core.Path.{refl, sym, ap, ◌∙◌}
 use mathlib.Core.Bool.{false}
 use Rattle.sifc_def.specs.State.{consume, push}
 use Rattle.sifc_def.specs.Expr.{literal as literal_of}

@@ -1,4 +1,3 @@
-use borrow.Author.Rules.{rules}
 use borrow.Author.Tests.{eq-eqb, ne_eqb}
 use Rattle.sifc_word.specs.Base.{if◌then◌else◌, member}
 use Rattle.sifc_def.specs.Expr.{looseness}

@@ -1,4 +1,3 @@
-use borrow.Author.Rules.{rules}
 use mathlib.Core.Path.{sym, ◌∙◌}
 use Rattle.sifc_step.specs.SmallLaws.{ident-there, ident-missed, ident-full, ident-full-second}
 use Rattle.sifc_step.proofs.step.match_ident.Goals as goal

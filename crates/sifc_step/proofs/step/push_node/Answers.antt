@@ -1,4 +1,3 @@
-use borrow.Author.Rules.{rules}
 use native.Mathlib.Omega.{arith}
 use Rattle.sifc_step.specs.SmallLaws.{push-done, push-full}
 use Rattle.sifc_step.proofs.step.push_node.Goals as goal

@@ -1,4 +1,3 @@
-use borrow.Author.Rules.{rules}
 use Rattle.sifc_step.specs.SmallLaws.{put-done, put_full}
 use Rattle.sifc_step.proofs.step.store_name.Goals as goal
 

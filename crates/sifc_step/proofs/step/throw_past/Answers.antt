@@ -1,6 +1,4 @@
-use borrow.Author.Rules.{rules}
 use Rattle.sifc_step.proofs.Tags.{not_done}
-use mathlib.Core.Path.{sym, subst}
 use Rattle.sifc_step.specs.SmallLaws.{stands-more, past-stops, past-fails, past-full}
 use Rattle.sifc_step.proofs.step.throw_past.Goals as goal
 

@@ -1,4 +1,3 @@
-use borrow.Author.Rules.{rules}
 use Rattle.sifc_step.specs.SmallLaws.{top-none, top-some}
 use Rattle.sifc_step.proofs.step.top.Goals as goal
 

@@ -1,4 +1,3 @@
-use borrow.Author.Rules.{rules}
 use Rattle.sifc_symtab.specs.Table.{value_of}
 use Rattle.sifc_symtab.proofs.entry.value_of.Goals as goal
 

@@ -1,6 +1,5 @@
-use borrow.Author.Rules.{rules}
 use native.Mathlib.Omega.{arith}
-use Prim.Native.Nat.{ℕ, suc, ◌-◌, ◌<◌, ◌≤◌}
+use Prim.Native.Nat.{ℕ, ◌-◌, ◌<◌, ◌≤◌}
 use mathlib.Core.Path.{◌≡◌, refl, subst}
 use Rattle.sifc_symtab.specs.Table.{level_at}
 use Rattle.sifc_symtab.proofs.symtab.found_at.Goals as goal

@@ -1,6 +1,6 @@
 use native.Mathlib.Omega.{arith}
-use Prim.Native.Nat.{ℕ, ◌+◌, ◌-◌, ◌<◌, min}
-use mathlib.Core.Path.{◌≡◌, refl, sym, subst, ◌∙◌}
+use Prim.Native.Nat.{ℕ, ◌+◌, min}
+use mathlib.Core.Path.{◌≡◌, sym, subst}
 use Rattle.sifc_symtab.specs.Table.{sym_at}
 use Rattle.sifc_symtab.specs.Seek.{Best}
 use Rattle.sifc_symtab.proofs.Seek.{best-take, best-keep}
@@ -26,12 +26,12 @@ loop-k-smaller c = omega arith
 pub loop-k-preserved : goal.loop-k-preserved
 loop-k-preserved c =
     elim c.if-nearer.branch [
-        then-nearer w ↦ subst (λ (x : ℕ). Best (sym_at c.args.script.now c.args.offs.now c.args.words.now c.args.symbols.now) c.args.low c.args.high c.args.sought.now c.args.n (min c.args.n (c.loop-k.k + 1)) x) (sym w.best-is) (subst (λ (x : ℕ). Best (sym_at c.args.script.now c.args.offs.now c.args.words.now c.args.symbols.now) c.args.low c.args.high c.args.sought.now c.args.n x c.loop-k.k) (let z : c.loop-k.k + 1 ≡ min c.args.n (c.loop-k.k + 1) = omega (arith, c.loop-k-test.true) in
-    z) (best-take (sym_at c.args.script.now c.args.offs.now c.args.words.now c.args.symbols.now) c.args.low c.args.high c.args.sought.now c.args.n c.loop-k.k c.loop-k.best (subst (λ (x : ℕ). Best (sym_at c.args.script.now c.args.offs.now c.args.words.now c.args.symbols.now) c.args.low c.args.high c.args.sought.now c.args.n x c.loop-k.best) (let z : min c.args.n c.loop-k.k ≡ c.loop-k.k = omega (arith, c.loop-k-test.true) in
-    z) c.loop-k.invariant) c.loop-k-test.true (c.nearer.ensures.hit w.if-nearer.true) (c.nearer.ensures.higher w.if-nearer.true)))
-        | else-nearer w ↦ subst (λ (x : ℕ). Best (sym_at c.args.script.now c.args.offs.now c.args.words.now c.args.symbols.now) c.args.low c.args.high c.args.sought.now c.args.n (min c.args.n (c.loop-k.k + 1)) x) (sym w.best-is) (subst (λ (x : ℕ). Best (sym_at c.args.script.now c.args.offs.now c.args.words.now c.args.symbols.now) c.args.low c.args.high c.args.sought.now c.args.n x c.loop-k.best) (let z : c.loop-k.k + 1 ≡ min c.args.n (c.loop-k.k + 1) = omega (arith, c.loop-k-test.true) in
-    z) (best-keep (sym_at c.args.script.now c.args.offs.now c.args.words.now c.args.symbols.now) c.args.low c.args.high c.args.sought.now c.args.n c.loop-k.k c.loop-k.best (subst (λ (x : ℕ). Best (sym_at c.args.script.now c.args.offs.now c.args.words.now c.args.symbols.now) c.args.low c.args.high c.args.sought.now c.args.n x c.loop-k.best) (let z : min c.args.n c.loop-k.k ≡ c.loop-k.k = omega (arith, c.loop-k-test.true) in
-    z) c.loop-k.invariant) (c.nearer.ensures.miss w.if-nearer.false)))
+      | then-nearer w ↦ subst (λ (x : ℕ). Best (sym_at c.args.script.now c.args.offs.now c.args.words.now c.args.symbols.now) c.args.low c.args.high c.args.sought.now c.args.n (min c.args.n (c.loop-k.k + 1)) x) (sym w.best-is) (subst (λ (x : ℕ). Best (sym_at c.args.script.now c.args.offs.now c.args.words.now c.args.symbols.now) c.args.low c.args.high c.args.sought.now c.args.n x c.loop-k.k) (let z : c.loop-k.k + 1 ≡ min c.args.n (c.loop-k.k + 1) = omega (arith, c.loop-k-test.true) in
+          z) (best-take (sym_at c.args.script.now c.args.offs.now c.args.words.now c.args.symbols.now) c.args.low c.args.high c.args.sought.now c.args.n c.loop-k.k c.loop-k.best (subst (λ (x : ℕ). Best (sym_at c.args.script.now c.args.offs.now c.args.words.now c.args.symbols.now) c.args.low c.args.high c.args.sought.now c.args.n x c.loop-k.best) (let z : min c.args.n c.loop-k.k ≡ c.loop-k.k = omega (arith, c.loop-k-test.true) in
+          z) c.loop-k.invariant) c.loop-k-test.true (c.nearer.ensures.hit w.if-nearer.true) (c.nearer.ensures.higher w.if-nearer.true)))
+      | else-nearer w ↦ subst (λ (x : ℕ). Best (sym_at c.args.script.now c.args.offs.now c.args.words.now c.args.symbols.now) c.args.low c.args.high c.args.sought.now c.args.n (min c.args.n (c.loop-k.k + 1)) x) (sym w.best-is) (subst (λ (x : ℕ). Best (sym_at c.args.script.now c.args.offs.now c.args.words.now c.args.symbols.now) c.args.low c.args.high c.args.sought.now c.args.n x c.loop-k.best) (let z : c.loop-k.k + 1 ≡ min c.args.n (c.loop-k.k + 1) = omega (arith, c.loop-k-test.true) in
+          z) (best-keep (sym_at c.args.script.now c.args.offs.now c.args.words.now c.args.symbols.now) c.args.low c.args.high c.args.sought.now c.args.n c.loop-k.k c.loop-k.best (subst (λ (x : ℕ). Best (sym_at c.args.script.now c.args.offs.now c.args.words.now c.args.symbols.now) c.args.low c.args.high c.args.sought.now c.args.n x c.loop-k.best) (let z : min c.args.n c.loop-k.k ≡ c.loop-k.k = omega (arith, c.loop-k-test.true) in
+          z) c.loop-k.invariant) (c.nearer.ensures.miss w.if-nearer.false)))
     ]
 
 pub returns : goal.returns

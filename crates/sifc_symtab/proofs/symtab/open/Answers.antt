@@ -1,9 +1,5 @@
-use borrow.Author.Rules.{rules}
 use native.Mathlib.Omega.{arith}
-use Prim.Native.Nat.{ℕ, ◌-◌}
-use lib.ListN.{length, length-set}
-use Rattle.sifc_symtab.specs.Table.{buckets_of}
-use Rattle.sifc_symtab.proofs.Words.{Opening, opening, opening-more, opening-end}
+use Rattle.sifc_symtab.proofs.Words.{opening, opening-more, opening-end}
 use Rattle.sifc_symtab.proofs.symtab.open.Goals as goal
 
 pub loop-b-init : goal.loop-b-init

@@ -1,9 +1,6 @@
-use borrow.Author.Rules.{rules}
-use native.Mathlib.Omega.{arith}
-use Prim.Native.Nat.{ℕ, ◌-◌}
-use lib.ListN.{length, length-set}
+use Prim.Native.Nat.{◌-◌}
 use Rattle.sifc_symtab.specs.Table.{buckets_of}
-use Rattle.sifc_symtab.proofs.Words.{Opening, opening, opening-more, opening-end}
+use Rattle.sifc_symtab.proofs.Words.{Opening}
 use Rattle.sifc_symtab.proofs.symtab.open.Given as goal
 
 abbrev pub invariant-loop-b : goal.invariant-loop-b

@@ -1,10 +1,6 @@
-use borrow.Author.Rules.{rules}
-use native.Mathlib.Omega.{arith}
 use Rattle.sifc_symtab.specs.Table.{level_at}
 use Rattle.sifc_symtab.specs.Seek.{Seeks}
-use Rattle.sifc_symtab.proofs.Hash.{bucket-room}
 use Rattle.sifc_symtab.proofs.Seek.{reach}
-use Rattle.sifc_symtab.proofs.Walk.{walk_none, walk_start, walk-room, walk-hashed, walk-stop, walk-on, walk-less, walk_end}
 use Rattle.sifc_symtab.proofs.symtab.seek.Given as goal
 
 abbrev pub invariant-loop-at : goal.invariant-loop-at

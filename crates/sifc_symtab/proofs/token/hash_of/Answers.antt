@@ -1,7 +1,5 @@
 use native.Mathlib.Omega.{arith}
-use Prim.Native.Nat.{◌-◌}
-use lib.ListN.{length}
-use Rattle.sifc_symtab.proofs.Hash.{Hashing, hashing-none, hashing-more, hashing-end}
+use Rattle.sifc_symtab.proofs.Hash.{hashing-none, hashing-more, hashing-end}
 use Rattle.sifc_symtab.proofs.token.hash_of.Goals as goal
 
 pub loop-i-init : goal.loop-i-init

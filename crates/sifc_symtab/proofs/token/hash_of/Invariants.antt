@@ -1,7 +1,6 @@
-use native.Mathlib.Omega.{arith}
 use Prim.Native.Nat.{◌-◌}
 use lib.ListN.{length}
-use Rattle.sifc_symtab.proofs.Hash.{Hashing, hashing-none, hashing-more, hashing-end}
+use Rattle.sifc_symtab.proofs.Hash.{Hashing}
 use Rattle.sifc_symtab.proofs.token.hash_of.Given as goal
 
 abbrev pub invariant-loop-i : goal.invariant-loop-i
