@@ -1,22 +1,9 @@
-use borrow.Author.Rules.{rules}
-use Prim.Native.Nat.{◌-◌, ◌≤◌, suc}
-use borrow.Author.Tests.{eq-eqb, ne_eqb}
-use native.Mathlib.Omega.{arith}
-use mathlib.Core.Path.{refl, sym, ap, ◌∙◌}
-use lib.Dec.{eqb}
+use Prim.Native.Nat.{◌-◌, ◌≤◌}
 use lib.ListN.{length}
-use Rattle.sifc_def.specs.declared.Why.TheVariants.{InvalidTknMsg}
-use Rattle.sifc_def.specs.State.{consume, throw}
-use Rattle.sifc_def.specs.Expr.{fuel}
 use Rattle.sifc_def.specs.Stmt.{comma_list}
 use Rattle.sifc_def.specs.Walk.{walkers}
-use Rattle.sifc_step.specs.declared.walk.Walk.{Walk}
 use Rattle.sifc_step.specs.Abs.{inp, mem}
-use Rattle.sifc_step.specs.Steps.{same, begin, blank, blanks, gives, go, stop, last, read, yes, no, test, not-eof, ahead_of, counted}
-use Rattle.sifc_step.specs.SmallLaws.{pass, thrown-counting}
-use Rattle.sifc_step.specs.Loops.{Looping, looping, turn, turn-own, onward}
-use Rattle.sifc_stmt.proofs.Tags.{not_done}
-use Rattle.sifc_declare.proofs.Ends.{optional-no, optional-yes, counted_next, recount-commas, none_within}
+use Rattle.sifc_step.specs.Loops.{Looping}
 use Rattle.sifc_stmt.proofs.decl.array_items.Given as goal
 
 abbrev pub invariant-loop-lim : goal.invariant-loop-lim
