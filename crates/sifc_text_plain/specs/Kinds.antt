@@ -1,5 +1,5 @@
 -- The kinds of things that the writers of declarations and of statements without a block promise.
-use Rattle.std.specs.Prelude.{ℕ, List, [], ◌∷◌, ◌++◌}
+use Rattle.std.specs.Prelude.{ℕ, List, ◌∷◌, ◌++◌}
 use Rattle.sifc_def.specs.State.{W}
 use Rattle.sifc_def.specs.Ast.{VarDecl, ReturnStmt, ExprStmt}
 use Rattle.sifc_def.proofs.Typed.{Expr, Exprs, Items, pr, prs, pr_items, lb, rb, eq, comma, semi, arrow, dlb, drb, var_word, return_word}

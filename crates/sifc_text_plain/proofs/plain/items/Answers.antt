@@ -1,12 +1,11 @@
-use borrow.Author.Rules.{rules}
 use Prim.Native.Nat.{◌-◌}
 use native.Mathlib.Omega.{arith}
 use mathlib.Core.Path.{◌≡◌, ◌∙◌}
 use Rattle.sifc_put.specs.Place.{inp}
 use Rattle.sifc_put.specs.Post.{fixed, seq, list_l, comma}
-use Rattle.sifc_put.specs.Frame.{Part, opening, spot, stop, put, here, empty, cut-seq, fixed-low}
+use Rattle.sifc_put.specs.Frame.{opening, spot, stop, put, here, empty, cut-seq, fixed-low}
 use Rattle.sifc_put.specs.Rows.{cut_list, no-list}
-use Rattle.sifc_text_plain.specs.Kinds.{item_l, items_l}
+use Rattle.sifc_text_plain.specs.Kinds.{item_l}
 use Rattle.sifc_text_plain.proofs.Forms.{some_left, item-low}
 use Rattle.sifc_text_plain.proofs.plain.items.Goals as goal
 

@@ -1,11 +1,9 @@
-use borrow.Author.Rules.{rules}
 use Prim.Native.Nat.{◌-◌}
 use native.Mathlib.Omega.{arith}
 use mathlib.Core.Path.{◌≡◌, ◌∙◌}
 use Rattle.sifc_put.specs.Post.{fixed, leaf_l, seq, list_l, comma}
-use Rattle.sifc_put.specs.Frame.{Part, opening, spot, stop, put, here, empty, cut-seq, fixed-low, leaf-low}
+use Rattle.sifc_put.specs.Frame.{opening, spot, stop, put, here, empty, cut-seq, fixed-low, leaf-low}
 use Rattle.sifc_put.specs.Rows.{cut_list, no-list}
-use Rattle.sifc_text_plain.specs.Kinds.{names_l}
 use Rattle.sifc_text_plain.proofs.Forms.{some_left}
 use Rattle.sifc_text_plain.proofs.plain.names.Goals as goal
 
