@@ -1,6 +1,6 @@
 -- A list of scripts, as the programs that replay stored answers read it: a script's length in decimal, a newline, the script, a newline, and so on.
 use Rattle.std.specs.Prelude.{ℕ, ◌+◌, ◌-◌, ◌*◌, ◌%◌, List, [], ◌∷◌, Bool, ◌&&◌, ◌||◌, leb, length, drop}
-use Rattle.sifc_word.specs.Base.{if◌then◌else◌, within}
+use Rattle.sifc_word.specs.Base.{if◌then◌otherwise◌, within}
 use Rattle.sif_show.specs.declared.entries.Number.{Number}
 use Rattle.sif_show.specs.declared.entries.Entry.{Entry}
 
@@ -17,9 +17,9 @@ goes v b = within 48 57 b && leb v 9999
 
 -- the number at the front of the bytes, after digits that make v and end at index i
 unfoldable pub number_in : ℕ → ℕ → List ℕ → Number
-unfolding if◌then◌else◌ goes
+unfolding if◌then◌otherwise◌ goes
 number_in v i [] = number v i
-number_in v i (b ∷ bs) = if goes v b then number_in (v * 10 + b % 16) (i + 1) bs else number v i
+number_in v i (b ∷ bs) = if goes v b then number_in (v * 10 + b % 16) (i + 1) bs otherwise number v i
 
 -- the number at an index of the list, and the index after its digits
 unfoldable pub number_at : List ℕ → ℕ → Number
@@ -28,11 +28,11 @@ number_at list at = number_in 0 at (drop at list)
 
 -- the script after the number n and its newline; one that is cut off is empty, at the list's end
 unfoldable pub entry_after : List ℕ → Number → Entry
-unfolding if◌then◌else◌
+unfolding if◌then◌otherwise◌
 entry_after list n =
     if leb (length list) n.next || leb (length list - n.next) n.value
     then entry (length list) (length list)
-    else entry (n.next + 1) (n.next + 1 + n.value)
+    otherwise entry (n.next + 1) (n.next + 1 + n.value)
 
 -- where the script whose entry is at an index begins and ends
 unfoldable pub entry_at : List ℕ → ℕ → Entry

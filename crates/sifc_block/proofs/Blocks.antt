@@ -9,7 +9,7 @@ use lib.ListN.{length, get_or, set, length-set}
 use lib.Dec.{ltb, eqb}
 use borrow.Author.Tests.{lt-ltb, le-ltb, ne_eqb}
 use Rattle.sifc_err.specs.declared.Refusal.TheVariants.{ErrorsFull}
-use Rattle.sifc_word.specs.Base.{if◌then◌else◌}
+use Rattle.sifc_word.specs.Base.{if◌then◌otherwise◌}
 use Rattle.sifc_def.specs.declared.Err.{Err}
 use Rattle.sifc_def.specs.declared.Why.{Why}
 use Rattle.sifc_def.specs.declared.Why.TheVariants.{InvalidIdent, InvalidTkn, InvalidTknMsg, InvalidAssign, InvalidForStmt, InvalidIfStmt, TknMismatch, FnParmCntExceeded, WrongFnParmCnt, UndeclSym, UnassignedVar, ExpectedIdent}
@@ -57,7 +57,7 @@ message-other m ne = rw (by_message, ne_eqb m 3 ne) refl
 
 module _ {ps rs : List ℕ} {l : Limits} {w : Walk} {elses : ℕ} where
   pub else-none : elses ≤ 1 → Elses ps rs l w elses (Done w) ps rs
-  unfolding if◌then◌else◌
+  unfolding if◌then◌otherwise◌
   else-none le = record {
     nodes = refl;
     does = λ s os ks M p. record {
@@ -71,7 +71,7 @@ module _ {ps rs : List ℕ} {l : Limits} {w : Walk} {elses : ℕ} where
   }
 
   pub else-full : 1 < elses → l.errors ≤ w.errors → Elses ps rs l w elses (Refused ErrorsFull) ps rs
-  unfolding if◌then◌else◌ add_error add_error_w_pos list go_on
+  unfolding if◌then◌otherwise◌ add_error add_error_w_pos list go_on
   else-full lt ge = record {
     nodes = tt;
     does = λ s os ks M p. record { tells = λ E e t. record { errs = E; notes = t; same = sym (rw (lt-ltb 1 elses lt, e, le-ltb _ _ ge) refl); fine = tt } };
@@ -79,7 +79,7 @@ module _ {ps rs : List ℕ} {l : Limits} {w : Walk} {elses : ℕ} where
 
   pub else-listed : 1 < elses → w.errors < l.errors → l.errors ≡ length ps → length ps ≡ length rs → {x : Walk} → x ≡ more w → {ps' rs' : List ℕ} → (ps' ≡ set ps w.errors w.at) × (rs' ≡ set rs w.errors (reason_of InvalidIfStmt))
       → Elses ps rs l w elses (Done x) ps' rs'
-  unfolding if◌then◌else◌ add_error add_error_w_pos list go_on
+  unfolding if◌then◌otherwise◌ add_error add_error_w_pos list go_on
   else-listed lt lw room even {x} ex {ps'} {rs'} d = rw (ex, d.0, d.1) (record {
     nodes = refl;
     does = λ s os ks M p. record {

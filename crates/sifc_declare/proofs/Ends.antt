@@ -9,7 +9,7 @@ use mathlib.Core.Bool.{Bool, true, false, not}
 use lib.ListN.{length}
 use lib.Dec.{eqb, ltb}
 use borrow.Author.Tests.{eq-eqb, ne_eqb}
-use Rattle.sifc_word.specs.Base.{if◌then◌else◌}
+use Rattle.sifc_word.specs.Base.{if◌then◌otherwise◌}
 use Rattle.sifc_def.specs.declared.Err.{Err}
 use Rattle.sifc_def.specs.declared.Why.{Why}
 use Rattle.sifc_def.specs.declared.Why.TheVariants.{InvalidIdent}
@@ -60,11 +60,11 @@ as_param p g = as-value tt g
 
 module _ {A : Type 0} {o₀ : Out A} {I : Inp} {n : Rooms} {k lo : ℕ} {E : List Err} {N : Mem} {w : Walk} (t : ℕ) (K : Bool → St → Out A) (p : At o₀ (go_on (optional (ctx I n) t (abs I E w N)) K) I n k lo E N w) where
   pub optional-no : (kind_at I.words w.at ≡ t → ⊥) → At o₀ (K false (abs I E w N)) I n k lo E N w
-  unfolding go_on optional if◌then◌else◌
+  unfolding go_on optional if◌then◌otherwise◌
   optional-no ne = by p (rw (kind-is I n w.at p.is.stands.toks p.is.stands.here, ne_eqb (kind_at I.words w.at) t ne) refl)
 
   pub optional-yes : kind_at I.words w.at ≡ t → At o₀ (go_on (consume (ctx I n) (abs I E w N)) (λ a. K true)) I n k lo E N w
-  unfolding go_on optional if◌then◌else◌
+  unfolding go_on optional if◌then◌otherwise◌
   optional-yes e = by p (rw (kind-is I n w.at p.is.stands.toks p.is.stands.here, eq-eqb (kind_at I.words w.at) t e) (over-over (consume (ctx I n) (abs I E w N)) (λ a. return true) K))
 
 -- ── counts ──
@@ -233,11 +233,11 @@ unfolding value_of
 fits-other i p h = record { holds = p.holds; level-fits = fits-level p; name-fits = omega (arith, h); value-fits = omega arith }
 
 pub array-none : (c : Ctx) (i n : ℕ) (s : St) → n ≡ 0 → array_and_name c i n s ≡ node_and_name c 16 i s
-unfolding array_nodes if◌then◌else◌
+unfolding array_nodes if◌then◌otherwise◌
 array-none c i n s e = rw (eq-eqb n 0 e) refl
 
 pub array-some : (c : Ctx) (i n : ℕ) (s : St) → (n ≡ 0 → ⊥) → array_and_name c i n s ≡ go_on (push c 17 false n 0 s) (λ a. node_and_name c 80 i)
-unfolding array_nodes if◌then◌else◌
+unfolding array_nodes if◌then◌otherwise◌
 array-some c i n s ne = rw (ne_eqb n 0 ne) (over-over (push c 17 false n 0 s) (λ a. push c 16 false 1 i) (λ a. store c i Other))
 
 pub table_step : {A : Type 0} (c : Ctx) (i : ℕ) (s : St) (K : Unit {0} → M A) → go_on (push c 14 false 1 i s) (λ a s'. go_on (store c i Other s') K) ≡ go_on (node_and_name c 78 i s) K

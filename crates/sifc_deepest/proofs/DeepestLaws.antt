@@ -4,7 +4,7 @@ use Rattle.std.proofs.Common.{append-nil, sym, ap, ap₂, ◌∙◌, arith, leng
 use Rattle.std.proofs.lemmas.List.{length-replicate, get_or-replicate}
 use Rattle.std.proofs.Math.ListN.{get_or-append}
 use Rattle.std.proofs.Math.Seq.{drop-length, paste, paste-zero, paste-suc}
-use Rattle.sifc_word.specs.Base.{if◌then◌else◌}
+use Rattle.sifc_word.specs.Base.{if◌then◌otherwise◌}
 use Rattle.sifc_tokens.specs.Tokens.{padded}
 use Rattle.sifc_def.proofs.OutcomeLaws.{by-test}
 use Rattle.sifc_deepest.specs.declared.DeepestAnswer.{DeepestAnswer}
@@ -15,12 +15,12 @@ use Rattle.sifc_deepest.specs.Deepest.{opening, longest, depth_of, openings, byt
 
 -- a length of 0
 pub call-zero : (n : ℕ) (b : List ℕ) → n ≡ 0 → deepest_call n b ≡ deepest_called NoLength b
-unfolding deepest_call if◌then◌else◌
+unfolding deepest_call if◌then◌otherwise◌
 call-zero n b e = rw (eq-eqb n 0 e)
 
 -- a length over 255
 pub call_long : (n : ℕ) (b : List ℕ) → longest < n → deepest_call n b ≡ deepest_called NoLength b
-unfolding deepest_call if◌then◌else◌
+unfolding deepest_call if◌then◌otherwise◌
 call_long n b h = let some : eqb n 0 ≡ false = ne_eqb n 0 (λ e. omega arith) in rw (some, lt-ltb longest n h)
 
 -- a buffer shorter than the length
@@ -32,7 +32,7 @@ call-small n b h =
 
 -- else the script and its depth
 pub call-given : (n : ℕ) (b : List ℕ) → 0 < n → n ≤ longest → n ≤ length b → deepest_call n b ≡ deepest_called (Depth (depth_of n)) (padded (openings n) (length b))
-unfolding deepest_call if◌then◌else◌
+unfolding deepest_call if◌then◌otherwise◌
 call-given n b some short room =
     let one : eqb n 0 ≡ false = ne_eqb n 0 (λ e. omega arith) in
     rw (one, le-ltb longest n short, le-ltb (length b) n room)

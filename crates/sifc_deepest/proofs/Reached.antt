@@ -9,7 +9,7 @@ use Rattle.std.proofs.lemmas.List.{length-replicate}
 use Rattle.sifc_err.specs.declared.Refusal.{Refusal}
 use Rattle.sifc_err.specs.declared.Refusal.TheVariants.{TooDeep}
 use Rattle.sifc_lex.specs.declared.lex.Step.TheVariants.{Word}
-use Rattle.sifc_word.specs.Base.{if◌then◌else◌, member}
+use Rattle.sifc_word.specs.Base.{if◌then◌otherwise◌, member}
 use Rattle.sifc_word.specs.Kind.{LeftParen, Eof, LexPanic}
 use Rattle.sifc_lex.specs.Lex.{token, before, step, on_step, lex_from, lexed, lex}
 use Rattle.sifc_def.specs.State.{Ctx, St, Out, done, refuse, M, Void, go_on, token_at, tok_at, arrive, consume}
@@ -63,7 +63,7 @@ module _ (c : Ctx) (n : ℕ) (opens : (i : ℕ) → i < n → (tok_at c i).kind 
 
   -- a `(` is taken
   consume-open : (s : St) → s.at < n → consume c s ≡ done tt (moved s)
-  unfolding consume arrive if◌then◌else◌
+  unfolding consume arrive if◌then◌otherwise◌
   consume-open s h = rw (opens s.at h, kind-of (λ k. eqb k LexPanic) refl refl (suc s.at) (omega arith))
 
   levels-deep : (k : ℕ) (u : Void) (s : St) → u s ≡ refuse TooDeep → levels c k u s ≡ refuse TooDeep
@@ -83,12 +83,12 @@ module _ (c : Ctx) (n : ℕ) (opens : (i : ℕ) → i < n → (tok_at c i).kind 
   assign-deep r s e = stays _ (levels-deep 7 r.unary s e)
 
   unary-deep : (r : Rec) (s : St) → s.at ≤ n → r.call s ≡ refuse TooDeep → unary_expr c r s ≡ refuse TooDeep
-  unfolding unary_expr is_unary if◌then◌else◌ go_on
+  unfolding unary_expr is_unary if◌then◌otherwise◌ go_on
   unary-deep r s h e = rw (kind-of is_unary refl refl s.at h, e)
 
   -- fn_call_expr at a `(` goes on to assign_expr behind it
   call-deep : (r : Rec) (s : St) → s.at < n → r.assign (moved s) ≡ refuse TooDeep → fn_call_expr c r s ≡ refuse TooDeep
-  unfolding fn_call_expr primary_expr group_expr is_literal member if◌then◌else◌ go_on
+  unfolding fn_call_expr primary_expr group_expr is_literal member if◌then◌otherwise◌ go_on
   call-deep r s h e = rw (opens s.at h, consume-open s h, e)
 
   sinks : (d : ℕ) → Sinks d
@@ -112,16 +112,16 @@ module _ (c : Ctx) (n : ℕ) (opens : (i : ℕ) → i < n → (tok_at c i).kind 
   expr-deep r s e = stays _ e
 
   stmt-deep : (r : Rec) (s : St) → s.at < n → r.assign s ≡ refuse TooDeep → stmt c r s ≡ refuse TooDeep
-  unfolding stmt if◌then◌else◌ go_on
+  unfolding stmt if◌then◌otherwise◌ go_on
   stmt-deep r s h e = rw (opens s.at h) (expr-deep r s e)
 
   decl-deep : (r : Rec) (s : St) → s.at < n → r.assign s ≡ refuse TooDeep → decl c r s ≡ refuse TooDeep
-  unfolding decl if◌then◌else◌ go_on
+  unfolding decl if◌then◌otherwise◌ go_on
   decl-deep r s h e = rw (opens s.at h) (stmt-deep r s h e)
 
   -- The walk, at every limit below three for each token, the Eof counted.
   pub walk-deep : 0 < n → (d : ℕ) → d < 3 * n + 3 → walk c d ≡ refuse TooDeep
-  unfolding walk arrive program top_decl settled if◌then◌else◌ go_on
+  unfolding walk arrive program top_decl settled if◌then◌otherwise◌ go_on
   walk-deep l d h = rw (kind-of (λ k. eqb k LexPanic) refl refl 0 (omega arith), opens 0 l, decl-deep (walkers c d) start l ((sinks d).assign n start (omega arith) h))
 
 -- The tokens of n opening parentheses are n of that kind, and Eof.

@@ -12,7 +12,7 @@ use Rattle.std.proofs.Common.{arith}
 use Rattle.std.proofs.Math.Dec.{eqb}
 use Rattle.sifc_err.specs.declared.Refusal.{Refusal}
 use Rattle.sifc_err.specs.declared.Refusal.TheVariants.{LongScript, NotAscii, Uneven, TokensFull, SourceFault, TooDeep, NodesFull, SymbolsFull, ErrorsFull, Flagged, TextFull}
-use Rattle.sifc_word.specs.Base.{if◌then◌else◌}
+use Rattle.sifc_word.specs.Base.{if◌then◌otherwise◌}
 use Rattle.sifc_word.specs.Kind.{LeftParen, LeftBrace, LeftBracket, Period, Eq, At, Eof, LexPanic}
 use Rattle.sifc_def.specs.declared.Err.{Err}
 use Rattle.sifc_def.specs.declared.Why.{Why}
@@ -70,7 +70,7 @@ module _ {A : Type 0} {P : ℕ → Type 0} where
   weaken {o = refuse r} g h = record { shallow = h.shallow }
 
   -- a branch
-  fork : (b : Bool) (m k : M A) (s : St) → (b ≡ true → Shallow P (m s)) → (b ≡ false → Shallow P (k s)) → Shallow P (if◌then◌else◌ {A = M A} b m k s)
+  fork : (b : Bool) (m k : M A) (s : St) → (b ≡ true → Shallow P (m s)) → (b ≡ false → Shallow P (k s)) → Shallow P (if◌then◌otherwise◌ {A = M A} b m k s)
   fork b m k s f g = by-test b m k (λ (x : M A). Shallow P (x s)) f g
 
 module _ (c : Ctx) (b : ℕ → ℕ) (ts : Toks c b) where
@@ -106,7 +106,7 @@ module _ (c : Ctx) (b : ℕ → ℕ) (ts : Toks c b) where
     -- ── State.antt and Symbols.antt ──
 
     -- a step that leaves the token, or is another refusal than 6
-    rests : {A : Type 0} (q : Bool) (a : A) (s : St) (r : Refusal) → On j s.at → NotDeep r → Shallow (On j) (if q then done a s else refuse r)
+    rests : {A : Type 0} (q : Bool) (a : A) (s : St) (r : Refusal) → On j s.at → NotDeep r → Shallow (On j) (if q then done a s otherwise refuse r)
     rests q a s r o n = by-test q _ _ (Shallow (On j)) (λ p. is_at o) (λ p. record { shallow = n })
 
     panic-stays : {A : Type 0} (k i : ℕ) → Stays {A = A} j (panic_at c k i)
@@ -457,7 +457,7 @@ module _ (c : Ctx) (b : ℕ → ℕ) (ts : Toks c b) where
   program-stays zero h n flag s o = end-read-stays n flag none s o
   program-stays {j} (suc f) {d} h n flag s o = search (steps, end-read-stays, settled-stays, next (λ m g. program-stays f h m g)) depth 8
     where
-      next : ((m : ℕ) (g : Bool) → Stays {A = End} j (program c f d m g)) → (x : Option Err) → Stays {A = End} j (elim x as (λ (y : Option Err). M End) [ none ↦ program c f d (suc n) flag | some e ↦ if continuable c e.why then program c f d n true else end_read c n true (some e) ])
+      next : ((m : ℕ) (g : Bool) → Stays {A = End} j (program c f d m g)) → (x : Option Err) → Stays {A = End} j (elim x as (λ (y : Option Err). M End) [ none ↦ program c f d (suc n) flag | some e ↦ if continuable c e.why then program c f d n true otherwise end_read c n true (some e) ])
       next k none s' o' = k (suc n) flag s' o'
       next k (some e) s' o' = fork _ _ _ s' (λ p. k n true s' o') (λ p. end-read-stays n true (some e) s' o')
 

@@ -1,7 +1,7 @@
 -- Document 02, ask 14: the deepest script of a length. "For a length of n bytes, 1 to 255, give a script with the greatest number of counted calls active (as in
 -- TooDeep), and that number." That the number is the greatest is shown in Depth.antt.
 use Rattle.std.specs.Prelude.{ℕ, ◌+◌, ◌*◌, List, eqb, ltb, length, replicate}
-use Rattle.sifc_word.specs.Base.{if◌then◌else◌}
+use Rattle.sifc_word.specs.Base.{if◌then◌otherwise◌}
 use Rattle.sifc_tokens.specs.Tokens.{padded}
 use Rattle.sifc_deepest.specs.declared.DeepestAnswer.{DeepestAnswer}
 use Rattle.sifc_deepest.specs.declared.DeepestAnswer.TheVariants.{Depth, NoLength}
@@ -24,8 +24,8 @@ openings n = replicate n opening
 
 -- the byte at an index of the buffer after a success
 unfoldable pub byte_at : ℕ → ℕ → ℕ
-unfolding if◌then◌else◌
-byte_at n i = if ltb i n then opening else 0
+unfolding if◌then◌otherwise◌
+byte_at n i = if ltb i n then opening otherwise 0
 
 -- an answer, and the buffer afterwards
 pub record DeepestCall : Type 0 where
@@ -38,12 +38,12 @@ deepest_called x b = record { answer = x; script = b }
 -- The call: from a length and the lent buffer to the answer and the buffer as it leaves it. "20 NoLength, at entry, for n of 0 or over 255 or a buffer shorter than
 -- n; nothing is touched." After a success the buffer is 0 past the script.
 unfoldable pub deepest_call : ℕ → List ℕ → DeepestCall
-unfolding if◌then◌else◌ padded
+unfolding if◌then◌otherwise◌ padded
 deepest_call n b =
     if eqb n 0 then deepest_called NoLength b
-    else if ltb longest n then deepest_called NoLength b
-    else if ltb (length b) n then deepest_called NoLength b
-    else deepest_called (Depth (depth_of n)) (padded (openings n) (length b))
+    otherwise if ltb longest n then deepest_called NoLength b
+    otherwise if ltb (length b) n then deepest_called NoLength b
+    otherwise deepest_called (Depth (depth_of n)) (padded (openings n) (length b))
 
 -- ── the answer in numbers, as a host sees it ──
 

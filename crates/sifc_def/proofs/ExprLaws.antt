@@ -11,7 +11,7 @@ use native.Mathlib.Omega.{arith}
 use Rattle.std.proofs.Math.Dec.{eqb, eqb-zero-suc}
 use Rattle.std.proofs.Math.ListN.{length}
 use Rattle.std.proofs.lemmas.Bool.{not-false}
-use Rattle.sifc_word.specs.Base.{if◌then◌else◌, member}
+use Rattle.sifc_word.specs.Base.{if◌then◌otherwise◌, member}
 use Rattle.sifc_word.specs.Kind.{LeftParen, RightParen, LeftBracket, RightBracket, Eq, Period, Comma, At, Ident, Eof}
 use Rattle.sifc_word.specs.Reserved.{is_std_lib_fn}
 use Rattle.sifc_def.specs.declared.Why.{Why}
@@ -68,7 +68,7 @@ module _ (c : Ctx) (b : ℕ → ℕ) (ts : Toks c b) where
   -- ── the levels ──
 
   pub loose-eof : (n k : ℕ) → eqb (looseness k) (suc n) ≡ true → eqb k Eof ≡ false
-  unfolding looseness member if◌then◌else◌
+  unfolding looseness member if◌then◌otherwise◌
   loose-eof n k e = not-eof (λ x. eqb (looseness x) (suc n)) k e (eqb-zero-suc n)
 
   -- the loop of a level: the tree that was read grows

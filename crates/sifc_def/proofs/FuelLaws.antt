@@ -6,7 +6,7 @@ use Rattle.std.specs.Prelude.{Bool, ◌≡◌, eqb, length}
 use Rattle.std.proofs.Math.Bool.{true, false}
 use Rattle.std.proofs.Math.Path.{refl}
 use native.Mathlib.Omega.{arith}
-use Rattle.sifc_word.specs.Base.{if◌then◌else◌}
+use Rattle.sifc_word.specs.Base.{if◌then◌otherwise◌}
 use Rattle.sifc_word.specs.Kind.{RightBrace, Comma, Eof}
 use Rattle.sifc_def.specs.declared.Err.{Err}
 use Rattle.sifc_def.specs.Ast.{BinaryExpr}
@@ -97,7 +97,7 @@ module _ (c : Ctx) (b : ℕ → ℕ) (ts : Toks c b) where
       branch_same _ _ _ _ _ s (λ p. refl) (λ p. go-on-same (top-far c b ts d h n s x p) (λ o s₁ y. next o s₁ y.far (λ i q z. program-enough d h f g i q s₁ z (omega (arith, y.on)) (omega (arith, y.on)))))
     where
       next : (o : Option Err) (s₁ : St) → FarOf c b ts n o s₁ → ((i : ℕ) (q : Bool) → Far c b ts i s₁ → program c f d i q s₁ ≡ program c g d i q s₁)
-          → (elim o as (λ (x : Option Err). M End) [ none ↦ program c f d (suc n) flag | some z ↦ if continuable c z.why then program c f d n true else end_read c n true (some z) ]) s₁
-          ≡ (elim o as (λ (x : Option Err). M End) [ none ↦ program c g d (suc n) flag | some z ↦ if continuable c z.why then program c g d n true else end_read c n true (some z) ]) s₁
+          → (elim o as (λ (x : Option Err). M End) [ none ↦ program c f d (suc n) flag | some z ↦ if continuable c z.why then program c f d n true otherwise end_read c n true (some z) ]) s₁
+          ≡ (elim o as (λ (x : Option Err). M End) [ none ↦ program c g d (suc n) flag | some z ↦ if continuable c z.why then program c g d n true otherwise end_read c n true (some z) ]) s₁
       next none s₁ y k = k (suc n) flag y
       next (some z) s₁ y k = branch_same _ _ _ _ _ s₁ (λ p. k n true y) (λ p. refl)

@@ -3,7 +3,7 @@ use Rattle.std.specs.Prelude.{Bool, ◌≡◌}
 use Rattle.std.proofs.Math.Bool.{true, false}
 use Rattle.std.proofs.Math.Path.{refl}
 use Rattle.sifc_err.specs.declared.Refusal.{Refusal}
-use Rattle.sifc_word.specs.Base.{if◌then◌else◌}
+use Rattle.sifc_word.specs.Base.{if◌then◌otherwise◌}
 use Rattle.sifc_def.specs.declared.Err.{Err}
 use Rattle.sifc_def.specs.State.{St, Out, done, fail, refuse, M, go_on}
 
@@ -16,8 +16,8 @@ pub record Holds {A : Type 0} (o : Out A) (P : A → St → Type 0) (Q : St → 
   pub holds : HoldsOf o P Q
 
 -- a value by its test
-pub by-test : {A : Type 0} (b : Bool) (x y : A) (X : A → Type 0) → (b ≡ true → X x) → (b ≡ false → X y) → X (if b then x else y)
-unfolding if◌then◌else◌
+pub by-test : {A : Type 0} (b : Bool) (x y : A) (X : A → Type 0) → (b ≡ true → X x) → (b ≡ false → X y) → X (if b then x otherwise y)
+unfolding if◌then◌otherwise◌
 by-test true x y X f g = f refl
 by-test false x y X f g = g refl
 
@@ -32,8 +32,8 @@ module _ {A : Type 0} {P : A → St → Type 0} {Q : St → Type 0} where
   is-refused = record { holds = tt }
 
   -- a branch
-  pub branch : (b : Bool) (m k : M A) (s : St) → (b ≡ true → Holds (m s) P Q) → (b ≡ false → Holds (k s) P Q) → Holds (if◌then◌else◌ {A = M A} b m k s) P Q
-  unfolding if◌then◌else◌
+  pub branch : (b : Bool) (m k : M A) (s : St) → (b ≡ true → Holds (m s) P Q) → (b ≡ false → Holds (k s) P Q) → Holds (if◌then◌otherwise◌ {A = M A} b m k s) P Q
+  unfolding if◌then◌otherwise◌
   branch true m k s f g = f refl
   branch false m k s f g = g refl
 
@@ -65,7 +65,7 @@ go-on-same {o = fail x s} h e = refl
 go-on-same {o = refuse r} h e = refl
 
 -- and so may a branch
-pub branch_same : {A : Type 0} (b : Bool) (m k m' k' : M A) (s : St) → (b ≡ true → m s ≡ m' s) → (b ≡ false → k s ≡ k' s) → if◌then◌else◌ {A = M A} b m k s ≡ if◌then◌else◌ {A = M A} b m' k' s
-unfolding if◌then◌else◌
+pub branch_same : {A : Type 0} (b : Bool) (m k m' k' : M A) (s : St) → (b ≡ true → m s ≡ m' s) → (b ≡ false → k s ≡ k' s) → if◌then◌otherwise◌ {A = M A} b m k s ≡ if◌then◌otherwise◌ {A = M A} b m' k' s
+unfolding if◌then◌otherwise◌
 branch_same true m k m' k' s f g = f refl
 branch_same false m k m' k' s f g = g refl

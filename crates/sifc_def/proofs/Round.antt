@@ -5,7 +5,7 @@ use Rattle.std.proofs.Math.Option.{Option, none, some}
 use Rattle.std.proofs.Math.Seq.{take-append_seam, drop-append-add}
 use Rattle.sifc_err.specs.declared.Refusal.{Refusal}
 use Rattle.sifc_err.specs.Refusal.{number_of}
-use Rattle.sifc_word.specs.Base.{if◌then◌else◌, member, same}
+use Rattle.sifc_word.specs.Base.{if◌then◌otherwise◌, member, same}
 use Rattle.sifc_word.specs.Kind.{Ident}
 use Rattle.sifc_def.specs.declared.What.{What}
 use Rattle.sifc_def.specs.declared.What.TheVariants.{Placeholder, Function, Variable, Other}
@@ -113,14 +113,14 @@ and_then (fail e s) f P Q p h = absurd p
 and_then (refuse r) f P Q p h = p
 
 -- a branch whose test is true
-pub yes-then : {A : Type 0} (b : Bool) (m k : M A) (s : St) (Q : A → St → Type 0) → b ≡ true → Res (m s) Q → Res (if◌then◌else◌ {A = M A} b m k s) Q
-unfolding if◌then◌else◌
+pub yes-then : {A : Type 0} (b : Bool) (m k : M A) (s : St) (Q : A → St → Type 0) → b ≡ true → Res (m s) Q → Res (if◌then◌otherwise◌ {A = M A} b m k s) Q
+unfolding if◌then◌otherwise◌
 yes-then true m k s Q e h = h
 yes-then false m k s Q e h = absurd (subst (λ (x : Bool). T (not x)) e tt)
 
 -- a branch whose test is false
-pub no-else : {A : Type 0} (b : Bool) (m k : M A) (s : St) (Q : A → St → Type 0) → b ≡ false → Res (k s) Q → Res (if◌then◌else◌ {A = M A} b m k s) Q
-unfolding if◌then◌else◌
+pub no-else : {A : Type 0} (b : Bool) (m k : M A) (s : St) (Q : A → St → Type 0) → b ≡ false → Res (k s) Q → Res (if◌then◌otherwise◌ {A = M A} b m k s) Q
+unfolding if◌then◌otherwise◌
 no-else true m k s Q e h = absurd (subst (λ (x : Bool). T x) e tt)
 no-else false m k s Q e h = h
 
@@ -262,7 +262,7 @@ put_at-fair c l n w (x ∷ xs) f h = go (is_sym l n x) refl (put_at-fair c l n w
 
 -- the name of an identifier is its text
 pub ident-name : (x : W) → x.kind ≡ Ident → name_of x ≡ x.text
-unfolding name_of if◌then◌else◌
+unfolding name_of if◌then◌otherwise◌
 ident-name x e = rw e refl
 
 -- ── labelled nodes ──

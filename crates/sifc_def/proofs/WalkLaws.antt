@@ -4,7 +4,7 @@ use Rattle.std.specs.Prelude.{List, [], ◌++◌, Bool, ◌≡◌, eqb, length}
 use Rattle.std.proofs.Math.Option.{Option, none, some}
 use Rattle.std.proofs.Math.Bool.{true, false}
 use Rattle.std.proofs.Common.{arith, length-append, drop_at}
-use Rattle.sifc_word.specs.Base.{if◌then◌else◌}
+use Rattle.sifc_word.specs.Base.{if◌then◌otherwise◌}
 use Rattle.sifc_word.specs.Kind.{Eof, LexPanic}
 use Rattle.sifc_def.specs.declared.Err.{Err}
 use Rattle.sifc_def.specs.Ast.{Program}
@@ -112,7 +112,7 @@ module _ (c : Ctx) (b : ℕ → ℕ) (ts : Toks c b) where
       (λ e. call (top-far d h n s x e) (λ s' y. absurd y) (λ o s' y. next o s' y.far (λ m g z. program-ends f d h m g s' z)))
     where
       next : (o : Option Err) (s' : St) → FarOf n o s' → ((m : ℕ) (g : Bool) → Far m s' → Holds (program c f d m g s') (λ e s''. Ended s'') (λ s''. ⊥))
-          → Holds ((elim o as (λ (x : Option Err). M End) [ none ↦ program c f d (suc n) flag | some e' ↦ if continuable c e'.why then program c f d n true else end_read c n true (some e') ]) s') (λ e s''. Ended s'') (λ s''. ⊥)
+          → Holds ((elim o as (λ (x : Option Err). M End) [ none ↦ program c f d (suc n) flag | some e' ↦ if continuable c e'.why then program c f d n true otherwise end_read c n true (some e') ]) s') (λ e s''. Ended s'') (λ s''. ⊥)
       next none s' y k = k (suc n) flag y
       next (some e') s' y k = branch _ _ _ s' (λ p. k n true y) (λ p. end-ends n true (some e') s' y)
 

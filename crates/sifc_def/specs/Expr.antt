@@ -1,7 +1,7 @@
 -- Expressions: assign_expr down to group_expr of parser.rs, with param_list. Where the Rust expects a kind that it has just seen, the step is `consume`.
 use Rattle.std.specs.Prelude.{ℕ, zero, suc, ◌-◌, List, [], ◌∷◌, Bool, true, false, ◌&&◌, ◌||◌, not, eqb, leb, length}
 use Rattle.std.proofs.Math.Option.{Option, none, some}
-use Rattle.sifc_word.specs.Base.{if◌then◌else◌, member}
+use Rattle.sifc_word.specs.Base.{if◌then◌otherwise◌, member}
 use Rattle.sifc_word.specs.Kind.{LeftParen, RightParen, LeftBracket, RightBracket, Eq, Lt, Gt, Period, Comma, Bang, Plus, Minus, Star, Slash, Percent, At, EqEq, LtEq, GtEq, BangEq, AmpAmp, PipePipe, Ident, Str, Val, True, False, Eof}
 use Rattle.sifc_word.specs.Reserved.{is_std_lib_fn}
 use Rattle.sifc_def.specs.declared.Why.TheVariants.{InvalidTkn, InvalidTknMsg, InvalidAssign, FnParmCntExceeded, WrongFnParmCnt, UndeclSym}
@@ -32,13 +32,13 @@ end_of_file = 2
 unfoldable pub looseness : ℕ → ℕ
 looseness k =
     if eqb k Percent then 1
-    else if member k (Star ∷ Slash ∷ []) then 2
-    else if member k (Plus ∷ Minus ∷ []) then 3
-    else if member k (Lt ∷ LtEq ∷ Gt ∷ GtEq ∷ []) then 4
-    else if member k (BangEq ∷ EqEq ∷ []) then 5
-    else if eqb k AmpAmp then 6
-    else if eqb k PipePipe then 7
-    else 0
+    otherwise if member k (Star ∷ Slash ∷ []) then 2
+    otherwise if member k (Plus ∷ Minus ∷ []) then 3
+    otherwise if member k (Lt ∷ LtEq ∷ Gt ∷ GtEq ∷ []) then 4
+    otherwise if member k (BangEq ∷ EqEq ∷ []) then 5
+    otherwise if eqb k AmpAmp then 6
+    otherwise if eqb k PipePipe then 7
+    otherwise 0
 
 unfoldable pub is_unary : ℕ → Bool
 is_unary k = eqb k Bang || eqb k Minus
@@ -65,7 +65,7 @@ module _ (c : Ctx) where
           next
           push c BinaryExpr false 2 i
           operators f n next)
-        else ok
+        otherwise ok
 
   -- the n levels that bind tightest, over unary_expr
   unfoldable pub levels : ℕ → Void → Void
@@ -91,7 +91,7 @@ module _ (c : Ctx) where
       (do
         w ← retrieve c (name_at c i)
         assign_var i w)
-      else throw c (InvalidAssign i)
+      otherwise throw c (InvalidAssign i)
 
   -- the target's node is number n: "An ArrayAccess that is assigned to counts until its ArrayMutExpr takes its place"
   unfoldable pub assign_array : ℕ → Void
@@ -109,8 +109,8 @@ module _ (c : Ctx) where
   unfoldable pub assign_to : Node → ℕ → ℕ → Void
   assign_to target n op =
       if eqb target.kind PrimaryExpr then assign_token target.pay
-      else if eqb target.kind ArrayAccess then assign_array n
-      else assign_nothing op
+      otherwise if eqb target.kind ArrayAccess then assign_array n
+      otherwise assign_nothing op
 
   -- ── param_list: the arguments of a call, or the parameters of a function ──
 
@@ -126,9 +126,9 @@ module _ (c : Ctx) where
   param_list item (suc f) n = do
     k ← kind_now c
     if eqb k RightParen then return n
-        else if leb fn_param_max_len n then throw c (FnParmCntExceeded fn_param_max_len)
-        else if eqb k Eof then throw c (InvalidTknMsg end_of_file)
-        else do
+        otherwise if leb fn_param_max_len n then throw c (FnParmCntExceeded fn_param_max_len)
+        otherwise if eqb k Eof then throw c (InvalidTknMsg end_of_file)
+        otherwise do
           item
           separator
           param_list item f (suc n)
@@ -137,11 +137,11 @@ module _ (c : Ctx) where
 
   -- the target must be a single token: panics 4 and 5
   unfoldable pub single : Node → ℕ → ℕ → Void
-  single target kind i = if eqb target.kind PrimaryExpr then ok else panic_at c kind i
+  single target kind i = if eqb target.kind PrimaryExpr then ok otherwise panic_at c kind i
 
   -- a call with n arguments of what has `want` parameters
   unfoldable pub call_counted : ℕ → ℕ → Void
-  call_counted want n = if eqb want n then push c FnCallExpr false (suc n) 0 else throw c (WrongFnParmCnt want n)
+  call_counted want n = if eqb want n then push c FnCallExpr false (suc n) 0 otherwise throw c (WrongFnParmCnt want n)
 
   -- by what the name at token i was declared as: "A name check that fails in a call, after `)`, skips one token more."
   unfoldable pub call_declared : ℕ → ℕ → Option What → Void
@@ -153,7 +153,7 @@ module _ (c : Ctx) where
 
   -- the name at token i is called: print and range are neither looked for nor counted
   unfoldable pub call_name : ℕ → ℕ → Option What → Void
-  call_name i n w = if is_std_lib_fn (name_at c i) then push c FnCallExpr true (suc n) 0 else call_declared i n w
+  call_name i n w = if is_std_lib_fn (name_at c i) then push c FnCallExpr true (suc n) 0 otherwise call_declared i n w
 
   -- a single token that is a name or a string
   unfoldable pub is_named : Node → Bool
@@ -166,7 +166,7 @@ module _ (c : Ctx) where
       (do
         w ← retrieve c (name_at c target.pay)
         call_name target.pay n w)
-      else panic_at c 3 i
+      otherwise panic_at c 3 i
 
   -- ── primary_expr ──
 
@@ -179,7 +179,7 @@ module _ (c : Ctx) where
   -- the name at token i was looked for
   unfoldable pub known : ℕ → Option What → Void
   known i (some w) = ok
-  known i none = if is_std_lib_fn (name_at c i) then ok else throw_past c (UndeclSym i)
+  known i none = if is_std_lib_fn (name_at c i) then ok otherwise throw_past c (UndeclSym i)
 
   -- should_check_sym_tab, sym_exists
   unfoldable pub check_name : ℕ → Void
@@ -239,7 +239,7 @@ module _ (c : Ctx) (r : Rec) where
           consume c
           r.unary
           push c UnaryExpr false 1 i)
-        else r.call
+        otherwise r.call
 
   unfoldable pub group_expr : Void
   group_expr = do
@@ -258,10 +258,10 @@ module _ (c : Ctx) (r : Rec) where
     k ← kind_now c
     i ← here c
     if is_literal k then literal c i
-        else if eqb k Ident then ident_expr c i
-        else if eqb k LeftParen then group_expr
-        else if eqb k At then at_expr
-        else throw_past c (InvalidTkn i)
+        otherwise if eqb k Ident then ident_expr c i
+        otherwise if eqb k LeftParen then group_expr
+        otherwise if eqb k At then at_expr
+        otherwise throw_past c (InvalidTkn i)
 
   -- `(` at token i
   unfoldable pub call_part : Node → ℕ → Void
@@ -296,9 +296,9 @@ module _ (c : Ctx) (r : Rec) where
     k ← kind_now c
     i ← here c
     if eqb k LeftParen then call_part target i
-        else if eqb k Period then dot target i
-        else if eqb k LeftBracket then index target i
-        else ok
+        otherwise if eqb k Period then dot target i
+        otherwise if eqb k LeftBracket then index target i
+        otherwise ok
 
   unfoldable pub fn_call_expr : Void
   fn_call_expr = do

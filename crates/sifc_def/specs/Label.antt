@@ -3,7 +3,7 @@
 -- quotes); elsewhere nothing more."
 use Rattle.std.specs.Prelude.{ℕ, List, [], ◌∷◌, map, Bool, eqb}
 use Rattle.sifc_err.specs.declared.Token.{Token}
-use Rattle.sifc_word.specs.Base.{if◌then◌else◌, member}
+use Rattle.sifc_word.specs.Base.{if◌then◌otherwise◌, member}
 use Rattle.sifc_def.specs.Ast.{Block, VarDecl, FnDecl, TableItem, Table, Array, VarAssignExpr, BinaryExpr, UnaryExpr, PrimaryExpr}
 use Rattle.sifc_def.specs.State.{Node, W, token_at, word_in}
 
@@ -28,10 +28,10 @@ spelling w = w.text
 -- the label of a node, in a script and its tokens
 module _ (s : List ℕ) (ts : List Token) where
   unfoldable pub scope_of : Node → ℕ
-  scope_of n = if eqb n.kind Block then n.pay else 0
+  scope_of n = if eqb n.kind Block then n.pay otherwise 0
 
   unfoldable pub text_of : Node → List ℕ
-  text_of n = if has_token n.kind then spelling (word_in s (token_at ts n.pay)) else []
+  text_of n = if has_token n.kind then spelling (word_in s (token_at ts n.pay)) otherwise []
 
   abbrev pub label : Node → Lab
   label n = lab n.kind n.flag n.kids (scope_of n) (text_of n)

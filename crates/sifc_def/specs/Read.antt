@@ -10,7 +10,7 @@ use Rattle.sifc_err.specs.Refusal.{number_of, kind_of, offset_of}
 use Rattle.sifc_tokens.specs.declared.call.Checked.{Checked}
 use Rattle.sifc_tokens.specs.declared.call.Checked.TheVariants.{Fine}
 use Rattle.sifc_tokens.specs.declared.call.Checked.TheVariants as check
-use Rattle.sifc_word.specs.Base.{if◌then◌else◌}
+use Rattle.sifc_word.specs.Base.{if◌then◌otherwise◌}
 use Rattle.sifc_lex.specs.Lex.{lex, ending}
 use Rattle.sifc_tokens.specs.Tokens.{offs_of, words_of, padded, zeroed, check_of}
 use Rattle.sifc_def.specs.declared.Err.{Err}
@@ -77,7 +77,7 @@ unfoldable pub even : Arrays → Bool
 even a = eqb (length a.offs) (length a.words) && (eqb (length a.heads) (length a.loads) && eqb (length a.places) (length a.reasons))
 
 unfoldable pub entry : List ℕ → Arrays → Checked
-entry s a = elim (check_of s) [ check.Refused r ↦ check.Refused r | Fine ↦ if even a then Fine else check.Refused Uneven ]
+entry s a = elim (check_of s) [ check.Refused r ↦ check.Refused r | Fine ↦ if even a then Fine otherwise check.Refused Uneven ]
 
 -- ── the token list and the walk: refusals 4 to 9 ──
 
@@ -156,7 +156,7 @@ answered s a (refused r) = called (Refused r) (cleared_arrays a)
 
 -- The reading call: from the script and the lent arrays to the answer and the arrays as it leaves them. "1 to 3 touch nothing".
 unfoldable pub reading : List ℕ → Arrays → Called Reading
-unfolding even entry ended read answered walk lex ending offs_of words_of padded zeroed check_of parse_err err_place if◌then◌else◌
+unfolding even entry ended read answered walk lex ending offs_of words_of padded zeroed check_of parse_err err_place if◌then◌otherwise◌
 reading s a = elim (entry s a) [ check.Refused r ↦ called (Refused r) a | Fine ↦ answered s a (read (rooms_of a) s) ]
 
 -- ── the text call ──
@@ -179,12 +179,12 @@ unfoldable pub texted : List ℕ → Arrays → List ℕ → Outcome → Written
 texted s a t (refused r) = written (NoText r) (cleared_arrays a) (zeroed t)
 texted s a t (found f) =
     if f.flag then written (NoText Flagged) (cleared_arrays a) (zeroed t)
-    else if ltb (length t) (length (text_found s f)) then written (NoText TextFull) (cleared_arrays a) (zeroed t)
-    else written (Wrote (length (text_found s f))) (filled (ctx_of (rooms_of a) s) f a) (padded (text_found s f) (length t))
+    otherwise if ltb (length t) (length (text_found s f)) then written (NoText TextFull) (cleared_arrays a) (zeroed t)
+    otherwise written (Wrote (length (text_found s f))) (filled (ctx_of (rooms_of a) s) f a) (padded (text_found s f) (length t))
 
 -- The text call, with a text buffer. After a success the arrays hold what the reading leaves in them.
 unfoldable pub text_call : List ℕ → Arrays → List ℕ → Written
-unfolding even entry ended read text_found texted walk lex ending offs_of words_of padded zeroed check_of parse_err err_place text has_token scope_of text_of if◌then◌else◌
+unfolding even entry ended read text_found texted walk lex ending offs_of words_of padded zeroed check_of parse_err err_place text has_token scope_of text_of if◌then◌otherwise◌
 text_call s a t = elim (entry s a) [ check.Refused r ↦ written (NoText r) a t | Fine ↦ texted s a t (read (rooms_of a) s) ]
 
 -- ── the answers in this paper's numbers: "The answer is number, kind, offset, else zeros." ──

@@ -5,7 +5,7 @@ use Rattle.std.proofs.Math.Option.{Option, none, some}
 use Rattle.sifc_err.specs.declared.Token.{Token}
 use Rattle.sifc_err.specs.declared.Refusal.{Refusal}
 use Rattle.sifc_err.specs.declared.Refusal.TheVariants.{SourceFault, NodesFull, ErrorsFull}
-use Rattle.sifc_word.specs.Base.{if◌then◌else◌, part}
+use Rattle.sifc_word.specs.Base.{if◌then◌otherwise◌, part}
 use Rattle.sifc_word.specs.Kind.{Ident, Str, Eof, LexPanic}
 use Rattle.sifc_lex.specs.Lex.{token}
 use Rattle.sifc_def.specs.declared.Err.{Err}
@@ -84,7 +84,7 @@ abbrev pub ok : Void
 ok s = done tt s
 
 abbrev pub when : Bool → Void → Void
-when b m = if b then m else ok
+when b m = if b then m otherwise ok
 
 -- A token's kind and text: all that a reading sees of it, but for where it stands.
 pub record W : Type 0 where
@@ -93,7 +93,7 @@ pub record W : Type 0 where
 
 -- get_name of token.rs: "A Str's spelling lacks its quotes, its text has them."
 unfoldable pub name_of : W → List ℕ
-name_of x = if eqb x.kind Str then take (length x.text - 2) (drop 1 x.text) else x.text
+name_of x = if eqb x.kind Str then take (length x.text - 2) (drop 1 x.text) otherwise x.text
 
 abbrev pub token_at : List Token → ℕ → Token
 token_at ts i = get_or ts i (token Eof 0 0)
@@ -129,13 +129,13 @@ module _ (c : Ctx) where
 
   -- Panics 1 and 2: a lexing panic is met as soon as it would be the current token.
   unfoldable pub arrive : Void
-  arrive s = if eqb (tok_at s.at).kind LexPanic then refuse (SourceFault c.fault (tok_at s.at).off) else done tt s
+  arrive s = if eqb (tok_at s.at).kind LexPanic then refuse (SourceFault c.fault (tok_at s.at).off) otherwise done tt s
 
   -- consume: the next token. Eof is given "for good".
   unfoldable pub consume : Void
   consume s =
       if eqb (tok_at s.at).kind Eof then done tt s
-      else arrive (record { at = suc s.at; nodes = s.nodes; syms = s.syms; level = s.level; check = s.check; errs = s.errs })
+      otherwise arrive (record { at = suc s.at; nodes = s.nodes; syms = s.syms; level = s.level; check = s.check; errs = s.errs })
 
   -- ── errors ──
 
@@ -143,7 +143,7 @@ module _ (c : Ctx) where
   unfoldable pub list : Err → Void
   list e s =
       if ltb (length s.errs) c.err_room then done tt (record { at = s.at; nodes = s.nodes; syms = s.syms; level = s.level; check = s.check; errs = e ∷ s.errs })
-      else refuse ErrorsFull
+      otherwise refuse ErrorsFull
 
   -- the Rust's `Err(e)`
   unfoldable pub raise : {A : Type 0} → Err → M A
@@ -179,7 +179,7 @@ module _ (c : Ctx) where
   expect k = do
     k' ← kind_now
     i ← here
-    if eqb k' k then consume else raise (err i (TknMismatch k i))
+    if eqb k' k then consume otherwise raise (err i (TknMismatch k i))
 
   -- optional
   unfoldable pub optional : ℕ → M Bool
@@ -189,7 +189,7 @@ module _ (c : Ctx) where
         (do
           consume
           return true)
-        else return false
+        otherwise return false
 
   -- match_ident: the name's token
   unfoldable pub match_ident : M (Option ℕ)
@@ -200,7 +200,7 @@ module _ (c : Ctx) where
         (do
           consume
           return (some i))
-        else do
+        otherwise do
           add_error (InvalidIdent i)
           return none
 
@@ -221,7 +221,7 @@ module _ (c : Ctx) where
   unfoldable pub push : ℕ → Bool → ℕ → ℕ → Void
   push k f n p s =
       if ltb (length s.nodes) c.node_room then done tt (record { at = s.at; nodes = node k f n p ∷ s.nodes; syms = s.syms; level = s.level; check = s.check; errs = s.errs })
-      else refuse NodesFull
+      otherwise refuse NodesFull
 
   -- the root of what was read last
   abbrev pub top : M Node

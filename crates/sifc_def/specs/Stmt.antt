@@ -1,6 +1,6 @@
 -- Declarations and statements: decl down to expr_stmt of parser.rs.
 use Rattle.std.specs.Prelude.{ℕ, zero, suc, ◌+◌, List, [], ◌∷◌, Bool, true, false, ◌&&◌, ◌||◌, eqb, ltb}
-use Rattle.sifc_word.specs.Base.{if◌then◌else◌}
+use Rattle.sifc_word.specs.Base.{if◌then◌otherwise◌}
 use Rattle.sifc_word.specs.Kind.{LeftParen, RightParen, LeftBrace, RightBrace, LeftBracket, RightBracket, Semicolon, Eq, Comma, EqArrow, DoubleLeftBracket, DoubleRightBracket, Var, Fn, Return, If, Elif, Else, For, In, Eof}
 use Rattle.sifc_def.specs.declared.Why.TheVariants.{InvalidTknMsg, InvalidIfStmt, ExpectedIdent}
 use Rattle.sifc_def.specs.declared.What.TheVariants.{Placeholder, Function, Variable, Other}
@@ -30,7 +30,7 @@ module _ (c : Ctx) where
   with_return true n = do
     last ← top c
     if ltb 0 n && eqb last.kind ReturnStmt then return n
-        else do
+        otherwise do
           push c ReturnStmt false 0 0
           return (suc n)
 
@@ -66,7 +66,7 @@ module _ (c : Ctx) where
   unfoldable pub array_nodes : ℕ → ℕ → Void
   array_nodes i n =
       if eqb n 0 then push c Array false 0 i
-      else do
+      otherwise do
         push c ArrayItems false n 0
         push c Array false 1 i
 
@@ -84,11 +84,11 @@ module _ (c : Ctx) where
   comma_list close item (suc f) n = do
     k ← kind_now c
     if eqb k close then return n
-        else if eqb k Eof then throw c (InvalidTknMsg end_of_file)
-        else do
+        otherwise if eqb k Eof then throw c (InvalidTknMsg end_of_file)
+        otherwise do
           item
           more ← optional c Comma
-          if more then comma_list close item f (suc n) else return (suc n)
+          if more then comma_list close item f (suc n) otherwise return (suc n)
 
 module _ (c : Ctx) (r : Rec) where
   -- ── var_decl, array_decl, table_decl, item_list ──
@@ -132,8 +132,8 @@ module _ (c : Ctx) (r : Rec) where
   initial i = do
     k ← kind_now c
     if eqb k LeftBracket then array_decl i
-        else if eqb k DoubleLeftBracket then table_decl i
-        else do
+        otherwise if eqb k DoubleLeftBracket then table_decl i
+        otherwise do
           r.assign
           expect c Semicolon
 
@@ -147,11 +147,11 @@ module _ (c : Ctx) (r : Rec) where
           consume c
           initial i
           declare_var c i 1)
-        else if eqb k Semicolon then
+        otherwise if eqb k Semicolon then
         (do
           consume c
           declare_var c i 0)
-        else throw c (InvalidTknMsg eq_or_semicolon)
+        otherwise throw c (InvalidTknMsg eq_or_semicolon)
 
   -- ── fn_decl ──
 
@@ -193,11 +193,11 @@ module _ (c : Ctx) (r : Rec) where
         (do
           elif_stmt
           branches f (suc n) elses)
-        else if eqb k Else then
+        otherwise if eqb k Else then
         (do
           else_block
           branches f (suc n) (suc elses))
-        else end_if c n elses
+        otherwise end_if c n elses
 
   unfoldable pub if_stmt : Void
   if_stmt = do
@@ -223,7 +223,7 @@ module _ (c : Ctx) (r : Rec) where
         (do
           consume c
           push c ReturnStmt false 0 0)
-        else do
+        otherwise do
           r.assign
           expect c Semicolon
           push c ReturnStmt false 1 0
@@ -238,17 +238,17 @@ module _ (c : Ctx) (r : Rec) where
   stmt = do
     k ← kind_now c
     if eqb k If then if_stmt
-        else if eqb k For then for_stmt
-        else if eqb k Return then ret_stmt
-        else if eqb k LeftBrace then r.block false []
-        else expr_stmt
+        otherwise if eqb k For then for_stmt
+        otherwise if eqb k Return then ret_stmt
+        otherwise if eqb k LeftBrace then r.block false []
+        otherwise expr_stmt
 
   unfoldable pub decl : Void
   decl = do
     k ← kind_now c
     if eqb k Var then var_decl
-        else if eqb k Fn then fn_decl
-        else stmt
+        otherwise if eqb k Fn then fn_decl
+        otherwise stmt
 
   -- ── block ──
 
@@ -258,7 +258,7 @@ module _ (c : Ctx) (r : Rec) where
   decls (suc f) n = do
     k ← kind_now c
     if eqb k RightBrace || eqb k Eof then return n
-        else do
+        otherwise do
           decl
           decls f (suc n)
 

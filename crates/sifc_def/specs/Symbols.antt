@@ -2,7 +2,7 @@
 use Rattle.std.specs.Prelude.{ℕ, zero, suc, ◌-◌, List, [], ◌∷◌, Bool, true, false, ◌&&◌, eqb, leb, length}
 use Rattle.std.proofs.Math.Option.{Option, none, some}
 use Rattle.sifc_err.specs.declared.Refusal.TheVariants.{SymbolsFull}
-use Rattle.sifc_word.specs.Base.{if◌then◌else◌, same}
+use Rattle.sifc_word.specs.Base.{if◌then◌otherwise◌, same}
 use Rattle.sifc_def.specs.declared.What.{What}
 use Rattle.sifc_def.specs.State.{Sym, Ctx, done, refuse, M, Void, ◌>>=◌, ◌>>◌, name_at}
 
@@ -34,7 +34,7 @@ module _ (c : Ctx) where
   store i w s =
       let new : List Sym = put_at s.level (name_at c i) w s.syms in
       if leb (length new) c.sym_room then done tt (record { at = s.at; nodes = s.nodes; syms = new; level = s.level; check = s.check; errs = s.errs })
-      else refuse SymbolsFull
+      otherwise refuse SymbolsFull
 
   -- level
   abbrev pub level_now : M ℕ

@@ -3,7 +3,7 @@
 use Rattle.std.specs.Prelude.{ℕ, ◌-◌, List, [], ◌∷◌, ◌++◌, Bool, true, false, eqb, leb, ltb}
 use Rattle.sifc_lex.specs.declared.lex.Step.{Step}
 use Rattle.sifc_lex.specs.declared.lex.Step.TheVariants.{Skip, Word, Stop}
-use Rattle.sifc_word.specs.Base.{if◌then◌else◌, member}
+use Rattle.sifc_word.specs.Base.{if◌then◌otherwise◌, member}
 use Rattle.sifc_lex.specs.Lex.{step}
 use Rattle.sifc_def.specs.Ascii.{ascii}
 use Rattle.sifc_def.specs.Ast.{Block, IfStmt, ElifStmt, ForStmt, ReturnStmt, ExprStmt, VarDecl, FnDecl, FnParams, IdentPair, ItemList, TableItem, Table, TableAccess, Array, ArrayItems, ArrayAccess, ArrayMutExpr, FnCallExpr, VarAssignExpr, BinaryExpr, UnaryExpr, PrimaryExpr}
@@ -36,9 +36,9 @@ op_strength op = 8 - looseness (word_kind (step op))
 unfoldable pub strength_of : ℕ → List ℕ → ℕ
 strength_of k x =
     if member k (VarAssignExpr ∷ ArrayMutExpr ∷ TableAccess ∷ []) then 0
-    else if eqb k BinaryExpr then op_strength x
-    else if eqb k UnaryExpr then 8
-    else 9
+    otherwise if eqb k BinaryExpr then op_strength x
+    otherwise if eqb k UnaryExpr then 8
+    otherwise 9
 
 -- ── words ──
 
@@ -61,7 +61,7 @@ row (x ∷ xs) = x.words ++ row xs
 -- the further branches of an if: a Block is an `else`
 unfoldable pub or_else : List Piece → Words
 or_else [] = []
-or_else (x ∷ xs) = if eqb x.kind Block then ascii "else" ∷ x.words ++ or_else xs else x.words ++ or_else xs
+or_else (x ∷ xs) = if eqb x.kind Block then ascii "else" ∷ x.words ++ or_else xs otherwise x.words ++ or_else xs
 
 -- "parentheses go only round a left operand weaker than its operator, a right operand not stronger, and a unary operand below 8"
 unfoldable pub binary : List ℕ → List Piece → Words
@@ -96,26 +96,26 @@ branched (x ∷ b ∷ bs) = x.words ++ b.words ++ or_else bs
 unfoldable pub words_of : ℕ → List ℕ → List Piece → Words
 words_of k x cs =
     if eqb k PrimaryExpr then x ∷ []
-    else if eqb k UnaryExpr then unary x cs
-    else if eqb k BinaryExpr then binary x cs
-    else if eqb k VarAssignExpr then after (ascii "=") row cs
-    else if eqb k FnCallExpr then after (ascii "(") (closed (ascii ")") commas) cs
-    else if eqb k ArrayMutExpr then after (ascii "[") (after (ascii "]") valued) cs
-    else if eqb k ArrayAccess then after (ascii "[") (closed (ascii "]") row) cs
-    else if eqb k TableAccess then after (ascii ".") row cs
-    else if eqb k Array then ascii "[" ∷ closed (ascii "]") row cs
-    else if eqb k Table then ascii "[[" ∷ closed (ascii "]]") row cs
-    else if eqb k TableItem then x ∷ ascii "=>" ∷ row cs
-    else if member k (ArrayItems ∷ ItemList ∷ IdentPair ∷ FnParams ∷ []) then commas cs
-    else if eqb k FnDecl then ascii "fn" ∷ x ∷ ascii "(" ∷ after (ascii ")") row cs
-    else if eqb k VarDecl then ascii "var" ∷ x ∷ closed (ascii ";") valued cs
-    else if eqb k ExprStmt then closed (ascii ";") row cs
-    else if eqb k ReturnStmt then ascii "return" ∷ closed (ascii ";") row cs
-    else if eqb k ForStmt then ascii "for" ∷ after (ascii "in") row cs
-    else if eqb k ElifStmt then ascii "elif" ∷ row cs
-    else if eqb k IfStmt then ascii "if" ∷ branched cs
-    else if eqb k Block then ascii "{" ∷ closed (ascii "}") row cs
-    else row cs
+    otherwise if eqb k UnaryExpr then unary x cs
+    otherwise if eqb k BinaryExpr then binary x cs
+    otherwise if eqb k VarAssignExpr then after (ascii "=") row cs
+    otherwise if eqb k FnCallExpr then after (ascii "(") (closed (ascii ")") commas) cs
+    otherwise if eqb k ArrayMutExpr then after (ascii "[") (after (ascii "]") valued) cs
+    otherwise if eqb k ArrayAccess then after (ascii "[") (closed (ascii "]") row) cs
+    otherwise if eqb k TableAccess then after (ascii ".") row cs
+    otherwise if eqb k Array then ascii "[" ∷ closed (ascii "]") row cs
+    otherwise if eqb k Table then ascii "[[" ∷ closed (ascii "]]") row cs
+    otherwise if eqb k TableItem then x ∷ ascii "=>" ∷ row cs
+    otherwise if member k (ArrayItems ∷ ItemList ∷ IdentPair ∷ FnParams ∷ []) then commas cs
+    otherwise if eqb k FnDecl then ascii "fn" ∷ x ∷ ascii "(" ∷ after (ascii ")") row cs
+    otherwise if eqb k VarDecl then ascii "var" ∷ x ∷ closed (ascii ";") valued cs
+    otherwise if eqb k ExprStmt then closed (ascii ";") row cs
+    otherwise if eqb k ReturnStmt then ascii "return" ∷ closed (ascii ";") row cs
+    otherwise if eqb k ForStmt then ascii "for" ∷ after (ascii "in") row cs
+    otherwise if eqb k ElifStmt then ascii "elif" ∷ row cs
+    otherwise if eqb k IfStmt then ascii "if" ∷ branched cs
+    otherwise if eqb k Block then ascii "{" ∷ closed (ascii "}") row cs
+    otherwise row cs
 
 unfoldable mutual
   pub piece : Tree → Piece
@@ -144,5 +144,5 @@ declarations (tree k f l x ts ∷ st) = ts
 
 -- the canonical text of a tree, from its labels. Who unfolds `text` unfolds all of it, to compute
 unfoldable pub text : List Lab → List ℕ
-unfolding word_kind op_strength strength_of paren commas row or_else binary unary after closed valued branched words_of pieces line lines declarations gather dec step looseness member if◌then◌else◌
+unfolding word_kind op_strength strength_of paren commas row or_else binary unary after closed valued branched words_of pieces line lines declarations gather dec step looseness member if◌then◌otherwise◌
 text xs = lines (pieces (declarations (dec xs [])))

@@ -2,7 +2,7 @@
 use Rattle.std.specs.Prelude.{ℕ, zero, suc, [], Bool, true, false, eqb}
 use Rattle.std.proofs.Math.Option.{Option, none, some}
 use Rattle.sifc_err.specs.declared.Refusal.TheVariants.{TooDeep}
-use Rattle.sifc_word.specs.Base.{if◌then◌else◌, member, same}
+use Rattle.sifc_word.specs.Base.{if◌then◌otherwise◌, member, same}
 use Rattle.sifc_word.specs.Kind.{Eof}
 use Rattle.sifc_word.specs.Reserved.{is_std_lib_fn}
 use Rattle.sifc_def.specs.declared.Err.{Err}
@@ -68,17 +68,17 @@ module _ (c : Ctx) where
   program (suc f) d n flag = do
     k ← kind_now c
     if eqb k Eof then end_read n flag none
-        else do
+        otherwise do
           failed ← top_decl d
           elim failed [
             | none ↦ program f d (suc n) flag
-            | some e ↦ if continuable c e.why then program f d n true else end_read n true (some e)
+            | some e ↦ if continuable c e.why then program f d n true otherwise end_read n true (some e)
           ]
 
   -- Parser::new, which looks at the first token, and parse, where at most so many counted calls may be active. Who unfolds `walk` unfolds all of it, to
   -- compute; a proof names what it opens.
   unfoldable pub walk : ℕ → Out End
-  unfolding name_of panic_at arrive consume list raise add_error_w_pos add_error throw throw_past expect optional match_ident or_throw ident push set_nodes keep without is_sym find_at find put_at retrieve store set_level init_scope close_scope set_check looseness is_unary is_literal operators levels assign_var assign_token assign_array assign_nothing assign_to separator param_list single call_counted call_declared call_name is_named call_named literal known check_name ident_expr assign_expr unary_expr group_expr at_expr primary_expr call_part dot index postfix fn_call_expr bind with_return ident_node param ident_pair declare_var array_nodes end_if comma_list array_decl table_item item_list table_decl initial var_decl fn_decl elif_stmt else_block branches if_stmt for_stmt ret_stmt expr_stmt stmt decl decls block walkers give_up settled top_decl end_read program is_std_lib_fn member same go_on if◌then◌else◌
+  unfolding name_of panic_at arrive consume list raise add_error_w_pos add_error throw throw_past expect optional match_ident or_throw ident push set_nodes keep without is_sym find_at find put_at retrieve store set_level init_scope close_scope set_check looseness is_unary is_literal operators levels assign_var assign_token assign_array assign_nothing assign_to separator param_list single call_counted call_declared call_name is_named call_named literal known check_name ident_expr assign_expr unary_expr group_expr at_expr primary_expr call_part dot index postfix fn_call_expr bind with_return ident_node param ident_pair declare_var array_nodes end_if comma_list array_decl table_item item_list table_decl initial var_decl fn_decl elif_stmt else_block branches if_stmt for_stmt ret_stmt expr_stmt stmt decl decls block walkers give_up settled top_decl end_read program is_std_lib_fn member same go_on if◌then◌otherwise◌
   walk depth =
       (do
         arrive c

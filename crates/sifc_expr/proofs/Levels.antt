@@ -7,7 +7,7 @@ use mathlib.Core.Bool.{Bool, true, false, ◌&&◌, not}
 use lib.Dec.{eqb, leb}
 use lib.ListN.{length}
 use borrow.Author.Tests.{eq-eqb, ne_eqb, le-leb}
-use Rattle.sifc_word.specs.Base.{if◌then◌else◌}
+use Rattle.sifc_word.specs.Base.{if◌then◌otherwise◌}
 use Rattle.sifc_def.specs.declared.Err.{Err}
 use Rattle.sifc_def.specs.State.{Ctx, St, Out, done, fail, refuse, Void, go_on, tok_at, consume, push}
 use Rattle.sifc_def.specs.Expr.{fuel, looseness, operators, levels}
@@ -53,7 +53,7 @@ unfolding rest
 rest-step c n u s = refl
 
 operators-none : (c : Ctx) (f n : ℕ) (next : Void) (s : St) → eqb (looseness (tok_at c s.at).kind) n ≡ false → operators c f n next s ≡ done tt s
-unfolding operators go_on if◌then◌else◌
+unfolding operators go_on if◌then◌otherwise◌
 operators-none c zero n next s e = refl
 operators-none c (suc f) n next s e = rw e refl
 

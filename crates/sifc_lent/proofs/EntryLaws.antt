@@ -9,7 +9,7 @@ use Rattle.sifc_err.specs.declared.Refusal.TheVariants.{LongScript, NotAscii, Un
 use Rattle.sifc_tokens.specs.declared.call.Checked.{Checked}
 use Rattle.sifc_tokens.specs.declared.call.Checked.TheVariants.{Fine}
 use Rattle.sifc_tokens.specs.declared.call.Checked.TheVariants as check
-use Rattle.sifc_word.specs.Base.{if◌then◌else◌, span}
+use Rattle.sifc_word.specs.Base.{if◌then◌otherwise◌, span}
 use Rattle.sifc_lex.specs.Lex.{ascii}
 use Rattle.sifc_tokens.specs.Tokens.{check_of}
 use Rattle.sifc_def.specs.Read.{Arrays, even, entry}
@@ -26,11 +26,11 @@ entry-same s o w h l y p r = refl
 
 -- the tests of the script, by their results
 abbrev check_by : Bool → Bool → List ℕ → Checked
-check_by q p s = if q then check.Refused LongScript else if p then check.Refused (NotAscii (span ascii s)) else Fine
+check_by q p s = if q then check.Refused LongScript otherwise if p then check.Refused (NotAscii (span ascii s)) otherwise Fine
 
 -- A script that passes is short.
 check-short : (s : List ℕ) → check_of s ≡ Fine → length s < 65536
-unfolding check_of if◌then◌else◌
+unfolding check_of if◌then◌otherwise◌
 check-short s e = go (ltb 65535 (length s)) (ltb (span ascii s) (length s)) refl e
   where
     go : (q p : Bool) → ltb 65535 (length s) ≡ q → check_by q p s ≡ Fine → length s < 65536
@@ -54,10 +54,10 @@ module _ (s : List ℕ) (a : Arrays) where
 
   -- The script passes, and so do the arrays.
   entry-both : entry s a ≡ Fine → (check_of s ≡ Fine) × (even a ≡ true)
-  unfolding entry if◌then◌else◌
+  unfolding entry if◌then◌otherwise◌
   entry-both e = go (check_of s) (even a) e
     where
-      go : (k : Checked) (b : Bool) → (elim k as (λ z. Checked) [ check.Refused r ↦ check.Refused r | Fine ↦ if b then Fine else check.Refused Uneven ]) ≡ Fine → (k ≡ Fine) × (b ≡ true)
+      go : (k : Checked) (b : Bool) → (elim k as (λ z. Checked) [ check.Refused r ↦ check.Refused r | Fine ↦ if b then Fine otherwise check.Refused Uneven ]) ≡ Fine → (k ≡ Fine) × (b ≡ true)
       go (check.Refused f) b d = never-refused f d
       go Fine true d = (refl, refl)
       go Fine false d = never-refused Uneven d

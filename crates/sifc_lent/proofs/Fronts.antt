@@ -11,7 +11,7 @@ use Rattle.sifc_err.specs.declared.Refusal.TheVariants.{Uneven}
 use Rattle.sifc_tokens.specs.declared.call.Checked.{Checked}
 use Rattle.sifc_tokens.specs.declared.call.Checked.TheVariants.{Fine}
 use Rattle.sifc_tokens.specs.declared.call.Checked.TheVariants as check
-use Rattle.sifc_word.specs.Base.{if◌then◌else◌}
+use Rattle.sifc_word.specs.Base.{if◌then◌otherwise◌}
 use Rattle.sifc_lex.specs.Lex.{token}
 use Rattle.sifc_tokens.specs.Tokens.{padded, zeroed, check_of}
 use Rattle.sifc_def.specs.State.{token_at}
@@ -43,18 +43,18 @@ six-cleared o w h l p r eo ew eh el ep er = same-arrays eo ew eh el refl ep er
 
 -- what the tests of entry come to, by that of the script and that of the lengths
 abbrev by_tests : Checked → Bool → Checked
-by_tests k b = elim k [ check.Refused r ↦ check.Refused r | Fine ↦ if b then Fine else check.Refused Uneven ]
+by_tests k b = elim k [ check.Refused r ↦ check.Refused r | Fine ↦ if b then Fine otherwise check.Refused Uneven ]
 
 entry-is : (s : List ℕ) (a : Arrays) → by_tests (check_of s) (even a) ≡ entry s a
 unfolding entry
 entry-is s a = refl
 
 pub entry-passed : (s : List ℕ) (a : Arrays) → check_of s ≡ Fine → even a ≡ true → Fine ≡ entry s a
-unfolding if◌then◌else◌
+unfolding if◌then◌otherwise◌
 entry-passed s a e f = sym (ap₂ by_tests e f) ∙ entry-is s a
 
 pub entry-uneven : (s : List ℕ) (a : Arrays) → check_of s ≡ Fine → even a ≡ false → check.Refused Uneven ≡ entry s a
-unfolding if◌then◌else◌
+unfolding if◌then◌otherwise◌
 entry-uneven s a e f = sym (ap₂ by_tests e f) ∙ entry-is s a
 
 pub entry-refused : (s : List ℕ) (a : Arrays) (f : Refusal) → check_of s ≡ check.Refused f → check.Refused f ≡ entry s a

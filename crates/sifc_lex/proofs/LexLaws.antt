@@ -10,7 +10,7 @@ use Rattle.sifc_err.specs.declared.Ending.{Ending}
 use Rattle.sifc_err.specs.declared.Ending.TheVariants.{TrueEnd, UnknownChar, UnterminatedString, Panic}
 use Rattle.sifc_lex.specs.declared.lex.Step.{Step}
 use Rattle.sifc_lex.specs.declared.lex.Step.TheVariants.{Skip, Word, Stop}
-use Rattle.sifc_word.specs.Base.{if◌then◌else◌, span, same}
+use Rattle.sifc_word.specs.Base.{if◌then◌otherwise◌, span, same}
 use Rattle.sifc_word.specs.BaseLaws.{and_left, and_right, span-le, rest_of}
 use Rattle.sifc_word.specs.Reserved.{reserved_words, kind_among, name_kind}
 use Rattle.sifc_word.specs.Reserved as Reserved
@@ -26,8 +26,8 @@ Fair m (Skip n) = (0 < n) × (n ≤ m)
 Fair m (Word k n) = (0 < n) × (n ≤ m) × (0 < k) × (k ≤ 45)
 Fair m (Stop n e) = (n ≤ m) × (end_kind e ≡ 48 → n < m)
 
-fair-if : (m : ℕ) (q : Bool) (x y : Step) → Fair m x → Fair m y → Fair m (if q then x else y)
-unfolding if◌then◌else◌
+fair-if : (m : ℕ) (q : Bool) (x y : Step) → Fair m x → Fair m y → Fair m (if q then x otherwise y)
+unfolding if◌then◌otherwise◌
 fair-if m true x y f g = f
 fair-if m false x y f g = g
 
@@ -92,12 +92,12 @@ unfolding good_kinds
 good-tail k ks t = and_right (leb 1 k && leb k 45) (good_kinds ks) t
 
 fair-kind : (ws : List Reserved.Word) (name : List ℕ) → T (good_kinds (map (λ (w : Reserved.Word). w.kind) ws)) → (0 < kind_among ws name) × (kind_among ws name ≤ 45)
-unfolding kind_among if◌then◌else◌
+unfolding kind_among if◌then◌otherwise◌
 fair-kind [] name t = (omega arith, omega arith)
 fair-kind (w ∷ ws) name t = go (same w.word name) (good-head w.kind _ t) (fair-kind ws name (good-tail w.kind _ t))
   where
     go : (q : Bool) → (0 < w.kind) × (w.kind ≤ 45) → (0 < kind_among ws name) × (kind_among ws name ≤ 45)
-        → (0 < (if q then w.kind else kind_among ws name)) × ((if q then w.kind else kind_among ws name) ≤ 45)
+        → (0 < (if q then w.kind otherwise kind_among ws name)) × ((if q then w.kind otherwise kind_among ws name) ≤ 45)
     go true h k = h
     go false h k = k
 
@@ -113,29 +113,29 @@ sign_kinds : List Sign → List ℕ
 sign_kinds ss = map (λ (s : Sign). s.kind) ss
 
 fair-single_kind : (ss : List Sign) (b : ℕ) → T (good_kinds (sign_kinds ss)) → single_kind ss b ≤ 45
-unfolding single_kind sign_kinds if◌then◌else◌
+unfolding single_kind sign_kinds if◌then◌otherwise◌
 fair-single_kind [] b t = omega arith
 fair-single_kind (s ∷ ss) b t = go (eqb b s.first) (good-head s.kind _ t) (fair-single_kind ss b (good-tail s.kind _ t))
   where
-    go : (q : Bool) → (0 < s.kind) × (s.kind ≤ 45) → single_kind ss b ≤ 45 → (if q then s.kind else single_kind ss b) ≤ 45
+    go : (q : Bool) → (0 < s.kind) × (s.kind ≤ 45) → single_kind ss b ≤ 45 → (if q then s.kind otherwise single_kind ss b) ≤ 45
     go true h k = h.1
     go false h k = k
 
 fair-double_kind : (ss : List Sign) (b c : ℕ) → T (good_kinds (sign_kinds ss)) → double_kind ss b c ≤ 45
-unfolding double_kind sign_kinds if◌then◌else◌
+unfolding double_kind sign_kinds if◌then◌otherwise◌
 fair-double_kind [] b c t = omega arith
 fair-double_kind (s ∷ ss) b c t = go (eqb b s.first && eqb c s.second) (good-head s.kind _ t) (fair-double_kind ss b c (good-tail s.kind _ t))
   where
-    go : (q : Bool) → (0 < s.kind) × (s.kind ≤ 45) → double_kind ss b c ≤ 45 → (if q then s.kind else double_kind ss b c) ≤ 45
+    go : (q : Bool) → (0 < s.kind) × (s.kind ≤ 45) → double_kind ss b c ≤ 45 → (if q then s.kind otherwise double_kind ss b c) ≤ 45
     go true h k = h.1
     go false h k = k
 
 -- a sign of n bytes out of m, whose kind is k, or what else there is where k is 0
-fair-kinded : (k n m : ℕ) (x : Step) → k ≤ 45 → 0 < n → n ≤ m → Fair m x → Fair m (if eqb k 0 then x else Word k n)
-unfolding if◌then◌else◌ Fair
+fair-kinded : (k n m : ℕ) (x : Step) → k ≤ 45 → 0 < n → n ≤ m → Fair m x → Fair m (if eqb k 0 then x otherwise Word k n)
+unfolding if◌then◌otherwise◌ Fair
 fair-kinded k n m x h p l f = go (eqb k 0) refl
   where
-    go : (q : Bool) → eqb k 0 ≡ q → Fair m (if q then x else Word k n)
+    go : (q : Bool) → eqb k 0 ≡ q → Fair m (if q then x otherwise Word k n)
     go true e = f
     go false e = let z = eqb-false k 0 e in (p, l, pos_of_ne_zero k z, h)
 

@@ -15,7 +15,7 @@ use Rattle.sifc_err.specs.declared.Ending.{Ending}
 use Rattle.sifc_err.specs.declared.Ending.TheVariants.{TrueEnd, UnknownChar, UnterminatedString, Panic}
 use Rattle.sifc_lex.specs.declared.lex.Step.{Step}
 use Rattle.sifc_lex.specs.declared.lex.Step.TheVariants.{Skip, Word, Stop}
-use Rattle.sifc_word.specs.Base.{if◌then◌else◌, within, same, span, part}
+use Rattle.sifc_word.specs.Base.{if◌then◌otherwise◌, within, same, span, part}
 use Rattle.sifc_word.specs.BaseLaws.{and_left, and_right, true_of, false_of, span-yes, span-no, span-again, length-span, span-stop}
 use Rattle.sifc_word.specs.Reserved.{name_kind}
 use Rattle.sifc_lex.specs.Lex.{token, white, digit, letter, alnum, in_line, in_str, Sign, doubles, singles, single_kind, double_kind, one_sign, next_is, lex_slash, line_end, hash_comment, slash_comment, closed, lex_str, pointed, fraction, lex_num, lex_ident, lex_sign, step, on_step, ended, end_kind, Lexed, lex_from, lexed, lex}
@@ -56,7 +56,7 @@ spelt [] = record { kind = 47; text = [] } ∷ []
 spelt (x ∷ xs) = x.spelt ∷ spelt xs
 
 white-sep : (q : Bool) (rest : List ℕ) → step (sep q ∷ rest) ≡ Skip 1
-unfolding step sep if◌then◌else◌
+unfolding step sep if◌then◌otherwise◌
 white-sep true rest = refl
 white-sep false rest = refl
 
@@ -99,8 +99,8 @@ lex-words xs g = lex-words-after xs [] g
 
 -- ── a lexed token is such a word ──
 
-if-case : {X : Type 0} (q : Bool) (x y z : Step) → (T q → x ≡ z → X) → (T (not q) → y ≡ z → X) → (if q then x else y) ≡ z → X
-unfolding if◌then◌else◌
+if-case : {X : Type 0} (q : Bool) (x y z : Step) → (T q → x ≡ z → X) → (T (not q) → y ≡ z → X) → (if q then x otherwise y) ≡ z → X
+unfolding if◌then◌otherwise◌
 if-case true x y z f g e = f tt e
 if-case false x y z f g e = g tt e
 
@@ -122,7 +122,7 @@ sep-alnum false = refl
 
 -- a lex_ident
 name-step : (b : ℕ) (X : List ℕ) → T (not (white b)) → T (not (eqb b 35)) → T (not (eqb b 34)) → T (not (digit b)) → T (letter b) → step (b ∷ X) ≡ lex_ident b X
-unfolding step if◌then◌else◌
+unfolding step if◌then◌otherwise◌
 name-step b X w h s d l = rw (false_of (white b) w, false_of (eqb b 35) h, letter-not b l, false_of (eqb b 34) s, false_of (digit b) d, true_of (letter b) l) refl
 
 good-name : (b : ℕ) (bs : List ℕ) → T (not (white b)) → T (not (eqb b 35)) → T (not (eqb b 34)) → T (not (digit b)) → T (letter b)
@@ -144,7 +144,7 @@ take-one-more (suc m) (b ∷ bs) c r e = ap (λ (z : List ℕ). b ∷ z) (take-o
 
 -- a lex_str, its closed quote included
 good-string : (bs : List ℕ) → Good (same_kind 32 (34 ∷ (take (span in_str bs) bs ++ (34 ∷ []))))
-unfolding Good if◌then◌else◌
+unfolding Good if◌then◌otherwise◌
 good-string bs q rest =
     let m : ℕ = span in_str bs in
     let t : List ℕ = take m bs in
@@ -172,11 +172,11 @@ sep-digit true = refl
 sep-digit false = refl
 
 number_step : (b : ℕ) (X : List ℕ) → T (not (white b)) → T (not (eqb b 35)) → T (not (eqb b 34)) → T (digit b) → step (b ∷ X) ≡ lex_num X
-unfolding step if◌then◌else◌
+unfolding step if◌then◌otherwise◌
 number_step b X w h s d = rw (false_of (white b) w, false_of (eqb b 35) h, digit_not b d, false_of (eqb b 34) s, true_of (digit b) d) refl
 
 sep-point : (n : ℕ) (q : Bool) (rest : List ℕ) → fraction n (sep q ∷ rest) ≡ Word 33 n
-unfolding fraction sep if◌then◌else◌
+unfolding fraction sep if◌then◌otherwise◌
 sep-point n true rest = refl
 sep-point n false rest = refl
 
@@ -192,7 +192,7 @@ good-whole b bs w h s d q rest =
 
 -- a lex_num with a point
 good-point : (b : ℕ) (bs r : List ℕ) → T (not (white b)) → T (not (eqb b 35)) → T (not (eqb b 34)) → T (digit b) → Good (same_kind 33 (b ∷ (take (span digit bs) bs ++ (46 ∷ take (span digit r) r))))
-unfolding Good if◌then◌else◌
+unfolding Good if◌then◌otherwise◌
 good-point b bs r w h s d q rest =
     let m : ℕ = span digit bs in
     let k : ℕ = span digit r in
@@ -226,11 +226,11 @@ AllDouble [] = Unit {0}
 AllDouble (x ∷ xs) = Good (same_kind x.kind (x.first ∷ x.second ∷ [])) × AllDouble xs
 
 all-singles : AllSingle singles
-unfolding AllSingle singles Good step sep if◌then◌else◌
+unfolding AllSingle singles Good step sep if◌then◌otherwise◌
 all-singles = ((either _ (λ rest. refl) (λ rest. refl), (either _ (λ rest. refl) (λ rest. refl), (either _ (λ rest. refl) (λ rest. refl), (either _ (λ rest. refl) (λ rest. refl), (either _ (λ rest. refl) (λ rest. refl), (either _ (λ rest. refl) (λ rest. refl), (either _ (λ rest. refl) (λ rest. refl), (either _ (λ rest. refl) (λ rest. refl), (either _ (λ rest. refl) (λ rest. refl), (either _ (λ rest. refl) (λ rest. refl), (either _ (λ rest. refl) (λ rest. refl), (either _ (λ rest. refl) (λ rest. refl), (either _ (λ rest. refl) (λ rest. refl), (either _ (λ rest. refl) (λ rest. refl), (either _ (λ rest. refl) (λ rest. refl), (either _ (λ rest. refl) (λ rest. refl), (either _ (λ rest. refl) (λ rest. refl), (either _ (λ rest. refl) (λ rest. refl), (either _ (λ rest. refl) (λ rest. refl), (either _ (λ rest. refl) (λ rest. refl), tt)))))))))))))))))))))
 
 all-doubles : AllDouble doubles
-unfolding AllDouble doubles Good step sep if◌then◌else◌
+unfolding AllDouble doubles Good step sep if◌then◌otherwise◌
 all-doubles = (either _ (λ rest. refl) (λ rest. refl), (either _ (λ rest. refl) (λ rest. refl), (either _ (λ rest. refl) (λ rest. refl), (either _ (λ rest. refl) (λ rest. refl), (either _ (λ rest. refl) (λ rest. refl), (either _ (λ rest. refl) (λ rest. refl), (either _ (λ rest. refl) (λ rest. refl), (either _ (λ rest. refl) (λ rest. refl), (either _ (λ rest. refl) (λ rest. refl), tt)))))))))
 
 record IsWord (k n : ℕ) (s : List ℕ) : Type 0 where
@@ -238,20 +238,20 @@ record IsWord (k n : ℕ) (s : List ℕ) : Type 0 where
   nonempty : 0 < n
 
 good-single : (ss : List Sign) → AllSingle ss → (b : ℕ) → (single_kind ss b ≡ 0 → ⊥) → Good (same_kind (single_kind ss b) (b ∷ []))
-unfolding AllSingle single_kind if◌then◌else◌
+unfolding AllSingle single_kind if◌then◌otherwise◌
 good-single [] a b z = absurd (z refl)
 good-single (x ∷ xs) a b z = go (eqb b x.first) refl z (good-single xs a.1 b)
   where
-    go : (q : Bool) → eqb b x.first ≡ q → ((if q then x.kind else single_kind xs b) ≡ 0 → ⊥) → ((single_kind xs b ≡ 0 → ⊥) → Good (same_kind (single_kind xs b) (b ∷ []))) → Good (same_kind (if q then x.kind else single_kind xs b) (b ∷ []))
+    go : (q : Bool) → eqb b x.first ≡ q → ((if q then x.kind otherwise single_kind xs b) ≡ 0 → ⊥) → ((single_kind xs b ≡ 0 → ⊥) → Good (same_kind (single_kind xs b) (b ∷ []))) → Good (same_kind (if q then x.kind otherwise single_kind xs b) (b ∷ []))
     go true h z' ih = subst (λ (c : ℕ). Good (same_kind x.kind (c ∷ []))) (sym (eqb-true b x.first h)) a.0
     go false h z' ih = ih z'
 
 good-double : (ss : List Sign) → AllDouble ss → (b c : ℕ) → (double_kind ss b c ≡ 0 → ⊥) → Good (same_kind (double_kind ss b c) (b ∷ c ∷ []))
-unfolding AllDouble double_kind if◌then◌else◌
+unfolding AllDouble double_kind if◌then◌otherwise◌
 good-double [] a b c z = absurd (z refl)
 good-double (x ∷ xs) a b c z = go (eqb b x.first && eqb c x.second) refl z (good-double xs a.1 b c)
   where
-    go : (q : Bool) → (eqb b x.first && eqb c x.second) ≡ q → ((if q then x.kind else double_kind xs b c) ≡ 0 → ⊥) → ((double_kind xs b c ≡ 0 → ⊥) → Good (same_kind (double_kind xs b c) (b ∷ c ∷ []))) → Good (same_kind (if q then x.kind else double_kind xs b c) (b ∷ c ∷ []))
+    go : (q : Bool) → (eqb b x.first && eqb c x.second) ≡ q → ((if q then x.kind otherwise double_kind xs b c) ≡ 0 → ⊥) → ((double_kind xs b c ≡ 0 → ⊥) → Good (same_kind (double_kind xs b c) (b ∷ c ∷ []))) → Good (same_kind (if q then x.kind otherwise double_kind xs b c) (b ∷ c ∷ []))
     go true h z' ih =
         let t : T (eqb b x.first && eqb c x.second) = rw h tt in
         let eb : b ≡ x.first = eqb→eq b x.first (and_left (eqb b x.first) (eqb c x.second) t) in
@@ -260,7 +260,7 @@ good-double (x ∷ xs) a b c z = go (eqb b x.first && eqb c x.second) refl z (go
     go false h z' ih = ih z'
 
 -- a step that is a sign of kind m and length l where m is not 0, else another step
-kinded-lexed : (m l : ℕ) (x : Step) (k n : ℕ) (s : List ℕ) → 0 < l → ((m ≡ 0 → ⊥) → Good (same_kind m (take l s))) → (x ≡ Word k n → IsWord k n s) → (if eqb m 0 then x else Word m l) ≡ Word k n → IsWord k n s
+kinded-lexed : (m l : ℕ) (x : Step) (k n : ℕ) (s : List ℕ) → 0 < l → ((m ≡ 0 → ⊥) → Good (same_kind m (take l s))) → (x ≡ Word k n → IsWord k n s) → (if eqb m 0 then x otherwise Word m l) ≡ Word k n → IsWord k n s
 kinded-lexed m l x k n s p g f e =
     if-case (eqb m 0) x (Word m l) (Word k n) (λ t z. f z)
     (λ t z.
@@ -282,7 +282,7 @@ sign-lexed b (c ∷ bs) k n e = kinded-lexed (double_kind doubles b c) 2 (one_si
 
 -- a slash alone
 good-slash : Good (same_kind 17 (47 ∷ []))
-unfolding Good step sep if◌then◌else◌
+unfolding Good step sep if◌then◌otherwise◌
 good-slash true rest = refl
 good-slash false rest = refl
 
@@ -347,7 +347,7 @@ string-lexed bs k n e = go (drop (span in_str bs) bs) refl
         (record { good = subst (λ (y : List ℕ). Good (same_kind 32 (34 ∷ y))) (sym et) (good-string bs); nonempty = omega arith })
 
 number-lexed : (b : ℕ) (bs : List ℕ) (k n : ℕ) → T (not (white b)) → T (not (eqb b 35)) → T (not (eqb b 34)) → T (digit b) → lex_num bs ≡ Word k n → IsWord k n (b ∷ bs)
-unfolding lex_num if◌then◌else◌
+unfolding lex_num if◌then◌otherwise◌
 number-lexed b bs k n w h s d e = go (drop (span digit bs) bs) refl
   where
     m : ℕ

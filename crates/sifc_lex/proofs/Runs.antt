@@ -12,7 +12,7 @@ use lib.Seq.{drop-cons, drop-drop}
 use Rattle.sifc_err.specs.declared.Ending.TheVariants.{TrueEnd, UnknownChar, UnterminatedString, Panic}
 use Rattle.sifc_lex.specs.declared.lex.Step.{Step}
 use Rattle.sifc_lex.specs.declared.lex.Step.TheVariants.{Skip, Word, Stop}
-use Rattle.sifc_word.specs.Base.{if◌then◌else◌, span}
+use Rattle.sifc_word.specs.Base.{if◌then◌otherwise◌, span}
 use Rattle.sifc_word.specs.BaseLaws.{and-false}
 use Rattle.sifc_word.specs.Reserved.{name_kind}
 use Rattle.sifc_lex.specs.Lex.{white, letter, step, alnum, digit, in_line, in_str, hash_comment, line_end, slash_comment, next_is, lex_slash, closed, lex_str, pointed, fraction, lex_num, lex_ident, one_sign, doubles, double_kind, lex_sign}
@@ -56,12 +56,12 @@ unfolding lex_num fraction
 num-none s at whole e h = rw (rest-none digit s at whole e h) (num-length s at whole e)
 
 pub num-whole : (s : List ℕ) (at whole : ℕ) → whole ≡ at + span digit (drop at s) → whole < length s → (get_or s whole 0 ≡ 46 → ⊥) → lex_num (drop at s) ≡ Word 33 (1 + (whole - at))
-unfolding lex_num fraction if◌then◌else◌
+unfolding lex_num fraction if◌then◌otherwise◌
 num-whole s at whole e h n = rw (rest_more digit s at whole e h) (rw (ne_eqb (get_or s whole 0) 46 n) (num-length s at whole e))
 
 num-point : (s : List ℕ) (at whole : ℕ) → whole ≡ at + span digit (drop at s) → whole < length s → get_or s whole 0 ≡ 46
     → lex_num (drop at s) ≡ pointed (1 + span digit (drop at s) + 1 + span digit (drop (suc whole) s)) (drop (span digit (drop (suc whole) s)) (drop (suc whole) s))
-unfolding lex_num fraction if◌then◌else◌
+unfolding lex_num fraction if◌then◌otherwise◌
 num-point s at whole e h y = rw (rest_more digit s at whole e h) (rw (eq-eqb (get_or s whole 0) 46 y) refl)
 
 pub num-more : (s : List ℕ) (at whole end : ℕ) → whole ≡ at + span digit (drop at s) → whole < length s → get_or s whole 0 ≡ 46
@@ -86,24 +86,24 @@ ident-run s at end kind h e k = ap₂ Word (k ∙ ap name_kind (ident-part s at 
 
 -- a slash: another next byte, or none
 pub slash-alone : (s : List ℕ) (at : ℕ) → length s ≤ at → lex_slash (drop at s) ≡ Word 17 1
-unfolding lex_slash next_is if◌then◌else◌
+unfolding lex_slash next_is if◌then◌otherwise◌
 slash-alone s at h = rw (drop_of_length-le s h) refl
 
 pub slash-other : (s : List ℕ) (at : ℕ) → at < length s → (get_or s at 0 ≡ 47 → ⊥) → lex_slash (drop at s) ≡ Word 17 1
-unfolding lex_slash next_is if◌then◌else◌
+unfolding lex_slash next_is if◌then◌otherwise◌
 slash-other s at h n = rw (drop-cons s at 0 h) (rw (ne_eqb (get_or s at 0) 47 n) refl)
 
 pub slash-two : (s : List ℕ) (at : ℕ) → at < length s → get_or s at 0 ≡ 47 → lex_slash (drop at s) ≡ slash_comment (drop at s)
-unfolding lex_slash next_is if◌then◌else◌
+unfolding lex_slash next_is if◌then◌otherwise◌
 slash-two s at h e = rw (drop-cons s at 0 h) (rw (eq-eqb (get_or s at 0) 47 e) refl)
 
 -- a sign: no next byte, one that makes no sign of two, one that does
 pub none-at : (s : List ℕ) (at b : ℕ) → length s ≤ at → double_kind doubles b (get_or s at 0) ≡ 0
-unfolding double_kind doubles if◌then◌else◌
+unfolding double_kind doubles if◌then◌otherwise◌
 none-at s at b h = rw (get_or-eq_default s 0 h) (simp (and-false))
 
 pub sign-one : (s : List ℕ) (at b : ℕ) → double_kind doubles b (get_or s at 0) ≡ 0 → lex_sign b (drop at s) ≡ one_sign b
-unfolding lex_sign if◌then◌else◌
+unfolding lex_sign if◌then◌otherwise◌
 sign-one s at b e = go (ltb at (length s)) refl
   where
     go : (t : Bool) → ltb at (length s) ≡ t → lex_sign b (drop at s) ≡ one_sign b
@@ -111,7 +111,7 @@ sign-one s at b e = go (ltb at (length s)) refl
     go false z = rw (drop_of_length-le s (ltb-false at (length s) z)) refl
 
 pub sign-two : (s : List ℕ) (at b : ℕ) → (double_kind doubles b (get_or s at 0) ≡ 0 → ⊥) → lex_sign b (drop at s) ≡ Word (double_kind doubles b (get_or s at 0)) 2
-unfolding lex_sign if◌then◌else◌
+unfolding lex_sign if◌then◌otherwise◌
 sign-two s at b n = go (ltb at (length s)) refl
   where
     go : (t : Bool) → ltb at (length s) ≡ t → lex_sign b (drop at s) ≡ Word (double_kind doubles b (get_or s at 0)) 2
@@ -128,15 +128,15 @@ module _ (s : List ℕ) (at : ℕ) (h : at < length s) where
   turn-cons = ap step (drop-cons s at 0 h)
 
   pub turn-white : white (get_or s at 0) ≡ true → step (drop at s) ≡ Skip 1
-  unfolding step if◌then◌else◌
+  unfolding step if◌then◌otherwise◌
   turn-white w = turn-cons ∙ rw w refl
 
   pub turn-hash : white (get_or s at 0) ≡ false → get_or s at 0 ≡ 35 → step (drop at s) ≡ hash_comment (drop (suc at) s)
-  unfolding step if◌then◌else◌
+  unfolding step if◌then◌otherwise◌
   turn-hash w e = turn-cons ∙ rw (w, eq-eqb (get_or s at 0) 35 e) refl
 
   pub turn-slash : white (get_or s at 0) ≡ false → (get_or s at 0 ≡ 35 → ⊥) → get_or s at 0 ≡ 47 → step (drop at s) ≡ lex_slash (drop (suc at) s)
-  unfolding step if◌then◌else◌
+  unfolding step if◌then◌otherwise◌
   turn-slash w n e = turn-cons ∙ rw (w, ne_eqb (get_or s at 0) 35 n, eq-eqb (get_or s at 0) 47 e) refl
 
   -- no white space, `#` or `/`
@@ -144,17 +144,17 @@ module _ (s : List ℕ) (at : ℕ) (h : at < length s) where
   Plain = (white (get_or s at 0) ≡ false) × (get_or s at 0 ≡ 35 → ⊥) × (get_or s at 0 ≡ 47 → ⊥)
 
   pub turn-str : Plain → get_or s at 0 ≡ 34 → step (drop at s) ≡ lex_str (drop (suc at) s)
-  unfolding step if◌then◌else◌
+  unfolding step if◌then◌otherwise◌
   turn-str p e = turn-cons ∙ rw (p.0, ne_eqb (get_or s at 0) 35 p.1, ne_eqb (get_or s at 0) 47 p.2, eq-eqb (get_or s at 0) 34 e) refl
 
   pub turn-num : Plain → (get_or s at 0 ≡ 34 → ⊥) → digit (get_or s at 0) ≡ true → step (drop at s) ≡ lex_num (drop (suc at) s)
-  unfolding step if◌then◌else◌
+  unfolding step if◌then◌otherwise◌
   turn-num p n d = turn-cons ∙ rw (p.0, ne_eqb (get_or s at 0) 35 p.1, ne_eqb (get_or s at 0) 47 p.2, ne_eqb (get_or s at 0) 34 n, d) refl
 
   pub turn-ident : Plain → (get_or s at 0 ≡ 34 → ⊥) → digit (get_or s at 0) ≡ false → letter (get_or s at 0) ≡ true → step (drop at s) ≡ lex_ident (get_or s at 0) (drop (suc at) s)
-  unfolding step if◌then◌else◌
+  unfolding step if◌then◌otherwise◌
   turn-ident p n d l = turn-cons ∙ rw (p.0, ne_eqb (get_or s at 0) 35 p.1, ne_eqb (get_or s at 0) 47 p.2, ne_eqb (get_or s at 0) 34 n, d, l) refl
 
   pub turn-sign : Plain → (get_or s at 0 ≡ 34 → ⊥) → digit (get_or s at 0) ≡ false → letter (get_or s at 0) ≡ false → step (drop at s) ≡ lex_sign (get_or s at 0) (drop (suc at) s)
-  unfolding step if◌then◌else◌
+  unfolding step if◌then◌otherwise◌
   turn-sign p n d l = turn-cons ∙ rw (p.0, ne_eqb (get_or s at 0) 35 p.1, ne_eqb (get_or s at 0) 47 p.2, ne_eqb (get_or s at 0) 34 n, d, l) refl

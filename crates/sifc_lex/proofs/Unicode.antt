@@ -3,7 +3,7 @@
 -- char::is_whitespace, is_alphabetic and is_digit(10) go by these (is_digit by 0 to 9 alone, which are all of Nd below 128).
 use Rattle.std.specs.Prelude.{ℕ, ◌<◌, ◌≡◌, List, [], ◌∷◌, Bool, eqb, get_or}
 use Rattle.std.proofs.Common.{eqb→eq}
-use Rattle.sifc_word.specs.Base.{if◌then◌else◌}
+use Rattle.sifc_word.specs.Base.{if◌then◌otherwise◌}
 use Rattle.sifc_word.specs.BaseLaws.{every, every-at}
 use Rattle.sifc_lex.specs.Lex.{white, digit, letter}
 
@@ -13,8 +13,8 @@ classes = 0 ∷ 0 ∷ 0 ∷ 0 ∷ 0 ∷ 0 ∷ 0 ∷ 0 ∷ 0 ∷ 1 ∷ 1 ∷ 1 �
 
 -- the class that the tests of Lex.antt give a byte
 unfoldable pub class_of : ℕ → ℕ
-unfolding white digit letter if◌then◌else◌
-class_of b = if white b then 1 else if letter b then 2 else if digit b then 3 else 0
+unfolding white digit letter if◌then◌otherwise◌
+class_of b = if white b then 1 otherwise if letter b then 2 otherwise if digit b then 3 otherwise 0
 
 agrees : ℕ → ℕ → Bool
 agrees b x = eqb x (class_of b)

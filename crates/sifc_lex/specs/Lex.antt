@@ -5,7 +5,7 @@ use Rattle.sifc_err.specs.declared.Ending.{Ending}
 use Rattle.sifc_err.specs.declared.Ending.TheVariants.{TrueEnd, UnknownChar, UnterminatedString, Panic}
 use Rattle.sifc_lex.specs.declared.lex.Step.{Step}
 use Rattle.sifc_lex.specs.declared.lex.Step.TheVariants.{Skip, Word, Stop}
-use Rattle.sifc_word.specs.Base.{if◌then◌else◌, within, span}
+use Rattle.sifc_word.specs.Base.{if◌then◌otherwise◌, within, span}
 use Rattle.sifc_word.specs.Reserved.{name_kind}
 
 abbrev pub token : ℕ → ℕ → ℕ → Token
@@ -64,25 +64,25 @@ singles = sign 40 0 1 ∷ sign 41 0 2 ∷ sign 123 0 3 ∷ sign 125 0 4 ∷ sign
 
 -- the kind of a sign of one byte, and of two; 0 where there is none
 unfoldable pub single_kind : List Sign → ℕ → ℕ
-unfolding if◌then◌else◌
+unfolding if◌then◌otherwise◌
 single_kind [] b = 0
-single_kind (s ∷ ss) b = if eqb b s.first then s.kind else single_kind ss b
+single_kind (s ∷ ss) b = if eqb b s.first then s.kind otherwise single_kind ss b
 
 unfoldable pub double_kind : List Sign → ℕ → ℕ → ℕ
-unfolding if◌then◌else◌
+unfolding if◌then◌otherwise◌
 double_kind [] b c = 0
-double_kind (s ∷ ss) b c = if eqb b s.first && eqb c s.second then s.kind else double_kind ss b c
+double_kind (s ∷ ss) b c = if eqb b s.first && eqb c s.second then s.kind otherwise double_kind ss b c
 
 -- the arms of one byte; the last arm of `lex`: an unknown character
 unfoldable pub one_sign : ℕ → Step
-unfolding single_kind singles if◌then◌else◌
-one_sign b = if eqb (single_kind singles b) 0 then Stop 0 UnknownChar else Word (single_kind singles b) 1
+unfolding single_kind singles if◌then◌otherwise◌
+one_sign b = if eqb (single_kind singles b) 0 then Stop 0 UnknownChar otherwise Word (single_kind singles b) 1
 
 -- the arms that look at the next byte by peek_char
 unfoldable pub lex_sign : ℕ → List ℕ → Step
-unfolding one_sign double_kind doubles if◌then◌else◌
+unfolding one_sign double_kind doubles if◌then◌otherwise◌
 lex_sign b [] = one_sign b
-lex_sign b (c ∷ bs) = if eqb (double_kind doubles b c) 0 then one_sign b else Word (double_kind doubles b c) 2
+lex_sign b (c ∷ bs) = if eqb (double_kind doubles b c) 0 then one_sign b otherwise Word (double_kind doubles b c) 2
 
 -- advance_to_next_line: `#` to the line's end or the script's. What ends the line is white space
 unfoldable pub hash_comment : List ℕ → Step
@@ -105,8 +105,8 @@ next_is b (c ∷ bs) = eqb c b
 
 -- the arm '/'
 unfoldable pub lex_slash : List ℕ → Step
-unfolding next_is slash_comment if◌then◌else◌
-lex_slash bs = if next_is 47 bs then slash_comment bs else Word 17 1
+unfolding next_is slash_comment if◌then◌otherwise◌
+lex_slash bs = if next_is 47 bs then slash_comment bs otherwise Word 17 1
 
 -- lex_str: to the next quote, or an Eof at the script's end
 unfoldable pub closed : ℕ → List ℕ → Step
@@ -123,9 +123,9 @@ pointed n [] = Stop 0 (Panic 2)
 pointed n (c ∷ r) = Word 33 n
 
 unfoldable pub fraction : ℕ → List ℕ → Step
-unfolding pointed span digit if◌then◌else◌
+unfolding pointed span digit if◌then◌otherwise◌
 fraction n [] = Word 33 n
-fraction n (c ∷ bs) = if eqb c 46 then pointed (n + 1 + span digit bs) (drop (span digit bs) bs) else Word 33 n
+fraction n (c ∷ bs) = if eqb c 46 then pointed (n + 1 + span digit bs) (drop (span digit bs) bs) otherwise Word 33 n
 
 unfoldable pub lex_num : List ℕ → Step
 unfolding fraction span digit
@@ -138,16 +138,16 @@ lex_ident b bs = Word (name_kind (b ∷ take (span alnum bs) bs)) (1 + span alnu
 
 -- One turn of `lex` on the bytes that are left. The arms exclude one another, so their order is free; this one has the signs last.
 unfoldable pub step : List ℕ → Step
-unfolding white digit letter hash_comment lex_slash lex_str lex_num lex_ident lex_sign if◌then◌else◌
+unfolding white digit letter hash_comment lex_slash lex_str lex_num lex_ident lex_sign if◌then◌otherwise◌
 step [] = Stop 0 TrueEnd
 step (b ∷ bs) =
     if white b then Skip 1
-    else if eqb b 35 then hash_comment bs
-    else if eqb b 47 then lex_slash bs
-    else if eqb b 34 then lex_str bs
-    else if digit b then lex_num bs
-    else if letter b then lex_ident b bs
-    else lex_sign b bs
+    otherwise if eqb b 35 then hash_comment bs
+    otherwise if eqb b 47 then lex_slash bs
+    otherwise if eqb b 34 then lex_str bs
+    otherwise if digit b then lex_num bs
+    otherwise if letter b then lex_ident b bs
+    otherwise lex_sign b bs
 
 -- The token that ends a list: Eof, or 48 for a lexing panic. Its length says nothing of the ending.
 unfoldable pub end_kind : Ending → ℕ

@@ -12,7 +12,7 @@ use lib.Dec.{eqb, eqb→eq}
 use borrow.Author.Tests.{eq-eqb, ne_eqb}
 use Rattle.sifc_err.specs.declared.Refusal.TheVariants.{SourceFault}
 use Rattle.sifc_err.specs.declared.Token.{Token}
-use Rattle.sifc_word.specs.Base.{if◌then◌else◌}
+use Rattle.sifc_word.specs.Base.{if◌then◌otherwise◌}
 use Rattle.sifc_word.specs.Reserved.{is_std_lib_fn}
 use Rattle.sifc_def.specs.declared.Err.{Err}
 use Rattle.sifc_def.specs.declared.What.{What}
@@ -84,22 +84,22 @@ module _ {A : Type 0} {o₀ : Out A} {I : Inp} {n : Rooms} {k lo : ℕ} {E : Lis
   panicked {v} {kind} {i} {o} s p h e = record { same = sym (p.left ∙ ap (λ (z : ℕ). refuse (SourceFault kind z)) (off-is I n i p.is.stands.toks h ∙ sym e)); fine = tt }
 
 known_is : (c : Ctx) (i : ℕ) (o : Option What) (s : St) → is_known o (name_at c i) ≡ true → known c i o s ≡ done tt s
-unfolding known is_known if◌then◌else◌
+unfolding known is_known if◌then◌otherwise◌
 known_is c i (some w) s e = refl
 known_is c i none s e = rw e refl
 
 known-not : (c : Ctx) (i : ℕ) (o : Option What) (s : St) → is_known o (name_at c i) ≡ false → known c i o s ≡ throw_past c (UndeclSym i) s
-unfolding known is_known if◌then◌else◌
+unfolding known is_known if◌then◌otherwise◌
 known-not c i (some w) s e = absurd (let z : ◌≡◌ {A = ℕ} 0 1 = cc in omega arith)
 known-not c i none s e = rw e refl
 
 -- a name that is not checked, one that is known, and one that is not
 name-skipped : (c : Ctx) (i : ℕ) (s : St) → s.check ≡ false → check_name c i s ≡ done tt s
-unfolding check_name go_on if◌then◌else◌
+unfolding check_name go_on if◌then◌otherwise◌
 name-skipped c i s e = rw e refl
 
 name-looked : (c : Ctx) (i : ℕ) (s : St) → s.check ≡ true → check_name c i s ≡ known c i (find s.level (name_at c i) s.syms) s
-unfolding check_name retrieve go_on if◌then◌else◌
+unfolding check_name retrieve go_on if◌then◌otherwise◌
 name-looked c i s e = rw e refl
 
 module _ {A : Type 0} {o₀ : Out A} {I : Inp} {n : Rooms} {k lo : ℕ} {E : List Err} {M : Mem} {w : Walk} where
@@ -135,10 +135,10 @@ SmallIn b none = Unit {0}
 SmallIn b (some w) = value_of w < b
 
 what-small : (b t v : ℕ) → 0 < b → v < b → value_of (what_of t v) < b
-unfolding what_of if◌then◌else◌ value_of
+unfolding what_of if◌then◌otherwise◌ value_of
 what-small b t v z h = pick (eqb t 0) (eqb t 1) (eqb t 2) (eqb t 3)
   where
-    pick : (p q r s : Bool) → value_of (if◌then◌else◌ p Placeholder (if◌then◌else◌ q (Function v) (if◌then◌else◌ r (Variable v false) (if◌then◌else◌ s (Variable v true) Other)))) < b
+    pick : (p q r s : Bool) → value_of (if◌then◌otherwise◌ p Placeholder (if◌then◌otherwise◌ q (Function v) (if◌then◌otherwise◌ r (Variable v false) (if◌then◌otherwise◌ s (Variable v true) Other)))) < b
     pick true q r s = z
     pick false true r s = h
     pick false false true s = h
@@ -190,7 +190,7 @@ word-std n e = record { kind = omega arith; flag = eq-eqb ((n * 64 + 84 + 32) / 
 
 module _ {hs ls : List ℕ} {l : Limits} {w : Walk} {want n : ℕ} {r : Parsed} where
   pub counted-wrong : (want ≡ n → ⊥) → Throws l w (WrongFnParmCnt want n) r → CallsCounted hs ls l w want n r hs ls
-  unfolding call_counted if◌then◌else◌
+  unfolding call_counted if◌then◌otherwise◌
   counted-wrong ne d = record {
     does = λ s os ks ys p.
         let g = d.does s os ks (mem ys hs ls) p in
@@ -198,7 +198,7 @@ module _ {hs ls : List ℕ} {l : Limits} {w : Walk} {want n : ℕ} {r : Parsed} 
   }
 
   pub counted-right : want ≡ n → {h : ℕ} {hs' ls' : List ℕ} → CallWord n false h → Pushes hs ls w h 0 r hs' ls' → CallsCounted hs ls l w want n r hs' ls'
-  unfolding call_counted if◌then◌else◌
+  unfolding call_counted if◌then◌otherwise◌
   counted-right e {h} cw d = record {
     does = λ s os ks ys p.
         let g = pushed-call {I = inp s os ks l} {M = mem ys hs ls} p cw d in

@@ -12,7 +12,7 @@ use lib.Dec.{ltb, eqb}
 use borrow.Author.Tests.{eq-eqb, ne_eqb, ltb-true, ltb-false}
 use Rattle.sifc_err.specs.declared.Refusal.{Refusal}
 use Rattle.sifc_err.specs.declared.Refusal.TheVariants.{SourceFault}
-use Rattle.sifc_word.specs.Base.{if◌then◌else◌}
+use Rattle.sifc_word.specs.Base.{if◌then◌otherwise◌}
 use Rattle.sifc_word.specs.Kind.{Eof, LexPanic}
 use Rattle.sifc_lex.specs.Lex.{lex}
 use Rattle.sifc_def.specs.declared.Err.{Err}
@@ -69,21 +69,21 @@ module _ (c : Ctx) (d : Void) (s : St) where
 
   module _ (f n : ℕ) (flag : Bool) where
     turn-eof : eqb (tok_at c s.at).kind Eof ≡ true → program c (suc f) d n flag s ≡ end_read c n flag none s
-    unfolding program go_on if◌then◌else◌
+    unfolding program go_on if◌then◌otherwise◌
     turn-eof k = rw k refl
 
     module _ (k : eqb (tok_at c s.at).kind Eof ≡ false) where
       turn-done : {s' : St} → d s ≡ done tt s' → program c (suc f) d n flag s ≡ program c f d (suc n) flag s'
-      unfolding program go_on if◌then◌else◌
+      unfolding program go_on if◌then◌otherwise◌
       turn-done e = rw (k, top-done e) refl
 
       turn-refuse : {r : Refusal} → d s ≡ refuse r → program c (suc f) d n flag s ≡ refuse r
-      unfolding program go_on if◌then◌else◌
+      unfolding program go_on if◌then◌otherwise◌
       turn-refuse e = rw (k, top-refuse e) refl
 
       turn-fail : {s' : St} {x : Err} → d s ≡ fail x s'
-          → program c (suc f) d n flag s ≡ (if continuable c x.why then program c f d n true else end_read c n true (some x)) (backed (length s.nodes) s')
-      unfolding program go_on if◌then◌else◌
+          → program c (suc f) d n flag s ≡ (if continuable c x.why then program c f d n true otherwise end_read c n true (some x)) (backed (length s.nodes) s')
+      unfolding program go_on if◌then◌otherwise◌
       turn-fail e = rw (k, top-fail e) refl
 
 -- ── reasons ──
@@ -408,12 +408,12 @@ module _ {s os ks : List ℕ} {l : Limits} {M₀ : Mem} {ps₀ rs₀ : List ℕ}
         pub back-even : length M'.head ≡ length M'.load
         back-even = back-ready.even
 
-        turned : walk c₀ depth_limit ≡ (if continuable c₀ z.why then program c₀ (t.f - 1) (declare c₀) n true else end_read c₀ n true (some z)) (abs I (with_err many z said.errs) (back_to y x.nodes) M')
-        turned = left-suc ∙ turn-fail c₀ (declare c₀) here (t.f - 1) n flag not-eof fail-is ∙ ap (λ (q : St). (if continuable c₀ z.why then program c₀ (t.f - 1) (declare c₀) n true else end_read c₀ n true (some z)) q) back_is
+        turned : walk c₀ depth_limit ≡ (if continuable c₀ z.why then program c₀ (t.f - 1) (declare c₀) n true otherwise end_read c₀ n true (some z)) (abs I (with_err many z said.errs) (back_to y x.nodes) M')
+        turned = left-suc ∙ turn-fail c₀ (declare c₀) here (t.f - 1) n flag not-eof fail-is ∙ ap (λ (q : St). (if continuable c₀ z.why then program c₀ (t.f - 1) (declare c₀) n true otherwise end_read c₀ n true (some z)) q) back_is
 
         -- it is continuable
         pub gone-on : does_go_on z.why ≡ true → Parsing s os ks l M₀ ps₀ rs₀ M' ps'' rs'' w n true
-        unfolding FarOf if◌then◌else◌
+        unfolding FarOf if◌then◌otherwise◌
         gone-on g = rw ew (record {
           lexed = t.lexed;
           f = t.f - 1;
@@ -425,18 +425,18 @@ module _ {s os ks : List ℕ} {l : Limits} {M₀ : Mem} {ps₀ rs₀ : List ℕ}
           book = record { errs = with_err many z said.errs; notes = noted; count = counts; even = ep'' ∙ ep ∙ t.book.even ∙ sym er ∙ sym er''; room = t.book.room ∙ sym ep ∙ sym ep'' };
           few = omega (arith, t.few, after-fail.on);
           far = subst (λ (q : St). Far c₀ (worth (lex s)) (lexed-toks c₀ s t.lexed) n q) back_is after-fail.far;
-          left = turned ∙ ap (λ (b : Bool). (if b then program c₀ (t.f - 1) (declare c₀) n true else end_read c₀ n true (some z)) (abs I (with_err many z said.errs) (back_to y x.nodes) M')) (goes-on-is c₀ z.why ∙ g);
+          left = turned ∙ ap (λ (b : Bool). (if b then program c₀ (t.f - 1) (declare c₀) n true otherwise end_read c₀ n true (some z)) (abs I (with_err many z said.errs) (back_to y x.nodes) M')) (goes-on-is c₀ z.why ∙ g);
         })
 
         -- it is not
         pub given-up : does_go_on z.why ≡ false → {v : Walked} {hs ls : List ℕ} → EndsRead M'.head M'.load w n true (By z) v hs ls → length hs ≡ length M'.head → length ls ≡ length M'.load
             → Walks I M₀ v (mem M'.symbols hs ls) ps'' rs''
-        unfolding if◌then◌else◌
+        unfolding if◌then◌otherwise◌
         given-up g {v} {hs} {ls} dw eh el =
             let d' : EndsRead M'.head M'.load (back_to y x.nodes) n true (By z) v hs ls = subst (λ (u : Walk). EndsRead M'.head M'.load u n true (By z) v hs ls) ew dw in
             let o = d'.does I M'.symbols back-ready eh el (with_err many z said.errs) counts in
             let q = subst (λ (c : Ctx). ClosedOf I (end_read c n true (some z) (abs I (with_err many z said.errs) (back_to y x.nodes) M')) (with_err many z said.errs) y.errors v (mem M'.symbols hs ls)) (ap (λ (m : Rooms). ctx I m) (rooms-kept kept-all)) o in
-            ended (with_err many z said.errs) v (mem M'.symbols hs ls) ps'' rs'' y.errors (turned ∙ ap (λ (b : Bool). (if b then program c₀ (t.f - 1) (declare c₀) n true else end_read c₀ n true (some z)) (abs I (with_err many z said.errs) (back_to y x.nodes) M')) (goes-on-is c₀ z.why ∙ g)) q noted counts (omega (arith, broke-of.room, t.book.room, ep, ep''))
+            ended (with_err many z said.errs) v (mem M'.symbols hs ls) ps'' rs'' y.errors (turned ∙ ap (λ (b : Bool). (if b then program c₀ (t.f - 1) (declare c₀) n true otherwise end_read c₀ n true (some z)) (abs I (with_err many z said.errs) (back_to y x.nodes) M')) (goes-on-is c₀ z.why ∙ g)) q noted counts (omega (arith, broke-of.room, t.book.room, ep, ep''))
 
 -- ── the symbol words before the walk ──
 

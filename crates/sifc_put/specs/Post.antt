@@ -1,7 +1,7 @@
 -- What the writer's contracts cite. It writes backwards, from the end of the buffer and from the last node: a call is handed the node before which its thing
 -- ends and the place before which it writes.
 use Rattle.std.specs.Prelude.{ℕ, zero, suc, ◌+◌, ◌-◌, ◌%◌, ◌≤◌, ◌<◌, ◌≡◌, List, [], ◌∷◌, ◌++◌, eqb, length, get_or, take, drop}
-use Rattle.sifc_word.specs.Base.{if◌then◌else◌, member}
+use Rattle.sifc_word.specs.Base.{if◌then◌otherwise◌, member}
 use Rattle.sifc_def.specs.Ast.{TableAccess, ArrayMutExpr, VarAssignExpr, BinaryExpr}
 use Rattle.sifc_def.specs.Expr.{looseness}
 use Rattle.sifc_def.specs.State.{W}
@@ -96,8 +96,8 @@ unfoldable pub height_at : List ℕ → List ℕ → List ℕ → ℕ → ℕ
 height_at words heads loads hi =
     let k : ℕ = get_or heads (hi - 1) 0 % 32 in
     if eqb k BinaryExpr then looseness (get_or words (token_of loads hi) 0 % 64)
-    else if member k (TableAccess ∷ ArrayMutExpr ∷ VarAssignExpr ∷ []) then 8
-    else 0
+    otherwise if member k (TableAccess ∷ ArrayMutExpr ∷ VarAssignExpr ∷ []) then 8
+    otherwise 0
 
 -- The node before hi can be read, and an operator's token too.
 pub record Readable (words heads loads : List ℕ) (hi : ℕ) : Type 0 where

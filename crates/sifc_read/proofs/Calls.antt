@@ -15,7 +15,7 @@ use Rattle.sifc_tokens.specs.declared.call.Checked.TheVariants.{Fine}
 use Rattle.sifc_tokens.specs.declared.call.Checked.TheVariants as check
 use Rattle.sifc_lex.specs.declared.lex.LexAnswer.{LexAnswer}
 use Rattle.sifc_lex.specs.declared.lex.LexAnswer.TheVariants.{Ended, Full}
-use Rattle.sifc_word.specs.Base.{if◌then◌else◌}
+use Rattle.sifc_word.specs.Base.{if◌then◌otherwise◌}
 use Rattle.sifc_lex.specs.Lex.{lex, ending, end_at}
 use Rattle.sifc_tokens.specs.Tokens.{offs_of, words_of, padded, zeroed, LexCall, lex_called, lex_call}
 use Rattle.sifc_tokens.specs.Loaded.{Used}
@@ -54,7 +54,7 @@ pub record Over (s o w o' w' : List ℕ) : Type 0 where
 abbrev lex_call_by : Bool → List ℕ → List ℕ → List ℕ → LexCall
 lex_call_by b s o w =
     if b then lex_called Full (zeroed o) (zeroed w)
-    else lex_called (Ended (length (lex s)) (ending s) (end_at s)) (padded (offs_of (lex s)) (length o)) (padded (words_of (lex s)) (length w))
+    otherwise lex_called (Ended (length (lex s)) (ending s) (end_at s)) (padded (offs_of (lex s)) (length o)) (padded (words_of (lex s)) (length w))
 
 lex-is : (s o w : List ℕ) → lex_call s o w ≡ lex_call_by (ltb (length o) (length (lex s))) s o w
 unfolding lex_call
@@ -62,7 +62,7 @@ lex-is s o w = refl
 
 module _ (s o w : List ℕ) {o' w' : List ℕ} {r : LexAnswer} (c : lex_called r o' w' ≡ lex_call s o w) where
   pub loaded : {n at : ℕ} {e : Ending} → r ≡ Ended n e at → Loaded s o w n e o' w'
-  unfolding if◌then◌else◌
+  unfolding if◌then◌otherwise◌
   loaded {n} {at} {e} is = go (ltb (length o) (length (lex s))) refl (c ∙ lex-is s o w)
     where
       go : (q : Bool) → ltb (length o) (length (lex s)) ≡ q → lex_called r o' w' ≡ lex_call_by q s o w → Loaded s o w n e o' w'
@@ -72,7 +72,7 @@ module _ (s o w : List ℕ) {o' w' : List ℕ} {r : LexAnswer} (c : lex_called r
           record { fits = ltb-false (length o) (length (lex s)) t; count = cc; ends = cc; offs = ap (λ (x : LexCall). x.offs) d; words = ap (λ (x : LexCall). x.words) d }
 
   pub over : r ≡ Full → Over s o w o' w'
-  unfolding if◌then◌else◌
+  unfolding if◌then◌otherwise◌
   over is = go (ltb (length o) (length (lex s))) refl (c ∙ lex-is s o w)
     where
       go : (q : Bool) → ltb (length o) (length (lex s)) ≡ q → lex_called r o' w' ≡ lex_call_by q s o w → Over s o w o' w'

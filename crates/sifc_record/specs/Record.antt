@@ -3,7 +3,7 @@ use Rattle.std.specs.Prelude.{ℕ, ◌+◌, ◌-◌, ◌/◌, ◌%◌, ◌≤◌
 use Rattle.sifc_err.specs.declared.Token.{Token}
 use Rattle.sifc_err.specs.declared.parse_err.ParseErr.{ParseErr}
 use Rattle.sifc_err.specs.declared.parse_err.ParseErrTy.TheVariants.{NoReason}
-use Rattle.sifc_word.specs.Base.{if◌then◌else◌}
+use Rattle.sifc_word.specs.Base.{if◌then◌otherwise◌}
 use Rattle.sifc_def.specs.declared.Why.{Why}
 use Rattle.sifc_def.specs.declared.Why.TheVariants.{InvalidIdent, InvalidTkn, InvalidTknMsg, InvalidAssign, InvalidForStmt, InvalidIfStmt, TknMismatch, FnParmCntExceeded, WrongFnParmCnt, UndeclSym, UnassignedVar, ExpectedIdent}
 use Rattle.sifc_def.specs.Error.{ty_of}
@@ -17,22 +17,22 @@ blank_err = record { line = 0; pos = 0; ty = NoReason }
 
 -- reason number 2: a token, or a message, which is not 0
 unfoldable pub invalid_tkn : ℕ → ℕ → Why
-invalid_tkn a b = if eqb b 0 then InvalidTkn a else InvalidTknMsg b
+invalid_tkn a b = if eqb b 0 then InvalidTkn a otherwise InvalidTknMsg b
 
 -- why, by the reason's number and what it carries
 unfoldable pub why_by : ℕ → ℕ → ℕ → Why
 why_by n a b =
     if eqb n 1 then InvalidIdent a
-    else if eqb n 2 then invalid_tkn a b
-    else if eqb n 3 then InvalidAssign a
-    else if eqb n 4 then InvalidForStmt
-    else if eqb n 5 then InvalidIfStmt
-    else if eqb n 6 then TknMismatch b a
-    else if eqb n 7 then FnParmCntExceeded a
-    else if eqb n 8 then WrongFnParmCnt a b
-    else if eqb n 9 then UndeclSym a
-    else if eqb n 10 then UnassignedVar a
-    else ExpectedIdent a
+    otherwise if eqb n 2 then invalid_tkn a b
+    otherwise if eqb n 3 then InvalidAssign a
+    otherwise if eqb n 4 then InvalidForStmt
+    otherwise if eqb n 5 then InvalidIfStmt
+    otherwise if eqb n 6 then TknMismatch b a
+    otherwise if eqb n 7 then FnParmCntExceeded a
+    otherwise if eqb n 8 then WrongFnParmCnt a b
+    otherwise if eqb n 9 then UndeclSym a
+    otherwise if eqb n 10 then UnassignedVar a
+    otherwise ExpectedIdent a
 
 -- the second word is reason + 16 × first + 2^20 × second
 abbrev pub why_of : ℕ → Why

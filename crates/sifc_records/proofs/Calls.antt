@@ -10,7 +10,7 @@ use Rattle.sifc_err.specs.declared.Refusal.TheVariants.{Uneven}
 use Rattle.sifc_tokens.specs.declared.call.Checked.{Checked}
 use Rattle.sifc_tokens.specs.declared.call.Checked.TheVariants.{Fine}
 use Rattle.sifc_tokens.specs.declared.call.Checked.TheVariants as check
-use Rattle.sifc_word.specs.Base.{if◌then◌else◌}
+use Rattle.sifc_word.specs.Base.{if◌then◌otherwise◌}
 use Rattle.sifc_def.specs.declared.Reading.{Reading}
 use Rattle.sifc_def.specs.declared.Reading.TheVariants.{Refused}
 use Rattle.sifc_def.specs.Read.{Arrays, called, rooms_of, entry, even, read, answered}
@@ -26,12 +26,12 @@ use Rattle.sifc_records.specs.Words.{told, told_of, Kept, kept, kept_of, read_wo
 module _ (s : List ℕ) (a : Arrays) (n : ℕ) {k : Checked} (e : k ≡ entry s a) where
   -- the tests pass
   pub passed : k ≡ Fine → length a.places ≡ n → Fine ≡ entry_records s a n
-  unfolding if◌then◌else◌
+  unfolding if◌then◌otherwise◌
   passed f l = sym (ap₂ entry_by (sym e ∙ f) (eq-eqb (length a.places) n l)) ∙ entry-by s a n
 
   -- another number of records is refusal 3
   pub uneven : k ≡ Fine → (length a.places ≡ n → ⊥) → check.Refused Uneven ≡ entry_records s a n
-  unfolding if◌then◌else◌
+  unfolding if◌then◌otherwise◌
   uneven f l = sym (ap₂ entry_by (sym e ∙ f) (ne_eqb (length a.places) n l)) ∙ entry-by s a n
 
   -- a refusal of the call on words stays

@@ -8,7 +8,7 @@ use Rattle.std.proofs.Math.Bool.{true, false}
 use Rattle.std.proofs.Common.{arith}
 use Rattle.std.proofs.Math.Dec.{eqb, leb, ltb}
 use borrow.Author.Tests.{ltb-true}
-use Rattle.sifc_word.specs.Base.{if◌then◌else◌}
+use Rattle.sifc_word.specs.Base.{if◌then◌otherwise◌}
 use Rattle.sifc_word.specs.Kind.{Eof, LexPanic}
 use Rattle.sifc_def.specs.declared.Err.{Err}
 use Rattle.sifc_def.specs.declared.Why.{Why}
@@ -61,10 +61,10 @@ module _ (c : Ctx) where
   step k h = record { keeps = λ s l. call (k.keeps s l) (λ s' l'. l') (λ a s' l'. (h a).keeps s' l') }
 
   -- one of two, at each state
-  by : {A : Type 0} (b : St → Bool) (m k : M A) → ((s : St) → Listed s.errs → b s ≡ true → Holds (m s) (λ a s'. Listed s'.errs) (λ s'. Listed s'.errs)) → Keeps k → Keeps (λ s. if b s then m s else k s)
+  by : {A : Type 0} (b : St → Bool) (m k : M A) → ((s : St) → Listed s.errs → b s ≡ true → Holds (m s) (λ a s'. Listed s'.errs) (λ s'. Listed s'.errs)) → Keeps k → Keeps (λ s. if b s then m s otherwise k s)
   by b m k h g = record { keeps = λ s l. by-test (b s) (m s) (k s) (λ (o : Out _). Holds o (λ a s'. Listed s'.errs) (λ s'. Listed s'.errs)) (λ e. h s l e) (λ e. g.keeps s l) }
 
-  either : {A : Type 0} (b : Bool) {m k : M A} → Keeps m → Keeps k → Keeps (if◌then◌else◌ {A = M A} b m k)
+  either : {A : Type 0} (b : Bool) {m k : M A} → Keeps m → Keeps k → Keeps (if◌then◌otherwise◌ {A = M A} b m k)
   either b {m} {k} g h = by-test b m k (λ (x : M _). Keeps x) (λ e. g) (λ e. h)
 
   refuses : {A : Type 0} (m : M A) → ((s : St) → Holds (m s) (λ a s'. Listed s'.errs) (λ s'. Listed s'.errs)) → Keeps m
@@ -451,7 +451,7 @@ module _ (c : Ctx) where
   program-keeps zero d h n flag = end-read-keeps n flag none
   program-keeps (suc f) d h n flag = step (reads _) (λ k. either _ (end-read-keeps n flag none) (step (top-keeps d h) (λ o. next o (λ m g. program-keeps f d h m g))))
     where
-      next : (o : Option Err) → ((m : ℕ) (g : Bool) → Keeps {A = End} (program c f d m g)) → Keeps {A = End} (elim o as (λ (x : Option Err). M End) [ none ↦ program c f d (suc n) flag | some e ↦ if continuable c e.why then program c f d n true else end_read c n true (some e) ])
+      next : (o : Option Err) → ((m : ℕ) (g : Bool) → Keeps {A = End} (program c f d m g)) → Keeps {A = End} (elim o as (λ (x : Option Err). M End) [ none ↦ program c f d (suc n) flag | some e ↦ if continuable c e.why then program c f d n true otherwise end_read c n true (some e) ])
       next none k = k (suc n) flag
       next (some e) k = either _ (k n true) (end-read-keeps n true (some e))
 

@@ -14,7 +14,7 @@ use Rattle.sifc_tokens.specs.declared.place.Place.{Place}
 use Rattle.sifc_tokens.specs.declared.call.Checked.{Checked}
 use Rattle.sifc_tokens.specs.declared.call.Checked.TheVariants.{Fine}
 use Rattle.sifc_tokens.specs.declared.call.Checked.TheVariants as check
-use Rattle.sifc_word.specs.Base.{if◌then◌else◌}
+use Rattle.sifc_word.specs.Base.{if◌then◌otherwise◌}
 use Rattle.sifc_lex.specs.Lex.{lex}
 use Rattle.sifc_lex.proofs.LexLaws.{lex-count}
 use Rattle.sifc_tokens.specs.Place.{place_of}
@@ -54,7 +54,7 @@ unpacked n a b h k =
 
 -- a reason and what it carries are back
 why-back : (c : Ctx) (w : Why) → carried w < 65536 → Spoken w → why_of ((values_of (ty_of c w)).number + 16 * carried w + 1048576 * carried_too w) ≡ w
-unfolding why_by invalid_tkn if◌then◌else◌
+unfolding why_by invalid_tkn if◌then◌otherwise◌
 why-back c (InvalidIdent i) h p = unpacked 1 i 0 (omega arith) h
 why-back c (InvalidTkn i) h p = unpacked 2 i 0 (omega arith) h
 why-back c (InvalidTknMsg m) h p = unpacked 2 0 m (omega arith) h ∙ (let q : eqb m 0 ≡ false = ne_eqb m 0 (λ e. omega arith) in simp q)
@@ -171,7 +171,7 @@ call_of x = called x.answer x.arrays
 
 -- the tests of entry, by those of the call on words and whether there are as many records
 abbrev pub entry_by : Checked → Bool → Checked
-entry_by k b = elim k [ check.Refused r ↦ check.Refused r | Fine ↦ if b then Fine else check.Refused Uneven ]
+entry_by k b = elim k [ check.Refused r ↦ check.Refused r | Fine ↦ if b then Fine otherwise check.Refused Uneven ]
 
 -- it is the definition's
 pub entry-by : (s : List ℕ) (a : Arrays) (n : ℕ) → entry_by (entry s a) (eqb (length a.places) n) ≡ entry_records s a n
@@ -197,7 +197,7 @@ records-even s a rs l = sym (ap (records_by s a rs) (sym (ap (entry_by (entry s 
 
 -- Where there are as many records as error words, the answer and the arrays are those of the call on words.
 pub records-agree : (s : List ℕ) (a : Arrays) (rs : List ParseErr) → length a.places ≡ length rs → call_of (reading_records s a rs) ≡ reading s a
-unfolding reading if◌then◌else◌
+unfolding reading if◌then◌otherwise◌
 records-agree s a rs l = ap call_of (records-even s a rs l) ∙ go (entry s a)
   where
     go : (k : Checked) → call_of (records_by s a rs (entry_by k true)) ≡ elim k as (λ z. Called Reading) [ check.Refused r ↦ called (Refused r) a | Fine ↦ answered s a (read (rooms_of a) s) ]
@@ -206,7 +206,7 @@ records-agree s a rs l = ap call_of (records-even s a rs l) ∙ go (entry s a)
 
 -- Where there are not, and the call on words would pass its tests of entry, it is refusal 3 and nothing is touched.
 pub records-uneven : (s : List ℕ) (a : Arrays) (rs : List ParseErr) → entry s a ≡ Fine → (length a.places ≡ length rs → ⊥) → reading_records s a rs ≡ recorded (Refused Uneven) a rs
-unfolding if◌then◌else◌
+unfolding if◌then◌otherwise◌
 records-uneven s a rs e l = sym (records-by s a rs) ∙ ap (records_by s a rs) (sym (entry-by s a (length rs)) ∙ ap₂ entry_by e (ne_eqb (length a.places) (length rs) l))
 
 -- how many errors an answer counts
@@ -220,7 +220,7 @@ never-refused f p = absurd (let z : ◌≡◌ {A = ℕ} 0 1 = cc in let y : ⊥ 
 
 -- what lets a script and the arrays pass
 pub entry_of : (s : List ℕ) (a : Arrays) (n : ℕ) → entry_records s a n ≡ Fine → (entry s a ≡ Fine) × (length a.places ≡ n)
-unfolding if◌then◌else◌
+unfolding if◌then◌otherwise◌
 entry_of s a n e = go (entry s a) (eqb (length a.places) n) refl (entry-by s a n ∙ e)
   where
     go : (k : Checked) (b : Bool) → eqb (length a.places) n ≡ b → entry_by k b ≡ Fine → (k ≡ Fine) × (length a.places ≡ n)

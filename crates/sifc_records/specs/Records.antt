@@ -5,7 +5,7 @@ use Rattle.sifc_err.specs.declared.parse_err.ParseErr.{ParseErr}
 use Rattle.sifc_tokens.specs.declared.call.Checked.{Checked}
 use Rattle.sifc_tokens.specs.declared.call.Checked.TheVariants.{Fine}
 use Rattle.sifc_tokens.specs.declared.call.Checked.TheVariants as check
-use Rattle.sifc_word.specs.Base.{if◌then◌else◌}
+use Rattle.sifc_word.specs.Base.{if◌then◌otherwise◌}
 use Rattle.sifc_def.specs.declared.Reading.{Reading}
 use Rattle.sifc_def.specs.declared.Reading.TheVariants.{Refused}
 use Rattle.sifc_def.specs.State.{Ctx}
@@ -25,7 +25,7 @@ padded_errs used n = used ++ replicate (n - length used) blank_err
 
 -- refusals 1 to 3: the slice is parallel to the two error word arrays
 unfoldable pub entry_records : List ℕ → Arrays → ℕ → Checked
-entry_records s a n = elim (entry s a) [ check.Refused r ↦ check.Refused r | Fine ↦ if eqb (length a.places) n then Fine else check.Refused Uneven ]
+entry_records s a n = elim (entry s a) [ check.Refused r ↦ check.Refused r | Fine ↦ if eqb (length a.places) n then Fine otherwise check.Refused Uneven ]
 
 -- the records after a reading behind the tests of entry: those of its errors in order, blank past them; all blank after a refusal
 unfoldable pub records_of : Ctx → ℕ → Outcome → List ParseErr

@@ -12,7 +12,7 @@ use Rattle.std.proofs.Math.ListN.{length, length-set}
 use Rattle.std.proofs.Math.Dec.{eqb, eqb→eq}
 use borrow.Author.Tests.{lt-ltb, le-ltb, eq-eqb, ne_eqb}
 use Rattle.sifc_err.specs.declared.Refusal.TheVariants.{SourceFault, NodesFull, SymbolsFull, ErrorsFull}
-use Rattle.sifc_word.specs.Base.{if◌then◌else◌, member}
+use Rattle.sifc_word.specs.Base.{if◌then◌otherwise◌, member}
 use Rattle.sifc_def.specs.declared.Err.{Err}
 use Rattle.sifc_def.specs.declared.Why.{Why}
 use Rattle.sifc_def.specs.declared.Why.TheVariants.{TknMismatch}
@@ -44,7 +44,7 @@ unfolding is_unary
 unary-eof = refl
 
 pub loose-eof : {n k : ℕ} → (n ≡ 0 → ⊥) → looseness k ≡ n → k ≡ 47 → ⊥
-unfolding looseness if◌then◌else◌ member
+unfolding looseness if◌then◌otherwise◌ member
 loose-eof {n} {k} f e h = f (sym e ∙ ap looseness h)
 
 or-false : (b : Bool) → b ≡ b || false
@@ -59,7 +59,7 @@ last-literal k a b c = rw (ne_eqb k 32 a, ne_eqb k 33 b, ne_eqb k 44 c) (or-fals
 
 module _ {os ks : List ℕ} {l : Limits} {w : Walk} (st : Stands os ks w) where
   pub consume-stays : kind_at ks w.at ≡ 47 → Consumes os ks l w (Done w)
-  unfolding consume if◌then◌else◌
+  unfolding consume if◌then◌otherwise◌
   consume-stays e = record {
     sure = tt;
     stays = λ z. refl;
@@ -72,7 +72,7 @@ module _ {os ks : List ℕ} {l : Limits} {w : Walk} (st : Stands os ks w) where
   module _ (ne : kind_at ks w.at ≡ 47 → ⊥) where
     pub consume-moves : (kind_at ks (w.at + 1) ≡ 48 → ⊥)
         → Consumes os ks l w (Done (record { at = w.at + 1; nodes = w.nodes; symbols = w.symbols; level = w.level; errors = w.errors; check = w.check; count = w.count }))
-    unfolding consume arrive if◌then◌else◌
+    unfolding consume arrive if◌then◌otherwise◌
     consume-moves nf = record {
       sure = tt;
       stays = λ z. absurd (ne z);
@@ -83,7 +83,7 @@ module _ {os ks : List ℕ} {l : Limits} {w : Walk} (st : Stands os ks w) where
     }
 
     pub consume-faults : kind_at ks (w.at + 1) ≡ 48 → {o : ℕ} → o ≡ get_or os (w.at + 1) 0 → Consumes os ks l w (Refused (SourceFault l.fault o))
-    unfolding consume arrive if◌then◌else◌
+    unfolding consume arrive if◌then◌otherwise◌
     consume-faults f {o} eo = record {
       sure = tt;
       stays = λ z. absurd (ne z);
@@ -105,7 +105,7 @@ pass-any {I} {M} p d = d.does 0 I.script M (omega arith) (λ e. refl) p
 
 module _ {os ks : List ℕ} {l : Limits} {w : Walk} (st : Stands os ks w) where
   pub expect-yes : {ty : ℕ} {r : Parsed} → kind_at ks w.at ≡ ty → Consumes os ks l w r → Expects os ks l w ty r
-  unfolding expect if◌then◌else◌ go_on
+  unfolding expect if◌then◌otherwise◌ go_on
   expect-yes {ty} {r} e d = record {
     does = λ j s M jl jn je p.
         let g = d.does j s M jl (λ z. je (sym e ∙ z)) p in
@@ -113,7 +113,7 @@ module _ {os ks : List ℕ} {l : Limits} {w : Walk} (st : Stands os ks w) where
   }
 
   pub expect-no : (ty : ℕ) → (kind_at ks w.at ≡ ty → ⊥) → Expects os ks l w ty (Failed w (record { place = w.at; why = TknMismatch ty w.at }))
-  unfolding expect if◌then◌else◌ go_on raise
+  unfolding expect if◌then◌otherwise◌ go_on raise
   expect-no ty e = record {
     does = λ j s M jl jn je p. record {
       same = λ E q. sym (rw (kind-is (inp s os ks l) (rooms_of M) w.at st.toks st.here, ne_eqb (kind_at ks w.at) ty e) refl);
@@ -122,7 +122,7 @@ module _ {os ks : List ℕ} {l : Limits} {w : Walk} (st : Stands os ks w) where
   }
 
   pub separate-not : kind_at ks w.at ≡ 2 → Separates os ks l w (Done w)
-  unfolding separator if◌then◌else◌ go_on
+  unfolding separator if◌then◌otherwise◌ go_on
   separate-not e = record {
     does = λ s M p. record {
       same = λ E q. sym (rw (kind-is (inp s os ks l) (rooms_of M) w.at st.toks st.here, eq-eqb (kind_at ks w.at) 2 e) refl);
@@ -131,7 +131,7 @@ module _ {os ks : List ℕ} {l : Limits} {w : Walk} (st : Stands os ks w) where
   }
 
   pub separate-by : {r : Parsed} → (kind_at ks w.at ≡ 2 → ⊥) → Expects os ks l w 12 r → Separates os ks l w r
-  unfolding separator if◌then◌else◌ go_on
+  unfolding separator if◌then◌otherwise◌ go_on
   separate-by {r} ne d = record {
     does = λ s M p.
         let g = d.does 0 s M (omega arith) (λ z. refl) (λ z. refl) p in
@@ -156,7 +156,7 @@ none-separated {os} {ks} {l} {w} {r} d h = none_is r h
 module _ (hs ls : List ℕ) (w : Walk) (h tk : ℕ) (even : length hs ≡ length ls) where
   pub push-done : w.nodes < length hs
       → Pushes hs ls w h tk (Done (record { at = w.at; nodes = w.nodes + 1; symbols = w.symbols; level = w.level; errors = w.errors; check = w.check; count = w.count })) (set hs w.nodes h) (set ls w.nodes tk)
-  unfolding push if◌then◌else◌
+  unfolding push if◌then◌otherwise◌
   push-done lt =
       let lt2 : w.nodes < length ls = omega (arith, even) in
       record {
@@ -169,7 +169,7 @@ module _ (hs ls : List ℕ) (w : Walk) (h tk : ℕ) (even : length hs ≡ length
       }
 
   pub push-full : length hs ≤ w.nodes → Pushes hs ls w h tk (Refused NodesFull) hs ls
-  unfolding push if◌then◌else◌
+  unfolding push if◌then◌otherwise◌
   push-full ge = record { sure = tt; there = tt; does = λ I ys p. record { same = λ E q. rw (length-nodes w.nodes hs ls, le-ltb _ _ ge) refl; fine = tt } }
 
 pub pushed : {I : Inp} {M : Mem} {w : Walk} {h tk : ℕ} {r : Parsed} {hs ls : List ℕ} → Ready I M w → Pushes M.head M.load w h tk r hs ls
@@ -189,7 +189,7 @@ top-some (suc n) hs ls f = ap (λ (m : ℕ). node_in (get_or hs m 0) (get_or ls 
 
 module _ {os hs ls : List ℕ} {w : Walk} {t : Target} {h fault i : ℕ} where
   pub access-faults : (t.head % 32 ≡ 24 → ⊥) → {o : ℕ} → o ≡ get_or os i 0 → Accesses os hs ls w t h fault i (Refused (SourceFault fault o)) hs ls
-  unfolding single panic_at if◌then◌else◌ go_on
+  unfolding single panic_at if◌then◌otherwise◌ go_on
   access-faults ne {o} eo = record {
     does = λ s ks ys l p lt. record {
       same = λ E q. ap (λ (z : ℕ). refuse (SourceFault fault z)) (eo ∙ sym (off-is (inp s os ks l) (rooms_of (mem ys hs ls)) i p.stands.toks lt)) ∙ sym (rw (ne_eqb (t.head % 32) 24 ne) refl);
@@ -198,7 +198,7 @@ module _ {os hs ls : List ℕ} {w : Walk} {t : Target} {h fault i : ℕ} where
   }
 
   pub access-pushes : t.head % 32 ≡ 24 → {r : Parsed} {hs' ls' : List ℕ} → Pushes hs ls w h 0 r hs' ls' → Accesses os hs ls w t h fault i r hs' ls'
-  unfolding single if◌then◌else◌ go_on
+  unfolding single if◌then◌otherwise◌ go_on
   access-pushes e {r} d = record {
     does = λ s ks ys l p lt.
         let g = d.does (inp s os ks l) ys p in
@@ -213,7 +213,7 @@ accessed {I} {M} p lt d = d.does I.script I.words M.symbols I.lim p lt
 
 module _ {l : Limits} {w : Walk} (i : ℕ) (why : Why) where
   pub throw-listed : listed_by why ≡ 1 → w.errors < l.errors → {x : Walk} → x ≡ more w → ThrowsAt l w i why (Failed x (record { place = i; why = why }))
-  unfolding add_error_w_pos list raise go_on if◌then◌else◌
+  unfolding add_error_w_pos list raise go_on if◌then◌otherwise◌
   throw-listed lw lt {x} ex = subst (λ (y : Walk). ThrowsAt l w i why (Failed y (record { place = i; why = why }))) (sym ex) (record {
     none = refl;
     does = λ s os ks M p. record { same = λ E q. rw (lw, q, lt-ltb _ _ lt) refl; fine = broke p };
@@ -224,7 +224,7 @@ module _ {l : Limits} {w : Walk} (i : ℕ) (why : Why) where
       broke p = record { here = p.stands.here; calm = p.stands.calm; used = p.used; holds = p.holds; level = p.level; room = omega (arith, lt); errors = ap (λ (m : ℕ). w.errors + m) (sym lw); on = inl (omega arith) }
 
   pub throw-full : l.errors ≤ w.errors → ThrowsAt l w i why (Refused ErrorsFull)
-  unfolding add_error_w_pos list raise go_on if◌then◌else◌
+  unfolding add_error_w_pos list raise go_on if◌then◌otherwise◌
   throw-full ge = record {
     none = refl;
     does = λ s os ks M p. record { same = λ E q. rw (q, le-ltb _ _ ge) refl; fine = tt };
@@ -260,7 +260,7 @@ module _ (os ks : List ℕ) (l : Limits) (w : Walk) (why : Why) (lw : listed_by 
     opening : (s : List ℕ) (M : Mem) (E : List Err) → length E ≡ w.errors
         → throw_past (ctx (inp s os ks l) (rooms_of M)) {A = Unit {0}} why (abs (inp s os ks l) E w M)
         ≡ go_on (consume (ctx (inp s os ks l) (rooms_of M)) (abs (inp s os ks l) ((err w.at why) ∷ E) (more w) M)) (λ a. raise (ctx (inp s os ks l) (rooms_of M)) {A = Unit {0}} (err w.at why))
-    unfolding throw_past add_error add_error_w_pos list go_on if◌then◌else◌
+    unfolding throw_past add_error add_error_w_pos list go_on if◌then◌otherwise◌
     opening s M E q = rw (q, lt-ltb _ _ lt) refl
 
     pub past-stops : {y : Walk} → y ≡ more w → (r : Parsed) → Consumes os ks l y r → NotDone r → Pasts os ks l w why r
@@ -306,7 +306,7 @@ module _ (os ks : List ℕ) (l : Limits) (w : Walk) (why : Why) (lw : listed_by 
             inl fx.on
 
   pub past-full : l.errors ≤ w.errors → Pasts os ks l w why (Refused ErrorsFull)
-  unfolding throw_past add_error add_error_w_pos list go_on if◌then◌else◌
+  unfolding throw_past add_error add_error_w_pos list go_on if◌then◌otherwise◌
   past-full ge = record { lost = tt; does = λ s M p. record { same = λ E q. sym (rw (q, le-ltb _ _ ge) refl); fine = tt } }
 
 pub passed_over : {I : Inp} {M : Mem} {w : Walk} {why : Why} {r : Parsed} → Ready I M w → Pasts I.offs I.words I.lim w why r → Does 1 (λ c. throw_past c why) I M w r M
@@ -320,7 +320,7 @@ literally {I} {M} p d ne = d.does I.script M.symbols p ne
 
 module _ {os ks : List ℕ} {l : Limits} {w : Walk} {why : Why} (st : Stands os ks w) where
   pub ident-there : (r : Parsed) → kind_at ks w.at ≡ 31 → Consumes os ks l w r → Idents os ks l w why r
-  unfolding ident match_ident or_throw if◌then◌else◌ go_on
+  unfolding ident match_ident or_throw if◌then◌otherwise◌ go_on
   ident-there (Done x) e d = record {
     does = λ y j s M ey jl jn p.
         let g = d.does j s M jl (λ z. absurd (let v : ⊥ = omega (arith, e, z) in v)) p in
@@ -335,7 +335,7 @@ module _ {os ks : List ℕ} {l : Limits} {w : Walk} {why : Why} (st : Stands os 
 
   module _ (ne : kind_at ks w.at ≡ 31 → ⊥) where
     pub ident-missed : listed_by why ≡ 2 → w.errors < l.errors → {x y : Walk} → x ≡ more w → x.errors < l.errors → y ≡ more x → Idents os ks l w why (Failed y (record { place = w.at; why = why }))
-    unfolding ident match_ident or_throw throw add_error add_error_w_pos list raise if◌then◌else◌ go_on
+    unfolding ident match_ident or_throw throw add_error add_error_w_pos list raise if◌then◌otherwise◌ go_on
     ident-missed lw lt {x} {y} ex lt2 ey = subst (λ (z : Walk). Idents os ks l w why (Failed z (record { place = w.at; why = why }))) (sym (ey ∙ ap more ex)) (record {
       does = λ f j s M ef jl jn p.
           let lt3 : suc w.errors < l.errors = omega (arith, lt2, ap (λ (z : Walk). z.errors) ex) in
@@ -346,13 +346,13 @@ module _ {os ks : List ℕ} {l : Limits} {w : Walk} {why : Why} (st : Stands os 
     })
 
     pub ident-full : l.errors ≤ w.errors → Idents os ks l w why (Refused ErrorsFull)
-    unfolding ident match_ident or_throw throw add_error add_error_w_pos list raise if◌then◌else◌ go_on
+    unfolding ident match_ident or_throw throw add_error add_error_w_pos list raise if◌then◌otherwise◌ go_on
     ident-full ge = record {
       does = λ f j s M ef jl jn p. record { same = λ E q. sym (rw (kind-is (inp s os ks l) (rooms_of M) w.at st.toks st.here, ne_eqb (kind_at ks w.at) 31 ne, q, le-ltb _ _ ge) refl); fine = tt };
     }
 
     pub ident-full-second : w.errors < l.errors → {x : Walk} → x ≡ more w → l.errors ≤ x.errors → Idents os ks l w why (Refused ErrorsFull)
-    unfolding ident match_ident or_throw throw add_error add_error_w_pos list raise if◌then◌else◌ go_on
+    unfolding ident match_ident or_throw throw add_error add_error_w_pos list raise if◌then◌otherwise◌ go_on
     ident-full-second lt {x} ex ge = record {
       does = λ f j s M ef jl jn p.
           let ge2 : l.errors ≤ suc w.errors = omega (arith, ge, ap (λ (z : Walk). z.errors) ex) in

@@ -4,7 +4,7 @@ use Rattle.std.proofs.Common.{add-one, arith, le_trans, sym, ap, ap₂, ◌∙�
 use Rattle.std.proofs.Math.Path.{subst}
 use Rattle.sifc_err.specs.declared.Refusal.{Refusal}
 use Rattle.sifc_err.specs.declared.Token.{Token}
-use Rattle.sifc_word.specs.Base.{if◌then◌else◌}
+use Rattle.sifc_word.specs.Base.{if◌then◌otherwise◌}
 use Rattle.sifc_def.specs.declared.Err.{Err}
 use Rattle.sifc_def.specs.declared.Why.TheVariants.{InvalidIfStmt}
 use Rattle.sifc_def.specs.State.{Node, Ctx, St, Out, done, refuse, M, go_on, tok_at}
@@ -191,13 +191,13 @@ module _ {A : Type 0} {o₀ : Out A} {I : Inp} {n : Rooms} {k lo : ℕ} {E : Lis
   unfolding go_on
   read K p = p
 
-  pub yes : {b : Bool} {s : St} (f g : St → Out A) → At o₀ (if◌then◌else◌ {A = St → Out A} b f g s) I n k lo E M w → b ≡ true → At o₀ (f s) I n k lo E M w
-  unfolding if◌then◌else◌
-  yes {b} {s} f g p e = by p (ap (λ (t : Bool). if◌then◌else◌ {A = St → Out A} t f g s) e)
+  pub yes : {b : Bool} {s : St} (f g : St → Out A) → At o₀ (if◌then◌otherwise◌ {A = St → Out A} b f g s) I n k lo E M w → b ≡ true → At o₀ (f s) I n k lo E M w
+  unfolding if◌then◌otherwise◌
+  yes {b} {s} f g p e = by p (ap (λ (t : Bool). if◌then◌otherwise◌ {A = St → Out A} t f g s) e)
 
-  pub no : {b : Bool} {s : St} (f g : St → Out A) → At o₀ (if◌then◌else◌ {A = St → Out A} b f g s) I n k lo E M w → b ≡ false → At o₀ (g s) I n k lo E M w
-  unfolding if◌then◌else◌
-  no {b} {s} f g p e = by p (ap (λ (t : Bool). if◌then◌else◌ {A = St → Out A} t f g s) e)
+  pub no : {b : Bool} {s : St} (f g : St → Out A) → At o₀ (if◌then◌otherwise◌ {A = St → Out A} b f g s) I n k lo E M w → b ≡ false → At o₀ (g s) I n k lo E M w
+  unfolding if◌then◌otherwise◌
+  no {b} {s} f g p e = by p (ap (λ (t : Bool). if◌then◌otherwise◌ {A = St → Out A} t f g s) e)
 
   -- a test of the kind in front
   pub test : (F : ℕ → Bool) {v : Bool} {o : Out A} → At o₀ o I n k lo E M w → F (kind_at I.words w.at) ≡ v → F (tok_at (ctx I n) w.at).kind ≡ v

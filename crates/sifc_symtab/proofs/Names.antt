@@ -5,7 +5,7 @@ use mathlib.Core.List.{List, []}
 use borrow.Author.Tests.{eq-eqb, ne_eqb}
 use lib.ListN.{length, take, drop, get_or}
 use Rattle.sifc_err.specs.declared.Token.{Token}
-use Rattle.sifc_word.specs.Base.{if◌then◌else◌, part}
+use Rattle.sifc_word.specs.Base.{if◌then◌otherwise◌, part}
 use Rattle.sifc_word.specs.Kind.{Eof}
 use Rattle.sifc_lex.specs.Lex.{token}
 use Rattle.sifc_def.specs.State.{name_of, word_in, token_at}
@@ -16,7 +16,7 @@ by_token : (script offs words : List ℕ) (i : ℕ) (t : Token) → token_at (to
 by_token script offs words i t e = ap (λ (x : Token). name_of (word_in script x)) e
 
 pub name-past : (script offs words : List ℕ) (i : ℕ) → token_at (toks_of offs words) i ≡ token Eof 0 0 → name_in script offs words i ≡ []
-unfolding name_of if◌then◌else◌
+unfolding name_of if◌then◌otherwise◌
 name-past script offs words i e = by_token script offs words i (token Eof 0 0) e
 
 module _ (script offs words : List ℕ) (i : ℕ) (h : i < length offs) (k : i < length words) where
@@ -24,9 +24,9 @@ module _ (script offs words : List ℕ) (i : ℕ) (h : i < length offs) (k : i <
   text_at = part (get_or offs i 0) (get_or words i 0 / 64) script
 
   pub name-quoted : get_or words i 0 % 64 ≡ 32 → name_in script offs words i ≡ take (length text_at - 2) (drop 1 text_at)
-  unfolding name_of if◌then◌else◌
+  unfolding name_of if◌then◌otherwise◌
   name-quoted e = by_token script offs words i _ (toks-at offs words i h k) ∙ rw (eq-eqb (get_or words i 0 % 64) 32 e) refl
 
   pub name-plain : (get_or words i 0 % 64 ≡ 32 → ⊥) → name_in script offs words i ≡ text_at
-  unfolding name_of if◌then◌else◌
+  unfolding name_of if◌then◌otherwise◌
   name-plain n = by_token script offs words i _ (toks-at offs words i h k) ∙ rw (ne_eqb (get_or words i 0 % 64) 32 n) refl

@@ -6,7 +6,7 @@ use mathlib.Core.Bool.{true, false}
 use native.Mathlib.Omega.{arith}
 use lib.ListN.{length, get_or, set, length-set}
 use lib.Seq.{get_or-set_same, get_or-set_other}
-use Rattle.sifc_word.specs.Base.{if◌then◌else◌}
+use Rattle.sifc_word.specs.Base.{if◌then◌otherwise◌}
 use Rattle.sifc_def.specs.declared.What.{What}
 use Rattle.sifc_def.specs.declared.What.TheVariants.{Placeholder, Function, Variable, Other}
 use Rattle.sifc_symtab.specs.Table.{name_in, what_of, tag_of, value_of, level_at, value_at, token_in, tag_at, hash_at, next_at, head_at, sym_at, entered, with_next, with_head, buckets_of, Opens}
@@ -14,7 +14,7 @@ use Rattle.sifc_symtab.proofs.Cases.{by-eq}
 
 -- the tag and the value say what was stored
 pub what-back : (w : What) → what_of (tag_of w) (value_of w) ≡ w
-unfolding what_of tag_of value_of if◌then◌else◌
+unfolding what_of tag_of value_of if◌then◌otherwise◌
 what-back Placeholder = refl
 what-back (Function n) = refl
 what-back (Variable i false) = refl

@@ -5,7 +5,7 @@ use Rattle.std.proofs.Common.{sym, ◌∙◌, arith, add-zero}
 use Rattle.std.proofs.Math.Option.{Option}
 use Rattle.sifc_err.specs.declared.Token.{Token}
 use Rattle.sifc_err.specs.declared.Refusal.TheVariants.{SymbolsFull}
-use Rattle.sifc_word.specs.Base.{if◌then◌else◌}
+use Rattle.sifc_word.specs.Base.{if◌then◌otherwise◌}
 use Rattle.sifc_def.specs.declared.What.{What}
 use Rattle.sifc_def.specs.State.{Sym, Ctx, St, done, refuse, name_of, word_in, token_at, name_at}
 use Rattle.sifc_def.specs.Symbols.{find, put_at, retrieve, store}
@@ -70,9 +70,9 @@ module _ (c : Ctx) (offs words : List ℕ) where
 
     pub store_at : (m : ℕ) → Stores c.script offs words symbols n s.level i w (At m) symbols'
         → store c i w s ≡ done tt (record { at = s.at; nodes = s.nodes; syms = syms_of c.script offs words symbols' m; level = s.level; check = s.check; errs = s.errs })
-    unfolding store if◌then◌else◌
+    unfolding store if◌then◌otherwise◌
     store_at m p = rw (fits-is ∙ p.room, p.table ∙ new_is) refl
 
     pub store-full : Stores c.script offs words symbols n s.level i w Full symbols' → store c i w s ≡ refuse SymbolsFull
-    unfolding store if◌then◌else◌
+    unfolding store if◌then◌otherwise◌
     store-full p = rw (fits-is ∙ p.room) refl

@@ -2,7 +2,7 @@
 -- hash; and two links of the chains by which it is found. Nothing outside this crate knows more of them than syms_of says.
 use Rattle.std.specs.Prelude.{ℕ, zero, suc, ◌+◌, ◌*◌, ◌/◌, ◌%◌, ◌≤◌, ◌<◌, min, ◌≡◌, List, [], ◌∷◌, Bool, true, false, eqb, leb, length, get_or, set}
 use Rattle.std.proofs.Math.Option.{Option, none, some}
-use Rattle.sifc_word.specs.Base.{if◌then◌else◌}
+use Rattle.sifc_word.specs.Base.{if◌then◌otherwise◌}
 use Rattle.sifc_def.specs.declared.What.{What}
 use Rattle.sifc_def.specs.declared.What.TheVariants.{Placeholder, Function, Variable, Other}
 use Rattle.sifc_def.specs.Read.{words_per_symbol}
@@ -24,10 +24,10 @@ name_in script offs words i = name_of (word_in script (token_at (toks_of offs wo
 unfoldable pub what_of : ℕ → ℕ → What
 what_of tag value =
     if eqb tag 0 then Placeholder
-    else if eqb tag 1 then Function value
-    else if eqb tag 2 then Variable value false
-    else if eqb tag 3 then Variable value true
-    else Other
+    otherwise if eqb tag 1 then Function value
+    otherwise if eqb tag 2 then Variable value false
+    otherwise if eqb tag 3 then Variable value true
+    otherwise Other
 
 unfoldable pub tag_of : What → ℕ
 tag_of Placeholder = 0

@@ -12,7 +12,7 @@ use Rattle.sifc_err.specs.declared.Refusal.TheVariants.{Flagged, TextFull}
 use Rattle.sifc_tokens.specs.declared.call.Checked.{Checked}
 use Rattle.sifc_tokens.specs.declared.call.Checked.TheVariants.{Fine}
 use Rattle.sifc_tokens.specs.declared.call.Checked.TheVariants as check
-use Rattle.sifc_word.specs.Base.{if◌then◌else◌}
+use Rattle.sifc_word.specs.Base.{if◌then◌otherwise◌}
 use Rattle.sifc_lex.specs.Lex.{lex}
 use Rattle.sifc_tokens.specs.Tokens.{offs_of, words_of, padded, zeroed}
 use Rattle.sifc_tokens.specs.Loaded.{Used}
@@ -155,20 +155,20 @@ module _ (s o w h l y p r : List ℕ) (m : Summary) where
 module _ (s : List ℕ) (a : Arrays) (t : List ℕ) (f : Found) (down : f.flag ≡ false) where
   -- what is left with the flag down, by whether the text is longer than its buffer
   abbrev by_length : Bool → Written
-  by_length q = if q then written (Refused TextFull) (cleared_arrays a) (zeroed t) else written (Wrote (length (text_found s f))) (filled (ctx_of (rooms_of a) s) f a) (padded (text_found s f) (length t))
+  by_length q = if q then written (Refused TextFull) (cleared_arrays a) (zeroed t) otherwise written (Wrote (length (text_found s f))) (filled (ctx_of (rooms_of a) s) f a) (padded (text_found s f) (length t))
 
   -- the answer and the buffer of it
   abbrev by_fit : Bool → Buffered
-  by_fit q = if q then buffered (Refused TextFull) (zeroed t) else buffered (Wrote (length (text_found s f))) (padded (text_found s f) (length t))
+  by_fit q = if q then buffered (Refused TextFull) (zeroed t) otherwise buffered (Wrote (length (text_found s f))) (padded (text_found s f) (length t))
 
   -- What the definition leaves is that.
   texted-is : texted s a t (found f) ≡ by_length (ltb (length t) (length (text_found s f)))
-  unfolding texted if◌then◌else◌
+  unfolding texted if◌then◌otherwise◌
   texted-is = rw down refl
 
   -- A text that was written is the definition's.
   wrote-is : {n : ℕ} {t' : List ℕ} {b : Arrays} → buffered (Wrote n) t' ≡ fitted (text_found s f) t → b ≡ filled (ctx_of (rooms_of a) s) f a → written (Wrote n) b t' ≡ texted s a t (found f)
-  unfolding fitted if◌then◌else◌
+  unfolding fitted if◌then◌otherwise◌
   wrote-is {n} {t'} {b} e g = go (ltb (length t) (length (text_found s f))) e ∙ sym texted-is
     where
       go : (q : Bool) → buffered (Wrote n) t' ≡ by_fit q → written (Wrote n) b t' ≡ by_length q
@@ -180,7 +180,7 @@ module _ (s : List ℕ) (a : Arrays) (t : List ℕ) (f : Found) (down : f.flag �
 
   -- A text that was refused is refused by the definition.
   full_is : {x : Refusal} {t' : List ℕ} {b : Arrays} → buffered (Refused x) t' ≡ fitted (text_found s f) t → b ≡ cleared_arrays a → written (Refused x) b t' ≡ texted s a t (found f)
-  unfolding fitted if◌then◌else◌
+  unfolding fitted if◌then◌otherwise◌
   full_is {x} {t'} {b} e g = go (ltb (length t) (length (text_found s f))) e ∙ sym texted-is
     where
       go : (q : Bool) → buffered (Refused x) t' ≡ by_fit q → written (Refused x) b t' ≡ by_length q
@@ -192,7 +192,7 @@ module _ (s : List ℕ) (a : Arrays) (t : List ℕ) (f : Found) (down : f.flag �
 
 -- With the flag up all is set to 0.
 flagged-is : (s : List ℕ) (a : Arrays) (t : List ℕ) (f : Found) → f.flag ≡ true → written (Refused Flagged) (cleared_arrays a) (zeroed t) ≡ texted s a t (found f)
-unfolding texted if◌then◌else◌
+unfolding texted if◌then◌otherwise◌
 flagged-is s a t f e = rw e refl
 
 -- A buffer that is cleared from its start on.

@@ -10,7 +10,7 @@ use Rattle.std.proofs.Math.ListN.{length, get_or, length-map, length-append, len
 use Rattle.std.proofs.Math.Seq.{get_or_at, append_snoc}
 use Rattle.sifc_err.specs.declared.Token.{Token}
 use Rattle.sifc_lex.specs.declared.lex.Step.TheVariants.{Word}
-use Rattle.sifc_word.specs.Base.{if◌then◌else◌, member, part}
+use Rattle.sifc_word.specs.Base.{if◌then◌otherwise◌, member, part}
 use Rattle.sifc_lex.specs.Lex.{token, lex, step}
 use Rattle.sifc_lex.proofs.LexLaws.{Run, last, more, lex-runs}
 use Rattle.sifc_lex.proofs.LexTrip.{sep, Good, spell, lex-all-words}
@@ -123,7 +123,7 @@ module _ {s : List ℕ} {ns : List Node} where
 
   -- The node of the newest label has it.
   labelled : (x : Lab) (xs : List Lab) {h : ℕ} → Down s ns (x ∷ xs) h → label s (lex s) (get_or ns (length xs) (node 0 false 0 0)) ≡ x
-  unfolding pop scope_of text_of has_token member if◌then◌else◌
+  unfolding pop scope_of text_of has_token member if◌then◌otherwise◌
   labelled x xs d =
       sym (get_or-map (label s (lex s)) ns (length xs) (node 0 false 0 0))
       ∙ ap (λ (l : List Lab). get_or l (length xs) (lab 0 false 0 0 [])) (pop d).is

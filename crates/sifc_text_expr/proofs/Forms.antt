@@ -6,7 +6,7 @@ use mathlib.Core.List.{List, [], ◌∷◌, ◌++◌, append_assoc, append-nil}
 use mathlib.Core.Bool.{Bool}
 use lib.Dec.{leb, ltb, leb-suc-suc}
 use lib.ListN.{length, get_or}
-use Rattle.sifc_word.specs.Base.{if◌then◌else◌, member}
+use Rattle.sifc_word.specs.Base.{if◌then◌otherwise◌, member}
 use Rattle.sifc_def.specs.State.{W}
 use Rattle.sifc_def.specs.Expr.{looseness}
 use Rattle.sifc_def.proofs.Typed.{Expr, prim, un, bin, call, dot, idx, set, mut, Exprs, nil, more, many, rp, rb, eq, comma, height, wrap, between, pr, prs}
@@ -159,7 +159,7 @@ module _ (I : Inp) where
 
   -- a node `!` or `-` binds tighter than any operator
   one-height : (hi : ℕ) → kind hi ≡ 23 → 0 ≡ height_at I.words I.heads I.loads hi
-  unfolding height_at if◌then◌else◌ member
+  unfolding height_at if◌then◌otherwise◌ member
   one-height hi k = rw k refl
 
   -- an operand that is again one of `!` or `-`: it stands bare
@@ -280,7 +280,7 @@ module _ (I : Inp) where
 
   -- a table access or an assignment to a variable
   pub is-linked : (hi s : ℕ) → (kind hi ≡ 22 → ⊥) × (kind hi ≡ 24 → ⊥) × (kind hi ≡ 23 → ⊥) × (kind hi ≡ 20 → ⊥) × (kind hi ≡ 18 → ⊥) × (kind hi ≡ 19 → ⊥) → s ≡ link_of (kind hi) → Narrow (expr_l I) (linked_l s) hi (hi - 1)
-  unfolding Spans pr spaced link_of if◌then◌else◌
+  unfolding Spans pr spaced link_of if◌then◌otherwise◌
   is-linked hi s k f (prim x) lo z = absurd (k.1 z.top.kinded)
   is-linked hi s k f (un o e) lo z = absurd (k.2 z.top.kinded)
   is-linked hi s k f (bin o l r) lo z = absurd (k.0 z.top.kinded)

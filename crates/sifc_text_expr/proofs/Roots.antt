@@ -6,7 +6,7 @@ use mathlib.Core.Path.{◌≡◌, refl, sym, ap, ◌∙◌}
 use mathlib.Core.Bool.{Bool, true, false}
 use lib.Dec.{leb, ltb, leb-suc-suc}
 use borrow.Author.Tests.{lt-ltb, le-ltb}
-use Rattle.sifc_word.specs.Base.{if◌then◌else◌, member}
+use Rattle.sifc_word.specs.Base.{if◌then◌otherwise◌, member}
 use Rattle.sifc_def.proofs.Typed.{Expr, prim, un, bin, call, dot, idx, set, mut, Exprs, nil, more, height}
 use Rattle.sifc_def.specs.Expr.{looseness}
 use Rattle.sifc_put.specs.Place.{Inp, Node}
@@ -17,8 +17,8 @@ use Rattle.sifc_put.specs.Rows.{list-low}
 use Rattle.sifc_text_expr.specs.Kinds.{expr_l, operand_l, exprs_l}
 
 -- One of two numbers that are at most 7.
-at_most : (b : Bool) (m n : ℕ) → m ≤ 7 → n ≤ 7 → (if b then m else n) ≤ 7
-unfolding if◌then◌else◌
+at_most : (b : Bool) (m n : ℕ) → m ≤ 7 → n ≤ 7 → (if b then m otherwise n) ≤ 7
+unfolding if◌then◌otherwise◌
 at_most true m n h k = h
 at_most false m n h k = k
 
@@ -91,7 +91,7 @@ module _ (I : Inp) where
 
   -- The last node of an expression says how loosely it binds.
   pub high : (e : Expr) (lo hi : ℕ) → Spans I e lo hi → height_at I.words I.heads I.loads hi ≡ height e
-  unfolding Spans height_at if◌then◌else◌ member height
+  unfolding Spans height_at if◌then◌otherwise◌ member height
   high (prim x) lo hi z = rw z.top.kinded refl
   high (un o e) lo hi z = rw z.top.kinded refl
   high (bin o l r) lo hi z = rw z.top.kinded (ap looseness (sym z.token.spells.kind))

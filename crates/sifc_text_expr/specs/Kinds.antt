@@ -1,6 +1,6 @@
 -- The kinds of things that the writers of expressions promise.
 use Rattle.std.specs.Prelude.{ℕ, [], ◌∷◌, ◌++◌, eqb, ltb}
-use Rattle.sifc_word.specs.Base.{if◌then◌else◌}
+use Rattle.sifc_word.specs.Base.{if◌then◌otherwise◌}
 use Rattle.sifc_def.specs.Ast.{TableAccess}
 use Rattle.sifc_def.specs.State.{W}
 use Rattle.sifc_def.proofs.Typed.{Expr, height, wrap, pr}
@@ -27,4 +27,4 @@ subscript_l I = record { T = W × Expr; S = λ x a b. Then (λ c d. Single I x.0
 
 -- the sign of a table access, or that of an assignment
 unfoldable pub link_of : ℕ → ℕ
-link_of kind = if eqb kind TableAccess then 46 else 61
+link_of kind = if eqb kind TableAccess then 46 otherwise 61

@@ -6,7 +6,7 @@ use mathlib.Core.List.{List, [], ◌∷◌, ◌++◌, append_assoc, append-nil}
 use lib.ListN.{length, get_or}
 use lib.Dec.{eqb}
 use borrow.Author.Tests.{ne_eqb}
-use Rattle.sifc_word.specs.Base.{if◌then◌else◌}
+use Rattle.sifc_word.specs.Base.{if◌then◌otherwise◌}
 use Rattle.sifc_def.specs.State.{W}
 use Rattle.sifc_def.specs.Ast.{ReturnStmt, ExprStmt, VarDecl}
 use Rattle.sifc_def.proofs.Typed.{Expr, prim, un, bin, call, dot, idx, set, mut, Exprs, nil, more, many, Items, no_item, item, many_items, lb, rb, eq, semi, arrow, dlb, drb, var_word, return_word, pr, prs, pr_items, pr_names, between_items, between_names, comma}
@@ -91,7 +91,7 @@ body_bytes (alone e) = bytes_of (pr e)
 
 -- what stands before the expression of a statement of this kind
 unfoldable pub lead : ℕ → List ℕ
-lead k = if eqb k ReturnStmt then worded return_word else []
+lead k = if eqb k ReturnStmt then worded return_word otherwise []
 
 module _ (I : Inp) where
   -- the kind of the node before hi
@@ -403,7 +403,7 @@ module _ (I : Inp) where
 
   -- an expression, and what stands before it
   pub is-led : (hi h : ℕ) → (kids_at hi ≡ 0 → ⊥) → Narrow (body_l hi) (seq (fixed (lead (kind_at hi))) (expr_l I)) h h
-  unfolding BodyAt body_bytes lead if◌then◌else◌
+  unfolding BodyAt body_bytes lead if◌then◌otherwise◌
   is-led hi h k nothing lo s = absurd (k s.1)
   is-led hi h k (result e) lo s =
       record { tree = (tt, e); spans = record { mid = lo; front = refl; last = s.0 }; text = ap (λ (i : ℕ). lead i ++ bytes_of (pr e)) (sym s.2) }
@@ -412,10 +412,10 @@ module _ (I : Inp) where
 
   -- a return's is its word
   pub is-return : (hi h : ℕ) → kind_at hi ≡ 6 → Narrow (fixed (lead (kind_at hi))) (word_l return_word) h h
-  unfolding lead if◌then◌else◌
+  unfolding lead if◌then◌otherwise◌
   is-return hi h k u lo s = record { tree = u; spans = s; text = ap lead k }
 
   -- any other's is nothing
   pub no_lead : (hi h : ℕ) → (kind_at hi ≡ 6 → ⊥) → (u : Unit {0}) (lo : ℕ) → lo ≡ h → (lo ≡ h) × (lead (kind_at hi) ≡ [])
-  unfolding lead if◌then◌else◌
+  unfolding lead if◌then◌otherwise◌
   no_lead hi h k u lo s = (s, rw (ne_eqb (kind_at hi) 6 k) refl)

@@ -18,7 +18,7 @@ use Rattle.sifc_tokens.specs.declared.call.Checked.{Checked}
 use Rattle.sifc_tokens.specs.declared.call.Checked.TheVariants.{Fine}
 use Rattle.sifc_tokens.specs.declared.call.Checked.TheVariants as check
 use Rattle.sifc_tokens.specs.declared.call.TokensAnswer.TheVariants.{Refused}
-use Rattle.sifc_word.specs.Base.{if◌then◌else◌, span}
+use Rattle.sifc_word.specs.Base.{if◌then◌otherwise◌, span}
 use Rattle.sifc_lex.specs.Lex.{ascii, lex, ending, end_at}
 use Rattle.sifc_tokens.specs.Loaded.{Loaded, used_by, Used}
 use Rattle.sifc_tokens.specs.Tokens.{offs_of, words_of, token_word, padded, zeroed, LexCall, lex_called, lex_call, check_of, Answer, answer_of, TokensCall, tokens_called, refusal, counted, by_ending, after_entry, tokens_call}
@@ -54,7 +54,7 @@ module _ (s offs words offs' words' : List ℕ) (n at : ℕ) (e : Ending) (l : L
   ended-words = front_fits words' (words_of (lex s)) n l.by.at_words (l.by.count ∙ sym (length-words (lex s)))
 
   ended-call : (offs'' words'' : List ℕ) → offs'' ≡ take n offs' ++ replicate (length offs' - n) 0 → words'' ≡ take n words' ++ replicate (length words' - n) 0 → lex_called (Ended n e at) offs'' words'' ≡ lex_call s offs words
-  unfolding lex_call if◌then◌else◌
+  unfolding lex_call if◌then◌otherwise◌
   ended-call offs'' words'' co cw =
       let po : offs'' ≡ padded (offs_of (lex s)) (length offs) = front-padded offs' offs'' (offs_of (lex s)) n (length offs) l.by.at-offs (l.by.count ∙ sym (length-offs (lex s))) l.long-offs co in
       let pw : words'' ≡ padded (words_of (lex s)) (length words) = front-padded words' words'' (words_of (lex s)) n (length words) l.by.at_words (l.by.count ∙ sym (length-words (lex s))) l.long-words cw in
@@ -66,7 +66,7 @@ module _ (s offs words offs' words' : List ℕ) (n at : ℕ) (e : Ending) (l : L
 
 full-call : (s offs words offs' words' : List ℕ) → Loaded s offs words Full offs' words'
     → (offs'' words'' : List ℕ) → offs'' ≡ take 0 offs' ++ replicate (length offs' - 0) 0 → words'' ≡ take 0 words' ++ replicate (length words' - 0) 0 → lex_called Full offs'' words'' ≡ lex_call s offs words
-unfolding lex_call if◌then◌else◌
+unfolding lex_call if◌then◌otherwise◌
 full-call s offs words offs' words' l offs'' words'' co cw =
     let po : offs'' ≡ zeroed offs = front-none offs' offs'' offs l.long-offs co in
     let pw : words'' ≡ zeroed words = front-none words' words'' words l.long-words cw in
@@ -89,7 +89,7 @@ loaded-call s offs words offs' words' Full l offs'' words'' co cw = full-call s 
 
 -- The tokens call out of what lexing into the arrays gave.
 pub entry-uneven : (s offs words : List ℕ) → (length offs ≡ length words → ⊥) → tokens_called (refusal 3 0 0) offs words ≡ after_entry s offs words
-unfolding after_entry if◌then◌else◌
+unfolding after_entry if◌then◌otherwise◌
 entry-uneven s offs words h = rw (ne_eqb (length offs) (length words) h) refl
 
 absurd-answer : {X : Type 0} (n at : ℕ) (e : Ending) → Full ≡ Ended n e at → X
@@ -113,11 +113,11 @@ read_to s offs words = by_ending (ending s) (length (lex s)) (end_at s) (padded 
 
 module _ (s offs words offs' words' : List ℕ) (r : LexAnswer) (even : length offs ≡ length words) (c : lex_called r offs' words' ≡ lex_call s offs words) where
   pub entry-ended : (n at : ℕ) (e : Ending) → r ≡ Ended n e at → by_ending e n at offs' words' ≡ after_entry s offs words
-  unfolding after_entry lex_call if◌then◌else◌
+  unfolding after_entry lex_call if◌then◌otherwise◌
   entry-ended n at e is = rw (eq-eqb (length offs) (length words) even) (go (ltb (length offs) (length (lex s))) c)
     where
-      go : (q : Bool) → lex_called r offs' words' ≡ (if q then full s offs words else some s offs words)
-          → by_ending e n at offs' words' ≡ (if q then too_many offs words else read_to s offs words)
+      go : (q : Bool) → lex_called r offs' words' ≡ (if q then full s offs words otherwise some s offs words)
+          → by_ending e n at offs' words' ≡ (if q then too_many offs words otherwise read_to s offs words)
       go true d = absurd-answer n at e (sym (ap (λ (x : LexCall). x.answer) d) ∙ is)
       go false d =
           let a : Ended n e at ≡ Ended (length (lex s)) (ending s) (end_at s) = sym is ∙ ap (λ (x : LexCall). x.answer) d in
@@ -127,10 +127,10 @@ module _ (s offs words offs' words' : List ℕ) (r : LexAnswer) (even : length o
 
   -- and so many elements of the arrays are used
   pub entry-used : (n at : ℕ) (e : Ending) → r ≡ Ended n e at → Used n offs' × Used n words'
-  unfolding lex_call if◌then◌else◌
+  unfolding lex_call if◌then◌otherwise◌
   entry-used n at e is = go (ltb (length offs) (length (lex s))) c
     where
-      go : (q : Bool) → lex_called r offs' words' ≡ (if q then full s offs words else some s offs words) → Used n offs' × Used n words'
+      go : (q : Bool) → lex_called r offs' words' ≡ (if q then full s offs words otherwise some s offs words) → Used n offs' × Used n words'
       go true d = absurd-answer n at e (sym (ap (λ (x : LexCall). x.answer) d) ∙ is)
       go false d =
           let a : Ended n e at ≡ Ended (length (lex s)) (ending s) (end_at s) = sym is ∙ ap (λ (x : LexCall). x.answer) d in
@@ -140,31 +140,31 @@ module _ (s offs words offs' words' : List ℕ) (r : LexAnswer) (even : length o
           )
 
   pub entry-full : r ≡ Full → tokens_called (refusal 4 0 0) offs' words' ≡ after_entry s offs words
-  unfolding after_entry lex_call if◌then◌else◌
+  unfolding after_entry lex_call if◌then◌otherwise◌
   entry-full is = rw (eq-eqb (length offs) (length words) even) (go (ltb (length offs) (length (lex s))) c)
     where
-      go : (q : Bool) → lex_called r offs' words' ≡ (if q then full s offs words else some s offs words)
-          → tokens_called (refusal 4 0 0) offs' words' ≡ (if q then too_many offs words else read_to s offs words)
+      go : (q : Bool) → lex_called r offs' words' ≡ (if q then full s offs words otherwise some s offs words)
+          → tokens_called (refusal 4 0 0) offs' words' ≡ (if q then too_many offs words otherwise read_to s offs words)
       go true d = ap₂ (tokens_called (refusal 4 0 0)) (ap (λ (x : LexCall). x.offs) d) (ap (λ (x : LexCall). x.words) d)
       go false d = absurd-answer (length (lex s)) (end_at s) (ending s) (sym is ∙ ap (λ (x : LexCall). x.answer) d)
 
 -- The tokens call behind the tests on the script.
 pub call-fine : (s offs words : List ℕ) → check_of s ≡ Fine → (length s < 65536) × (after_entry s offs words ≡ tokens_call s offs words)
-unfolding check_of tokens_call if◌then◌else◌
+unfolding check_of tokens_call if◌then◌otherwise◌
 call-fine s offs words e = go (ltb 65535 (length s)) (ltb (span ascii s) (length s)) refl e
   where
-    go : (q p : Bool) → ltb 65535 (length s) ≡ q → (if q then check.Refused LongScript else if p then check.Refused (NotAscii (span ascii s)) else Fine) ≡ Fine
-        → (length s < 65536) × (after_entry s offs words ≡ (if q then tokens_called (refusal 1 0 0) offs words else if p then tokens_called (refusal 2 0 (span ascii s)) offs words else after_entry s offs words))
+    go : (q p : Bool) → ltb 65535 (length s) ≡ q → (if q then check.Refused LongScript otherwise if p then check.Refused (NotAscii (span ascii s)) otherwise Fine) ≡ Fine
+        → (length s < 65536) × (after_entry s offs words ≡ (if q then tokens_called (refusal 1 0 0) offs words otherwise if p then tokens_called (refusal 2 0 (span ascii s)) offs words otherwise after_entry s offs words))
     go true p h d = absurd-check LongScript d
     go false true h d = absurd-check (NotAscii (span ascii s)) d
     go false false h d = let z = ltb-false 65535 (length s) h in (omega arith, refl)
 
 pub call-refused : (s offs words : List ℕ) (f : Refusal) → check_of s ≡ check.Refused f → tokens_called (answer_of (Refused f)) offs words ≡ tokens_call s offs words
-unfolding check_of tokens_call if◌then◌else◌
+unfolding check_of tokens_call if◌then◌otherwise◌
 call-refused s offs words f e = go (ltb 65535 (length s)) (ltb (span ascii s) (length s)) e
   where
-    go : (q p : Bool) → (if q then check.Refused LongScript else if p then check.Refused (NotAscii (span ascii s)) else Fine) ≡ check.Refused f
-        → tokens_called (answer_of (Refused f)) offs words ≡ (if q then tokens_called (refusal 1 0 0) offs words else if p then tokens_called (refusal 2 0 (span ascii s)) offs words else after_entry s offs words)
+    go : (q p : Bool) → (if q then check.Refused LongScript otherwise if p then check.Refused (NotAscii (span ascii s)) otherwise Fine) ≡ check.Refused f
+        → tokens_called (answer_of (Refused f)) offs words ≡ (if q then tokens_called (refusal 1 0 0) offs words otherwise if p then tokens_called (refusal 2 0 (span ascii s)) offs words otherwise after_entry s offs words)
     go true p d = ap (λ (x : Refusal). tokens_called (answer_of (Refused x)) offs words) (let z : f ≡ LongScript = cc in z)
     go false true d = ap (λ (x : Refusal). tokens_called (answer_of (Refused x)) offs words) (let z : f ≡ NotAscii (span ascii s) = cc in z)
     go false false d = absurd-check f (sym d)

@@ -6,7 +6,7 @@ use Rattle.sifc_err.specs.declared.Ending.{Ending}
 use Rattle.sifc_err.specs.declared.Ending.TheVariants.{TrueEnd, UnknownChar, UnterminatedString, Panic}
 use Rattle.sifc_lex.specs.declared.lex.Step.{Step}
 use Rattle.sifc_lex.specs.declared.lex.Step.TheVariants.{Skip, Word, Stop}
-use Rattle.sifc_word.specs.Base.{if◌then◌else◌, span}
+use Rattle.sifc_word.specs.Base.{if◌then◌otherwise◌, span}
 use Rattle.sifc_word.specs.BaseLaws.{span-le, if-either}
 use Rattle.sifc_lex.specs.Lex.{ascii, Lexed, ended, on_step, step, lex_from, lexed, lex, ending, end_at}
 use Rattle.sifc_lex.proofs.LexLaws.{Fair, fair-step, lex-count}

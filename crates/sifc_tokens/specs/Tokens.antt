@@ -13,7 +13,7 @@ use Rattle.sifc_tokens.specs.declared.call.Checked.TheVariants.{Fine}
 use Rattle.sifc_tokens.specs.declared.call.Checked.TheVariants as check
 use Rattle.sifc_tokens.specs.declared.call.TokensAnswer.{TokensAnswer}
 use Rattle.sifc_tokens.specs.declared.call.TokensAnswer.TheVariants.{Count, Refused}
-use Rattle.sifc_word.specs.Base.{if◌then◌else◌, span}
+use Rattle.sifc_word.specs.Base.{if◌then◌otherwise◌, span}
 use Rattle.sifc_lex.specs.Lex.{ascii, lex, ending, end_at}
 
 -- "Tokens: offset; kind + 64 × length (Str with its quotes)."
@@ -44,18 +44,18 @@ abbrev pub lex_called : LexAnswer → List ℕ → List ℕ → LexCall
 lex_called a offs words = record { answer = a; offs = offs; words = words }
 
 unfoldable pub lex_call : List ℕ → List ℕ → List ℕ → LexCall
-unfolding if◌then◌else◌ lex ending end_at offs_of words_of padded zeroed
+unfolding if◌then◌otherwise◌ lex ending end_at offs_of words_of padded zeroed
 lex_call script offs words =
     if ltb (length offs) (length (lex script)) then lex_called Full (zeroed offs) (zeroed words)
-    else lex_called (Ended (length (lex script)) (ending script) (end_at script)) (padded (offs_of (lex script)) (length offs)) (padded (words_of (lex script)) (length words))
+    otherwise lex_called (Ended (length (lex script)) (ending script) (end_at script)) (padded (offs_of (lex script)) (length offs)) (padded (words_of (lex script)) (length words))
 
 -- "entry: 1 LongScript, over 65,535 bytes; 2 NotAscii, a byte of 128 or more; the first one's offset"
 unfoldable pub check_of : List ℕ → Checked
-unfolding if◌then◌else◌ span ascii
+unfolding if◌then◌otherwise◌ span ascii
 check_of script =
     if ltb 65535 (length script) then check.Refused LongScript
-    else if ltb (span ascii script) (length script) then check.Refused (NotAscii (span ascii script))
-    else Fine
+    otherwise if ltb (span ascii script) (length script) then check.Refused (NotAscii (span ascii script))
+    otherwise Fine
 
 -- What the tokens call answers, in this paper's numbers: the token count, or number, kind and offset of a refusal; the others are 0.
 pub record Answer : Type 0 where
@@ -94,16 +94,16 @@ by_ending (Panic k) n at offs words = tokens_called (refusal 5 k at) (zeroed off
 -- The call behind the tests on the script: 3 Uneven, 4 TokensFull, 5 SourceFault, or the tokens. "1 to 3 touch nothing; the others set every
 -- lent output to 0."
 unfoldable pub after_entry : List ℕ → List ℕ → List ℕ → TokensCall
-unfolding if◌then◌else◌ by_ending lex ending end_at offs_of words_of padded zeroed
+unfolding if◌then◌otherwise◌ by_ending lex ending end_at offs_of words_of padded zeroed
 after_entry script offs words =
     if not (eqb (length offs) (length words)) then tokens_called (refusal 3 0 0) offs words
-    else if ltb (length offs) (length (lex script)) then tokens_called (refusal 4 0 0) (zeroed offs) (zeroed words)
-    else by_ending (ending script) (length (lex script)) (end_at script) (padded (offs_of (lex script)) (length offs)) (padded (words_of (lex script)) (length words))
+    otherwise if ltb (length offs) (length (lex script)) then tokens_called (refusal 4 0 0) (zeroed offs) (zeroed words)
+    otherwise by_ending (ending script) (length (lex script)) (end_at script) (padded (offs_of (lex script)) (length offs)) (padded (words_of (lex script)) (length words))
 
 -- The tokens call, down the table of refusals.
 unfoldable pub tokens_call : List ℕ → List ℕ → List ℕ → TokensCall
-unfolding if◌then◌else◌ after_entry ascii span
+unfolding if◌then◌otherwise◌ after_entry ascii span
 tokens_call script offs words =
     if ltb 65535 (length script) then tokens_called (refusal 1 0 0) offs words
-    else if ltb (span ascii script) (length script) then tokens_called (refusal 2 0 (span ascii script)) offs words
-    else after_entry script offs words
+    otherwise if ltb (span ascii script) (length script) then tokens_called (refusal 2 0 (span ascii script)) offs words
+    otherwise after_entry script offs words

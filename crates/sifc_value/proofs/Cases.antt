@@ -3,7 +3,7 @@ use Rattle.std.specs.Prelude.{ℕ, Bool, true, false, ◌&&◌, T, List, [], ◌
 use Rattle.std.specs.Int.Count.{count_trailing_zeros}
 use Rattle.std.specs.Float.{binary64}
 use Rattle.std.specs.Float.Ieee.{round, to_bits, size, span as digit_span, climb, units, odd}
-use Rattle.sifc_word.specs.Base.{if◌then◌else◌, span, within}
+use Rattle.sifc_word.specs.Base.{if◌then◌otherwise◌, span, within}
 use Rattle.sifc_lex.specs.Lex.{digit}
 use Rattle.sifc_value.specs.Value.{digits_of, counted, places_of, numeral, ends, literal, value_of}
 use Rattle.sifc_value.specs.declared.ValueAnswer.{ValueAnswer}
@@ -71,5 +71,5 @@ refused (s ∷ ss) = has_none (value_of s) && refused ss
 
 -- each has the value, or the refusal, of the list
 pub marked-values : T (right values && refused no_values)
-unfolding right refused values no_values has_bits has_none value_of literal ends counted digits_of places_of numeral if◌then◌else◌ span digit within round size digit_span climb units odd count_trailing_zeros to_bits
+unfolding right refused values no_values has_bits has_none value_of literal ends counted digits_of places_of numeral if◌then◌otherwise◌ span digit within round size digit_span climb units odd count_trailing_zeros to_bits
 marked-values = tt

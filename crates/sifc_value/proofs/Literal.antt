@@ -2,7 +2,7 @@
 use Rattle.std.proofs.Common.{◌≡◌, ℕ, suc, ◌+◌, ◌-◌, ◌^◌, ◌<◌, ◌≤◌, Bool, true, false, ltb, List, [], ◌∷◌, ◌++◌, length, get_or, take, drop, sym, refl, ap, ◌∙◌, inl, inr, append-nil, eq-or-lt_of_le, add-one, arith, length-append, length-drop, drop_of_length-le, length-take-le, take_all, drop-cons, ltb-false, ltb-true, le-ltb, lt-ltb, eq-eqb, ne_eqb}
 use native.Mathlib.Nat.{sub-zero}
 use lib.Ieee.{binary64, round}
-use Rattle.sifc_word.specs.Base.{if◌then◌else◌, span, within}
+use Rattle.sifc_word.specs.Base.{if◌then◌otherwise◌, span, within}
 use Rattle.sifc_word.specs.BaseLaws.{and-false, span-le, span-at-no, span-at-end}
 use Rattle.sifc_lex.specs.Lex.{digit}
 use Rattle.sifc_value.specs.Scan.{Capped, Read}
@@ -12,7 +12,7 @@ use Rattle.sifc_value.specs.Value.{digits_of, counted, places_of, numeral, ends,
 
 -- ---- what is no literal
 refused : (s : List ℕ) → literal s ≡ false → value_of s ≡ NoNumber
-unfolding value_of if◌then◌else◌
+unfolding value_of if◌then◌otherwise◌
 refused s e = rw e refl
 
 pub no_digit : (s : List ℕ) → span digit s ≡ 0 → value_of s ≡ NoNumber
@@ -44,7 +44,7 @@ ends-none = refl
 
 accepted : (s : List ℕ) (n p : ℕ) → 0 < span digit s → ends (drop (span digit s) s) ≡ true → span digit s + (length s - suc (span digit s)) ≤ 19
     → n ≡ numeral 0 (digits_of s) → p ≡ places_of s → value_of s ≡ Number (round binary64 false n (10 ^ p))
-unfolding value_of literal if◌then◌else◌
+unfolding value_of literal if◌then◌otherwise◌
 accepted s n p d e l h k =
     let t : ltb (counted s) 20 ≡ true = lt-ltb (counted s) 20 (let y = digits-length s in omega arith) in
     simp (lt-ltb 0 (span digit s) d, e, t, h, k)

@@ -2,7 +2,7 @@
 use Rattle.std.specs.Prelude.{ℕ, suc, ◌+◌, ◌-◌, ◌*◌, ◌^◌, Bool, true, false, ◌&&◌, List, [], ◌∷◌, ◌++◌, length, take, drop, pos, ◌==◌, nat_lt, Float}
 use Rattle.std.specs.Float.{fin, binary64}
 use Rattle.std.specs.Float.Ieee.{round}
-use Rattle.sifc_word.specs.Base.{if◌then◌else◌, span}
+use Rattle.sifc_word.specs.Base.{if◌then◌otherwise◌, span}
 use Rattle.sifc_lex.specs.Lex.{digit}
 use Rattle.sifc_value.specs.declared.ValueAnswer.{ValueAnswer}
 use Rattle.sifc_value.specs.declared.ValueAnswer.TheVariants.{Number, NoNumber}
@@ -40,8 +40,8 @@ literal s = nat_lt 0 (span digit s) && ends (drop (span digit s) s) && nat_lt (c
 
 -- the value call
 unfoldable pub value_of : List ℕ → ValueAnswer
-unfolding literal numeral digits_of places_of if◌then◌else◌
-value_of s = if literal s then Number (round binary64 false (numeral 0 (digits_of s)) (10 ^ places_of s)) else NoNumber
+unfolding literal numeral digits_of places_of if◌then◌otherwise◌
+value_of s = if literal s then Number (round binary64 false (numeral 0 (digits_of s)) (10 ^ places_of s)) otherwise NoNumber
 
 -- its answer in numbers: the refusal's number, 0 for none and 12 for NoNumber, and the value, +0 where there is none
 pub record Told : Type 0 where

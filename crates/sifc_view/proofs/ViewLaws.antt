@@ -8,7 +8,7 @@ use Rattle.sifc_err.specs.declared.Ending.{Ending}
 use Rattle.sifc_err.specs.declared.Ending.TheVariants.{TrueEnd, UnknownChar, UnterminatedString, Panic}
 use Rattle.sifc_lex.specs.declared.lex.Step.{Step}
 use Rattle.sifc_lex.specs.declared.lex.Step.TheVariants.{Skip, Word, Stop}
-use Rattle.sifc_word.specs.Base.{if◌then◌else◌}
+use Rattle.sifc_word.specs.Base.{if◌then◌otherwise◌}
 use Rattle.sifc_word.specs.Kind.{Eof}
 use Rattle.sifc_lex.specs.Lex.{token, step, end_kind, end_len, ended, on_step, before, lexed as lexed_all, lex}
 use Rattle.sifc_lex.proofs.LexLaws.{Fair, fair-step, lex_at, lex_at-turn}
@@ -41,15 +41,15 @@ next-turn off s = agree (next_from (length s)) next_of off s (λ o r l. enough (
 
 -- an offset in the script is itself
 pub clipped-in : (off n : ℕ) → off ≤ n → clipped off n ≡ off
-unfolding clipped if◌then◌else◌
+unfolding clipped if◌then◌otherwise◌
 clipped-in off n h = simp (le-ltb n off h)
 
 -- no offset is past the end
 clipped-le : (off n : ℕ) → clipped off n ≤ n
-unfolding clipped if◌then◌else◌
+unfolding clipped if◌then◌otherwise◌
 clipped-le off n = go (ltb n off) refl
   where
-    go : (b : Bool) → ltb n off ≡ b → (if b then n else off) ≤ n
+    go : (b : Bool) → ltb n off ≡ b → (if b then n otherwise off) ≤ n
     go true e = omega arith
     go false e = ltb-false n off e
 
@@ -118,7 +118,7 @@ end-last (Panic k) = refl
 
 -- the tokens from a token on, and those after it where it is not the last
 abbrev onwards : List ℕ → Lexed → List Token
-onwards s l = l.token ∷ (if ltb l.token.kind Eof then (lex_at l.next (drop l.next s)).toks else [])
+onwards s l = l.token ∷ (if ltb l.token.kind Eof then (lex_at l.next (drop l.next s)).toks otherwise [])
 
 -- what a view meets: its token begins the list, and if it is not the last the view moves on inside the script
 record Meets (s : List ℕ) (off : ℕ) (l : Lexed) : Type 0 where
@@ -136,7 +136,7 @@ met-later s off n l e m =
 
 -- At every offset of a script the next token is so.
 meets : (f : ℕ) (s : List ℕ) (off : ℕ) → off ≤ length s → length s - off < f → Meets s off (next_of off (drop off s))
-unfolding on_step if◌then◌else◌ ended end_len
+unfolding on_step if◌then◌otherwise◌ ended end_len
 meets zero s off h l = absurd (not-suc-le-zero l)
 meets (suc f) s off h l = go (step (drop off s)) refl (λ n b c d. meets f s (off + n) b (omega arith))
   where
@@ -158,11 +158,11 @@ meets (suc f) s off h l = go (step (drop off s)) refl (λ n b c d. meets f s (of
 
 -- the tokens after a token that a view meets
 further : (f : ℕ) (s : List ℕ) (off : ℕ) (l : Lexed) → Meets s off l → ((o : ℕ) → off < o → o ≤ length s → (lex_at o (drop o s)).toks ≡ viewed f s o)
-    → onwards s l ≡ l.token ∷ (if ltb l.token.kind Eof then viewed f s l.next else [])
-unfolding if◌then◌else◌
+    → onwards s l ≡ l.token ∷ (if ltb l.token.kind Eof then viewed f s l.next otherwise [])
+unfolding if◌then◌otherwise◌
 further f s off l m k = ap (λ (ts : List Token). l.token ∷ ts) (go (ltb l.token.kind Eof) refl)
   where
-    go : (b : Bool) → ltb l.token.kind Eof ≡ b → (if b then (lex_at l.next (drop l.next s)).toks else []) ≡ (if b then viewed f s l.next else [])
+    go : (b : Bool) → ltb l.token.kind Eof ≡ b → (if b then (lex_at l.next (drop l.next s)).toks otherwise []) ≡ (if b then viewed f s l.next otherwise [])
     go true e = let z = m.on e in k l.next z.0 z.1
     go false e = refl
 
@@ -173,7 +173,7 @@ viewed-from zero s off h l = absurd (not-suc-le-zero l)
 viewed-from (suc f) s off h l =
     let m = meets (suc f) s off h l in
     m.toks ∙ further f s off (next_of off (drop off s)) m (λ o a b. viewed-from f s o b (omega arith))
-    ∙ ap (λ (x : Lexed). x.token ∷ (if ltb x.token.kind Eof then viewed f s x.next else [])) (sym (next-in s off h))
+    ∙ ap (λ (x : Lexed). x.token ∷ (if ltb x.token.kind Eof then viewed f s x.next otherwise [])) (sym (next-in s off h))
 
 -- The token list of a script is what stepping a view from its start gives.
 pub lex-viewed : (s : List ℕ) → lex s ≡ viewed (suc (length s)) s 0
@@ -185,7 +185,7 @@ stepping-viewed : (f : ℕ) (v : Lexer) → stepping f v ≡ viewed f v.script.n
 unfolding stepping stepped viewed
 stepping-viewed zero v = refl
 stepping-viewed (suc f) v =
-    ap (λ (ts : List Token). (next_at v.script.now v.off).token ∷ (if ltb (next_at v.script.now v.off).token.kind Eof then ts else [])) (stepping-viewed f (stepped v).view)
+    ap (λ (ts : List Token). (next_at v.script.now v.off).token ∷ (if ltb (next_at v.script.now v.off).token.kind Eof then ts otherwise [])) (stepping-viewed f (stepped v).view)
 
 -- Lexing a view at a script's start, and then each view that lexing answers, gives the script's token list.
 pub lex-stepped : (v : Lexer) → v.off ≡ 0 → lex v.script.now ≡ stepping (suc (length v.script.now)) v

@@ -3,7 +3,7 @@ use Rattle.std.specs.Prelude.{ℕ, zero, suc, ◌+◌, List, [], ◌∷◌, ltb,
 use Rattle.sifc_err.specs.declared.Token.{Token}
 use Rattle.sifc_lex.specs.declared.lex.Step.{Step}
 use Rattle.sifc_lex.specs.declared.lex.Step.TheVariants.{Skip, Word, Stop}
-use Rattle.sifc_word.specs.Base.{if◌then◌else◌}
+use Rattle.sifc_word.specs.Base.{if◌then◌otherwise◌}
 use Rattle.sifc_word.specs.Kind.{Eof}
 use Rattle.sifc_lex.specs.Lex.{token, step, end_kind}
 use Rattle.sifc_view.specs.declared.next.Lexed.{Lexed}
@@ -31,7 +31,7 @@ next_of off s = next_from (suc (length s)) off s
 
 -- an offset past the end stands for the end
 unfoldable pub clipped : ℕ → ℕ → ℕ
-clipped off n = if ltb n off then n else off
+clipped off n = if ltb n off then n otherwise off
 
 -- of a script, from any offset on
 unfoldable pub next_at : List ℕ → ℕ → Lexed
@@ -40,7 +40,7 @@ next_at s off = next_of (clipped off (length s)) (drop (clipped off (length s)) 
 -- the tokens that stepping from an offset gives, so many at most: an Eof or a lexing panic is the last
 unfoldable pub viewed : ℕ → List ℕ → ℕ → List Token
 viewed zero s off = []
-viewed (suc f) s off = (next_at s off).token ∷ (if ltb (next_at s off).token.kind Eof then viewed f s (next_at s off).next else [])
+viewed (suc f) s off = (next_at s off).token ∷ (if ltb (next_at s off).token.kind Eof then viewed f s (next_at s off).next otherwise [])
 
 -- what lexing a view answers where l is found at its offset: the token, with the view moved on
 abbrev moved_on_by : Lexer → Lexed → Stepped
@@ -53,4 +53,4 @@ stepped v = moved_on_by v (next_at v.script.now v.off)
 -- the tokens that lexing a view gives, so many at most, each from the view that the one before answered: an Eof or a lexing panic is the last
 unfoldable pub stepping : ℕ → Lexer → List Token
 stepping zero v = []
-stepping (suc f) v = (stepped v).token ∷ (if ltb (stepped v).token.kind Eof then stepping f (stepped v).view else [])
+stepping (suc f) v = (stepped v).token ∷ (if ltb (stepped v).token.kind Eof then stepping f (stepped v).view otherwise [])

@@ -1,11 +1,11 @@
 -- Small tests and lists that every part of the definition uses.
 use Rattle.std.specs.Prelude.{ℕ, zero, suc, List, [], ◌∷◌, Bool, true, false, ◌&&◌, ◌||◌, not, eqb, leb, take, drop}
 
-infixr 15 if◌then◌else◌
+infixr 15 if◌then◌otherwise◌
 -- shut: a proof that steps through a branch opens it by name
-unfoldable pub if◌then◌else◌ : {A : Type 0} → Bool → A → A → A
-if◌then◌else◌ true a b = a
-if◌then◌else◌ false a b = b
+unfoldable pub if◌then◌otherwise◌ : {A : Type 0} → Bool → A → A → A
+if◌then◌otherwise◌ true a b = a
+if◌then◌otherwise◌ false a b = b
 
 -- lo ≤ b ≤ hi
 unfoldable pub within : ℕ → ℕ → ℕ → Bool

@@ -2,7 +2,7 @@
 use Rattle.std.specs.Prelude.{ℕ, zero, suc, ◌+◌, ◌≤◌, ◌<◌, ◌≡◌, refl, List, [], ◌∷◌, ◌++◌, Bool, true, false, ◌&&◌, ◌||◌, not, T, eqb, take, drop, length, get_or}
 use Rattle.std.proofs.Common.{sym, ap, ◌∙◌, subst, add-zero, zero-add, add-suc, suc-add, le_of_suc-le-suc, not-suc-le-zero, length-drop, drop_of_length-le, drop-cons, eq-eqb, ne_eqb}
 use native.Mathlib.Omega.{arith}
-use Rattle.sifc_word.specs.Base.{if◌then◌else◌, same, span}
+use Rattle.sifc_word.specs.Base.{if◌then◌otherwise◌, same, span}
 
 pub and_left : (p q : Bool) → T (p && q) → T p
 and_left true q t = tt
@@ -29,8 +29,8 @@ false_of true t = absurd t
 false_of false t = refl
 
 -- what holds of both branches, each under its test, holds of the choice
-pub if-either : {A : Type 0} (P : A → Type 0) (q : Bool) (x y : A) → (q ≡ true → P x) → (q ≡ false → P y) → P (if q then x else y)
-unfolding if◌then◌else◌
+pub if-either : {A : Type 0} (P : A → Type 0) (q : Bool) (x y : A) → (q ≡ true → P x) → (q ≡ false → P y) → P (if q then x otherwise y)
+unfolding if◌then◌otherwise◌
 if-either P true x y f g = f refl
 if-either P false x y f g = g refl
 

@@ -1,6 +1,6 @@
 -- reserved.rs: the twelve reserved words with the kinds that they have, and the two standard functions.
 use Rattle.std.specs.Prelude.{ℕ, List, [], ◌∷◌, Bool, true, false, ◌||◌}
-use Rattle.sifc_word.specs.Base.{if◌then◌else◌, same}
+use Rattle.sifc_word.specs.Base.{if◌then◌otherwise◌, same}
 
 pub record Word : Type 0 where
   pub word : List ℕ
@@ -25,9 +25,9 @@ reserved_words =
 
 -- the kind of a name among some words: 31, Ident, if it is none of them
 unfoldable pub kind_among : List Word → List ℕ → ℕ
-unfolding same if◌then◌else◌
+unfolding same if◌then◌otherwise◌
 kind_among [] name = 31
-kind_among (w ∷ ws) name = if same w.word name then w.kind else kind_among ws name
+kind_among (w ∷ ws) name = if same w.word name then w.kind otherwise kind_among ws name
 
 -- lex_ident's kind of a name: the reserved word's, else Ident
 unfoldable pub name_kind : List ℕ → ℕ

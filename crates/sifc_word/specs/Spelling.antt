@@ -4,7 +4,7 @@ use Rattle.std.specs.Prelude.{ℕ, zero, suc, ◌+◌, ◌-◌, ◌<◌, ◌≡�
 use Rattle.std.proofs.Common.{ap, ◌∙◌, length-append}
 use Rattle.std.proofs.Math.ListN.{get_or-eq_default}
 use Rattle.std.proofs.Math.Seq.{drop-append-add, take-append_seam}
-use Rattle.sifc_word.specs.Base.{if◌then◌else◌, part}
+use Rattle.sifc_word.specs.Base.{if◌then◌otherwise◌, part}
 use Rattle.sifc_word.specs.Kind.{Ident, Str, Val}
 
 -- The strings of Display by kind, from 0, which is no kind, to 47, Eof. Ident, Str and Val have none of their own.
@@ -32,11 +32,11 @@ start_of kind = length (joined (take kind displays))
 
 -- The spelling of a token, given its kind, offset and length: a part of the script, or of the list that is lent as the fixed one.
 unfoldable pub spelling_of : List ℕ → List ℕ → ℕ → ℕ → ℕ → List ℕ
-unfolding if◌then◌else◌ display start_of
+unfolding if◌then◌otherwise◌ display start_of
 spelling_of script fixed kind off len =
     if eqb kind Str then part (off + 1) (len - 2) script
-    else if eqb kind Ident || eqb kind Val then part off len script
-    else part (start_of kind) (length (display kind)) fixed
+    otherwise if eqb kind Ident || eqb kind Val then part off len script
+    otherwise part (start_of kind) (length (display kind)) fixed
 
 part-joined : (xs : List (List ℕ)) (k : ℕ) → part (length (joined (take k xs))) (length (get_or xs k [])) (joined xs) ≡ get_or xs k []
 unfolding joined

@@ -7,7 +7,7 @@ use mathlib.Core.List.{List, ◌++◌, append-nil}
 use lib.ListN.{length, take, drop, replicate}
 use lib.Seq.{drop-length, drop_at, length-take-le}
 use Rattle.sifc_err.specs.declared.Refusal.TheVariants.{TextFull}
-use Rattle.sifc_word.specs.Base.{if◌then◌else◌}
+use Rattle.sifc_word.specs.Base.{if◌then◌otherwise◌}
 use Rattle.sifc_tokens.specs.Tokens.{padded, zeroed}
 use Rattle.sifc_def.specs.declared.Texting.TheVariants.{Wrote, Refused}
 use Rattle.sifc_put.specs.declared.write.Put.{Put}
@@ -18,12 +18,12 @@ use Rattle.sifc_write.specs.Front.{buffered, fitted, Fronts}
 
 -- A text that is longer than the buffer is refused.
 fitted-full : (w t : List ℕ) → length t < length w → fitted w t ≡ buffered (Refused TextFull) (zeroed t)
-unfolding fitted if◌then◌else◌
+unfolding fitted if◌then◌otherwise◌
 fitted-full w t h = rw (lt-ltb (length t) (length w) h) refl
 
 -- Any other is at the front, and zeros are behind it.
 fitted-in : (w t : List ℕ) → length w ≤ length t → fitted w t ≡ buffered (Wrote (length w)) (padded w (length t))
-unfolding fitted if◌then◌else◌
+unfolding fitted if◌then◌otherwise◌
 fitted-in w t h = rw (le-ltb (length t) (length w) h) refl
 
 module _ (L : Lang) {text t : List ℕ} {hi : ℕ} {r : Put} (q : WritesOf L text hi (length text) r t) where

@@ -7,7 +7,7 @@ use mathlib.Core.Option.{Option, none, some}
 use mathlib.Core.Bool.{Bool, true, false}
 use lib.ListN.{length, get_or, set}
 use lib.Dec.{eqb}
-use Rattle.sifc_word.specs.Base.{if◌then◌else◌}
+use Rattle.sifc_word.specs.Base.{if◌then◌otherwise◌}
 use Rattle.sifc_def.specs.declared.Err.{Err}
 use Rattle.sifc_def.specs.declared.What.{What}
 use Rattle.sifc_def.specs.declared.What.TheVariants.{Placeholder, Function, Variable, Other}
@@ -44,10 +44,10 @@ SmallIn b none = Unit {0}
 SmallIn b (some w) = value_of w < b
 
 what-small : (b t v : ℕ) → 0 < b → v < b → value_of (what_of t v) < b
-unfolding what_of if◌then◌else◌ value_of
+unfolding what_of if◌then◌otherwise◌ value_of
 what-small b t v z h = pick (eqb t 0) (eqb t 1) (eqb t 2) (eqb t 3)
   where
-    pick : (p q r s : Bool) → value_of (if◌then◌else◌ p Placeholder (if◌then◌else◌ q (Function v) (if◌then◌else◌ r (Variable v false) (if◌then◌else◌ s (Variable v true) Other)))) < b
+    pick : (p q r s : Bool) → value_of (if◌then◌otherwise◌ p Placeholder (if◌then◌otherwise◌ q (Function v) (if◌then◌otherwise◌ r (Variable v false) (if◌then◌otherwise◌ s (Variable v true) Other)))) < b
     pick true q r s = z
     pick false true r s = h
     pick false false true s = h

@@ -2,7 +2,7 @@
 -- the words stand for. A walk keeps, beside the walk itself, that its words are words and that their limits stay as they are.
 use Rattle.std.specs.Prelude.{ℕ, suc, ◌+◌, ◌-◌, ◌≤◌, ◌<◌, ◌≡◌, refl, List, [], Bool, true, false, eqb, length, get_or, set}
 use Rattle.std.proofs.Common.{arith, sym, ap, ◌∙◌, subst}
-use Rattle.sifc_word.specs.Base.{if◌then◌else◌}
+use Rattle.sifc_word.specs.Base.{if◌then◌otherwise◌}
 use Rattle.sifc_def.specs.declared.Err.{Err}
 use Rattle.sifc_def.specs.declared.Why.{Why}
 use Rattle.sifc_def.specs.declared.What.{What}
@@ -115,10 +115,10 @@ module _ {A : Type 0} {o₀ : Out A} {I : Inp} {n : Rooms} {k lo : ℕ} {E : Lis
   pub read : {B : Type 0} {a : B} {x : St} (K : B → St → Out A) → On o₀ (go_on (done a x) K) I n k lo E M s → On o₀ (K a x) I n k lo E M s
   read K p = record { at = steps.read K p.at; words = p.words; lim = p.lim }
 
-  pub yes : {b : Bool} {x : St} (f g : St → Out A) → On o₀ (if◌then◌else◌ {A = St → Out A} b f g x) I n k lo E M s → b ≡ true → On o₀ (f x) I n k lo E M s
+  pub yes : {b : Bool} {x : St} (f g : St → Out A) → On o₀ (if◌then◌otherwise◌ {A = St → Out A} b f g x) I n k lo E M s → b ≡ true → On o₀ (f x) I n k lo E M s
   yes f g p e = record { at = steps.yes f g p.at e; words = p.words; lim = p.lim }
 
-  pub no : {b : Bool} {x : St} (f g : St → Out A) → On o₀ (if◌then◌else◌ {A = St → Out A} b f g x) I n k lo E M s → b ≡ false → On o₀ (g x) I n k lo E M s
+  pub no : {b : Bool} {x : St} (f g : St → Out A) → On o₀ (if◌then◌otherwise◌ {A = St → Out A} b f g x) I n k lo E M s → b ≡ false → On o₀ (g x) I n k lo E M s
   no f g p e = record { at = steps.no f g p.at e; words = p.words; lim = p.lim }
 
   -- a test of the kind in front

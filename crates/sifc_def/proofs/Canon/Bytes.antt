@@ -7,7 +7,7 @@ use Rattle.std.proofs.Math.Seq.{drop-append_seam}
 use Rattle.sifc_err.specs.declared.Token.{Token}
 use Rattle.sifc_err.specs.declared.Ending.TheVariants.{TrueEnd}
 use Rattle.sifc_lex.specs.declared.lex.Step.TheVariants.{Skip}
-use Rattle.sifc_word.specs.Base.{if◌then◌else◌, span}
+use Rattle.sifc_word.specs.Base.{if◌then◌otherwise◌, span}
 use Rattle.sifc_word.specs.BaseLaws.{span-yes, true_of}
 use Rattle.sifc_lex.specs.Lex.{step, on_step, ended, lexed, lex, ending}
 use Rattle.sifc_lex.proofs.LexLaws.{lex_at, lex_at-turn}
@@ -151,7 +151,7 @@ print-lexed ds f =
 
 -- A separator is skipped.
 sep-white : (q : Bool) (rest : List ℕ) → step (sep q ∷ rest) ≡ Skip 1
-unfolding step sep if◌then◌else◌
+unfolding step sep if◌then◌otherwise◌
 sep-white true rest = refl
 sep-white false rest = refl
 

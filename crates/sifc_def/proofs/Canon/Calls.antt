@@ -10,7 +10,7 @@ use Rattle.std.proofs.Math.Seq.{take-append_seam}
 use Rattle.sifc_err.specs.declared.Token.{Token}
 use Rattle.sifc_err.specs.declared.Refusal.{Refusal}
 use Rattle.sifc_err.specs.declared.Refusal.TheVariants.{LongScript, NotAscii, Uneven, TokensFull, SourceFault, TooDeep, NodesFull, SymbolsFull, ErrorsFull, Flagged, TextFull}
-use Rattle.sifc_word.specs.Base.{if◌then◌else◌, member, span}
+use Rattle.sifc_word.specs.Base.{if◌then◌otherwise◌, member, span}
 use Rattle.sifc_lex.specs.Lex.{ascii as is_ascii, lex, ending}
 use Rattle.sifc_def.specs.declared.Reading.{Reading}
 use Rattle.sifc_def.specs.declared.Reading.TheVariants.{Read, Refused}
@@ -65,8 +65,8 @@ Sized (check.Refused r) = T (size_or_depth r)
 
 -- what entry says, by its three tests: over 65,535 bytes, a byte of 128 or more, arrays of one length
 by_tests : List ℕ → Bool → Bool → Bool → Checked
-unfolding if◌then◌else◌
-by_tests s p q e = elim (if p then check.Refused LongScript else if q then check.Refused (NotAscii (span is_ascii s)) else Fine) [ check.Refused r ↦ check.Refused r | Fine ↦ if e then Fine else check.Refused Uneven ]
+unfolding if◌then◌otherwise◌
+by_tests s p q e = elim (if p then check.Refused LongScript otherwise if q then check.Refused (NotAscii (span is_ascii s)) otherwise Fine) [ check.Refused r ↦ check.Refused r | Fine ↦ if e then Fine otherwise check.Refused Uneven ]
 
 -- Entry is that.
 entry-is : (s : List ℕ) (a : Arrays) → entry s a ≡ by_tests s (ltb 65535 (length s)) (ltb (span is_ascii s) (length s)) (even a)
@@ -79,7 +79,7 @@ refused-fine r e = absurd (let z : ◌≡◌ {A = ℕ} 0 1 = cc in let y : ⊥ =
 
 -- a script that is not refused is ASCII
 ascii-only : (s : List ℕ) (a : Arrays) → entry s a ≡ Fine → ltb (span is_ascii s) (length s) ≡ false
-unfolding by_tests if◌then◌else◌
+unfolding by_tests if◌then◌otherwise◌
 ascii-only s a h = go (ltb 65535 (length s)) (ltb (span is_ascii s) (length s)) (even a) (sym (entry-is s a) ∙ h)
   where
     go : (p q e : Bool) → by_tests s p q e ≡ Fine → q ≡ false
@@ -89,7 +89,7 @@ ascii-only s a h = go (ltb 65535 (length s)) (ltb (span is_ascii s) (length s)) 
 
 -- an ASCII script is refused for size, or not at all
 entry-ascii : (s : List ℕ) (a : Arrays) → ltb (span is_ascii s) (length s) ≡ false → (entry s a ≡ Fine) ⊎ Sized (entry s a)
-unfolding by_tests if◌then◌else◌ Sized size_or_depth member
+unfolding by_tests if◌then◌otherwise◌ Sized size_or_depth member
 entry-ascii s a h = rw (entry-is s a) (go (ltb 65535 (length s)) (ltb (span is_ascii s) (length s)) (even a) h)
   where
     go : (p q e : Bool) → q ≡ false → (by_tests s p q e ≡ Fine) ⊎ Sized (by_tests s p q e)
@@ -256,8 +256,8 @@ fits-reads s a f b n h = go (entry s a) refl (entry-ascii s a b) n (subst (λ (c
     go Fine e z (cramped x m t) k = absurd (spared x t (unfold by_entry answered Fits in subst (λ (o : Outcome). Fits (answered s a o).answer) m k))
 
 -- Neither of the two refusals, so the text is written.
-chosen : (p q : Bool) (x y z : Written) (t : List ℕ) → p ≡ false → (FitsText y.answer → ⊥) → Writes z t → FitsText (if p then x else if q then y else z).answer → Writes (if p then x else if q then y else z) t
-unfolding if◌then◌else◌
+chosen : (p q : Bool) (x y z : Written) (t : List ℕ) → p ≡ false → (FitsText y.answer → ⊥) → Writes z t → FitsText (if p then x otherwise if q then y otherwise z).answer → Writes (if p then x otherwise if q then y otherwise z) t
+unfolding if◌then◌otherwise◌
 chosen true q x y z t e n w k = absurd (subst (λ (b : Bool). T b) e tt)
 chosen false true x y z t e n w k = absurd (n k)
 chosen false false x y z t e n w k = w

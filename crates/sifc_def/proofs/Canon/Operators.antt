@@ -6,7 +6,7 @@ use Rattle.std.proofs.Math.Seq.{take-append_seam}
 use Rattle.sifc_err.specs.declared.Ending.TheVariants.{UnknownChar}
 use Rattle.sifc_lex.specs.declared.lex.Step.{Step}
 use Rattle.sifc_lex.specs.declared.lex.Step.TheVariants.{Skip, Word, Stop}
-use Rattle.sifc_word.specs.Base.{if◌then◌else◌, same, span, member}
+use Rattle.sifc_word.specs.Base.{if◌then◌otherwise◌, same, span, member}
 use Rattle.sifc_word.specs.BaseLaws.{and_left, and_right}
 use Rattle.sifc_word.specs.Reserved as Reserved
 use Rattle.sifc_word.specs.Reserved.{reserved_words, kind_among, name_kind}
@@ -40,8 +40,8 @@ mute-shows : (x : Step) (k n : ℕ) (t : List ℕ) → Mute x → x ≡ Word k n
 mute-shows x k n t m e = shows-other k t (unfold Mute in subst (λ (y : Step). Mute y) e m)
 
 -- Either branch.
-mute-if : (q : Bool) (x y : Step) → Mute x → Mute y → Mute (if q then x else y)
-unfolding if◌then◌else◌
+mute-if : (q : Bool) (x y : Step) → Mute x → Mute y → Mute (if q then x otherwise y)
+unfolding if◌then◌otherwise◌
 mute-if true x y f g = f
 mute-if false x y f g = g
 
@@ -53,19 +53,19 @@ mute-line_end n (c ∷ r) = tt
 
 -- A string.
 mute-closed : (n : ℕ) (r : List ℕ) → Mute (closed n r)
-unfolding closed Mute looseness member if◌then◌else◌
+unfolding closed Mute looseness member if◌then◌otherwise◌
 mute-closed n [] = tt
 mute-closed n (c ∷ r) = refl
 
 -- A number with a point.
 mute-pointed : (n : ℕ) (r : List ℕ) → Mute (pointed n r)
-unfolding pointed Mute looseness member if◌then◌else◌
+unfolding pointed Mute looseness member if◌then◌otherwise◌
 mute-pointed n [] = tt
 mute-pointed n (c ∷ r) = refl
 
 -- A number.
 number_word : (n : ℕ) → Mute (Word 33 n)
-unfolding Mute looseness member if◌then◌else◌
+unfolding Mute looseness member if◌then◌otherwise◌
 number_word n = refl
 
 -- A number, with a point or without.
@@ -81,19 +81,19 @@ has_none_of (w ∷ ws) = eqb (looseness w.kind) 0 && has_none_of ws
 
 -- A name's kind among some words.
 mute-among : (ws : List Reserved.Word) (name : List ℕ) → T (has_none_of ws) → looseness (kind_among ws name) ≡ 0
-unfolding kind_among has_none_of if◌then◌else◌
-mute-among [] name t = unfold looseness member if◌then◌else◌ in refl
+unfolding kind_among has_none_of if◌then◌otherwise◌
+mute-among [] name t = unfold looseness member if◌then◌otherwise◌ in refl
 mute-among (w ∷ ws) name t =
     go (same w.word name) (eqb→eq (looseness w.kind) 0 (and_left (eqb (looseness w.kind) 0) (has_none_of ws) t)) (mute-among ws name (and_right (eqb (looseness w.kind) 0) (has_none_of ws) t))
   where
-    go : (q : Bool) → looseness w.kind ≡ 0 → looseness (kind_among ws name) ≡ 0 → looseness (if q then w.kind else kind_among ws name) ≡ 0
+    go : (q : Bool) → looseness w.kind ≡ 0 → looseness (kind_among ws name) ≡ 0 → looseness (if q then w.kind otherwise kind_among ws name) ≡ 0
     go true h k = h
     go false h k = k
 
 -- A name.
 mute-name : (b : ℕ) (bs : List ℕ) → Mute (lex_ident b bs)
 unfolding lex_ident Mute name_kind
-mute-name b bs = mute-among reserved_words (b ∷ take (span alnum bs) bs) (unfold has_none_of reserved_words looseness member if◌then◌else◌ in tt)
+mute-name b bs = mute-among reserved_words (b ∷ take (span alnum bs) bs) (unfold has_none_of reserved_words looseness member if◌then◌otherwise◌ in tt)
 
 -- ── signs: each of the two tables by computation ──
 
@@ -118,21 +118,21 @@ both_agree (x ∷ xs) = agrees x.kind (x.first ∷ x.second ∷ []) && both_agre
 
 -- The signs of one byte, by computation.
 singles-agree : T (one_agrees singles)
-unfolding one_agrees agrees singles op_strength word_kind step looseness member if◌then◌else◌
+unfolding one_agrees agrees singles op_strength word_kind step looseness member if◌then◌otherwise◌
 singles-agree = tt
 
 -- The signs of two bytes, by computation.
 doubles-agree : T (both_agree doubles)
-unfolding both_agree agrees doubles op_strength word_kind step looseness member if◌then◌else◌
+unfolding both_agree agrees doubles op_strength word_kind step looseness member if◌then◌otherwise◌
 doubles-agree = tt
 
 -- A sign of one byte, out of a table.
 shows-single : (ss : List Sign) → T (one_agrees ss) → (b : ℕ) → Shows (single_kind ss b) (b ∷ [])
-unfolding one_agrees single_kind if◌then◌else◌
-shows-single [] a b = shows-other 0 (b ∷ []) (unfold looseness member if◌then◌else◌ in refl)
+unfolding one_agrees single_kind if◌then◌otherwise◌
+shows-single [] a b = shows-other 0 (b ∷ []) (unfold looseness member if◌then◌otherwise◌ in refl)
 shows-single (x ∷ xs) a b = go (eqb b x.first) refl (shows-single xs (and_right (agrees x.kind (x.first ∷ [])) (one_agrees xs) a) b)
   where
-    go : (q : Bool) → eqb b x.first ≡ q → Shows (single_kind xs b) (b ∷ []) → Shows (if q then x.kind else single_kind xs b) (b ∷ [])
+    go : (q : Bool) → eqb b x.first ≡ q → Shows (single_kind xs b) (b ∷ []) → Shows (if q then x.kind otherwise single_kind xs b) (b ∷ [])
     go true h ih =
         subst (λ (c : ℕ). Shows x.kind (c ∷ [])) (sym (eqb→eq b x.first (rw h tt)))
         (shows-agreed x.kind (x.first ∷ []) (and_left (agrees x.kind (x.first ∷ [])) (one_agrees xs) a))
@@ -140,12 +140,12 @@ shows-single (x ∷ xs) a b = go (eqb b x.first) refl (shows-single xs (and_righ
 
 -- A sign of two bytes, out of a table.
 shows-double : (ss : List Sign) → T (both_agree ss) → (b c : ℕ) → Shows (double_kind ss b c) (b ∷ c ∷ [])
-unfolding both_agree double_kind if◌then◌else◌
-shows-double [] a b c = shows-other 0 (b ∷ c ∷ []) (unfold looseness member if◌then◌else◌ in refl)
+unfolding both_agree double_kind if◌then◌otherwise◌
+shows-double [] a b c = shows-other 0 (b ∷ c ∷ []) (unfold looseness member if◌then◌otherwise◌ in refl)
 shows-double (x ∷ xs) a b c =
     go (eqb b x.first && eqb c x.second) refl (shows-double xs (and_right (agrees x.kind (x.first ∷ x.second ∷ [])) (both_agree xs) a) b c)
   where
-    go : (q : Bool) → (eqb b x.first && eqb c x.second) ≡ q → Shows (double_kind xs b c) (b ∷ c ∷ []) → Shows (if q then x.kind else double_kind xs b c) (b ∷ c ∷ [])
+    go : (q : Bool) → (eqb b x.first && eqb c x.second) ≡ q → Shows (double_kind xs b c) (b ∷ c ∷ []) → Shows (if q then x.kind otherwise double_kind xs b c) (b ∷ c ∷ [])
     go true h ih =
         let t : T (eqb b x.first && eqb c x.second) = rw h tt in
         let eb : b ≡ x.first = eqb→eq b x.first (and_left (eqb b x.first) (eqb c x.second) t) in
@@ -157,8 +157,8 @@ shows-double (x ∷ xs) a b c =
 -- ── a turn ──
 
 -- A branch that comes to z is one of the two.
-if-case : {X : Type 0} (q : Bool) (x y z : Step) → (T q → x ≡ z → X) → (T (not q) → y ≡ z → X) → (if q then x else y) ≡ z → X
-unfolding if◌then◌else◌
+if-case : {X : Type 0} (q : Bool) (x y z : Step) → (T q → x ≡ z → X) → (T (not q) → y ≡ z → X) → (if q then x otherwise y) ≡ z → X
+unfolding if◌then◌otherwise◌
 if-case true x y z f g e = f tt e
 if-case false x y z f g e = g tt e
 
@@ -191,7 +191,7 @@ shows-sign b (c ∷ bs) k n e =
 
 -- A slash, by computation.
 slash-agrees : T (agrees 17 (47 ∷ []))
-unfolding agrees op_strength word_kind step looseness member if◌then◌else◌
+unfolding agrees op_strength word_kind step looseness member if◌then◌otherwise◌
 slash-agrees = tt
 
 -- A slash, or a comment.

@@ -3,7 +3,7 @@
 use Rattle.std.specs.Prelude.{ℕ, ◌≡◌, refl, List, [], ◌∷◌, ◌++◌, Bool, true, false, ◌&&◌, T, leb, length}
 use Rattle.std.proofs.Common.{sym, ap, ◌∙◌, append_assoc, leb→le}
 use Rattle.sifc_lex.specs.declared.lex.Step.TheVariants.{Word}
-use Rattle.sifc_word.specs.Base.{if◌then◌else◌}
+use Rattle.sifc_word.specs.Base.{if◌then◌otherwise◌}
 use Rattle.sifc_word.specs.BaseLaws.{and_left, and_right}
 use Rattle.sifc_lex.specs.Lex.{step}
 use Rattle.sifc_lex.proofs.LexTrip.{Good, sep}
@@ -74,7 +74,7 @@ record FixedWords : Type 0 where
 
 -- Each is fine, by computation.
 fixed_words : FixedWords
-unfolding step usual are_all_ascii is_ascii if◌then◌else◌
+unfolding step usual are_all_ascii is_ascii if◌then◌otherwise◌
 fixed_words =
     record {
       f-lp = fixed _ _ (λ r. refl) (λ r. refl) tt;

@@ -9,7 +9,7 @@ use Rattle.sifc_err.specs.declared.Token.{Token}
 use Rattle.sifc_err.specs.declared.Refusal.{Refusal}
 use Rattle.sifc_err.specs.declared.Refusal.TheVariants.{NodesFull, SymbolsFull, ErrorsFull}
 use Rattle.sifc_err.specs.Refusal.{number_of}
-use Rattle.sifc_word.specs.Base.{if◌then◌else◌, member}
+use Rattle.sifc_word.specs.Base.{if◌then◌otherwise◌, member}
 use Rattle.sifc_def.specs.declared.Err.{Err}
 use Rattle.sifc_def.specs.declared.Why.{Why}
 use Rattle.sifc_def.specs.declared.What.{What}
@@ -53,14 +53,14 @@ onward : {A B : Type 0} {m m' : M A} {f f' : A → M B} → Likes m m' → ((a :
 onward {m} {m'} {f} {f'} h k = record { at = λ s. alike-go f f' (h.at s) k }
 
 -- Either branch.
-either : {A : Type 0} (b : Bool) {m m' k k' : M A} → Likes m m' → Likes k k' → Likes (if b then m else k) (if b then m' else k')
-unfolding if◌then◌else◌
+either : {A : Type 0} (b : Bool) {m m' k k' : M A} → Likes m m' → Likes k k' → Likes (if b then m otherwise k) (if b then m' otherwise k')
+unfolding if◌then◌otherwise◌
 either true h g = h
 either false h g = g
 
 -- a test on the state, and a refusal for room where it fails
-room : {A : Type 0} (b b' : Bool) (o : Out A) (r : Refusal) → T (for_room r) → Alike (if b then o else refuse r) (if b' then o else refuse r)
-unfolding if◌then◌else◌
+room : {A : Type 0} (b b' : Bool) (o : Out A) (r : Refusal) → T (for_room r) → Alike (if b then o otherwise refuse r) (if b' then o otherwise refuse r)
+unfolding if◌then◌otherwise◌
 room true true o r t = same_out o
 room true false o r t = right-out r o t
 room false true o r t = left_out r o t
@@ -510,8 +510,8 @@ module _ (script : List ℕ) (ts : List Token) (w n y e n' y' e' : ℕ) where
       (onward (l-top_decl d d' h)
       (λ x. elim x as (λ k.
       Likes
-      (elim k as (λ z. M End) [ none ↦ program c f d (suc m) flag | some e ↦ if continuable c e.why then program c f d m true else end_read c m true (some e) ])
-      (elim k as (λ z. M End) [ none ↦ program c' f d' (suc m) flag | some e ↦ if continuable c' e.why then program c' f d' m true else end_read c' m true (some e) ])) [
+      (elim k as (λ z. M End) [ none ↦ program c f d (suc m) flag | some e ↦ if continuable c e.why then program c f d m true otherwise end_read c m true (some e) ])
+      (elim k as (λ z. M End) [ none ↦ program c' f d' (suc m) flag | some e ↦ if continuable c' e.why then program c' f d' m true otherwise end_read c' m true (some e) ])) [
         | none ↦ l-program f d d' (suc m) flag h
         | some e ↦ either _ (l-program f d d' m true h) (l-end_read m true (some e))
       ])))

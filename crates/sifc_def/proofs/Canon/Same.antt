@@ -8,7 +8,7 @@ use Rattle.std.proofs.Math.Dec.{T}
 use Rattle.std.proofs.Math.ListN.{length, get_or, length-map, get_or-map}
 use Rattle.std.proofs.Math.Seq.{ext_get_or}
 use Rattle.sifc_err.specs.declared.Token.{Token}
-use Rattle.sifc_word.specs.Base.{if◌then◌else◌, member, part}
+use Rattle.sifc_word.specs.Base.{if◌then◌otherwise◌, member, part}
 use Rattle.sifc_lex.specs.Lex.{token, lex}
 use Rattle.sifc_lex.proofs.LexLaws.{Run, last, more, lex-runs}
 use Rattle.sifc_def.specs.declared.Reading.{Reading}
@@ -114,20 +114,20 @@ small_at s ts (n ∷ ns) h zero = ltb→lt n.kind 32 h.0
 small_at s ts (n ∷ ns) h (suc i) = small_at s ts ns h.1 i
 
 -- Equal scopes.
-scope-same : (k k' p p' : ℕ) → k ≡ k' → (k ≡ Block → p ≡ p') → (if eqb k Block then p else 0) ≡ (if eqb k' Block then p' else 0)
-unfolding if◌then◌else◌
+scope-same : (k k' p p' : ℕ) → k ≡ k' → (k ≡ Block → p ≡ p') → (if eqb k Block then p otherwise 0) ≡ (if eqb k' Block then p' otherwise 0)
+unfolding if◌then◌otherwise◌
 scope-same k k' p p' e f = rw (← e) (go (eqb k Block) refl)
   where
-    go : (q : Bool) → eqb k Block ≡ q → (if q then p else 0) ≡ (if q then p' else 0)
+    go : (q : Bool) → eqb k Block ≡ q → (if q then p otherwise 0) ≡ (if q then p' otherwise 0)
     go true h = f (eqb→eq k Block (rw h tt))
     go false h = refl
 
 -- Equal texts.
-text_same : (k k' : ℕ) (t t' : List ℕ) → k ≡ k' → (T (has_token k) → t ≡ t') → (if has_token k then t else []) ≡ (if has_token k' then t' else [])
-unfolding if◌then◌else◌
+text_same : (k k' : ℕ) (t t' : List ℕ) → k ≡ k' → (T (has_token k) → t ≡ t') → (if has_token k then t otherwise []) ≡ (if has_token k' then t' otherwise [])
+unfolding if◌then◌otherwise◌
 text_same k k' t t' e f = rw (← e) (go (has_token k) refl)
   where
-    go : (q : Bool) → has_token k ≡ q → (if q then t else []) ≡ (if q then t' else [])
+    go : (q : Bool) → has_token k ≡ q → (if q then t otherwise []) ≡ (if q then t' otherwise [])
     go true h = f (rw h tt)
     go false h = refl
 
@@ -136,16 +136,16 @@ lab-same : (k k' : ℕ) (f f' : Bool) (n n' l l' : ℕ) (t t' : List ℕ) → k 
 lab-same k k' f f' n n' l l' t t' a b c d e = rw (a, b, c, d, e) refl
 
 -- A Block's scope is its payload.
-scope-is : (k p : ℕ) → k ≡ Block → (if eqb k Block then p else 0) ≡ p
-unfolding if◌then◌else◌
+scope-is : (k p : ℕ) → k ≡ Block → (if eqb k Block then p otherwise 0) ≡ p
+unfolding if◌then◌otherwise◌
 scope-is k p e = rw e refl
 
 -- A text is its token's.
-pub text-is : (k : ℕ) (t : List ℕ) → T (has_token k) → (if has_token k then t else []) ≡ t
-unfolding if◌then◌else◌
+pub text-is : (k : ℕ) (t : List ℕ) → T (has_token k) → (if has_token k then t otherwise []) ≡ t
+unfolding if◌then◌otherwise◌
 text-is k t h = go (has_token k) h
   where
-    go : (q : Bool) → T q → (if q then t else []) ≡ t
+    go : (q : Bool) → T q → (if q then t otherwise []) ≡ t
     go true u = refl
     go false u = absurd u
 
@@ -155,7 +155,7 @@ no_lab = lab 0 false 0 0 []
 
 -- The label of node i.
 label_at : (s : List ℕ) (ts : List Token) (ns : List Node) (i : ℕ) → get_or (labels s ts ns) i (lab 0 false 0 0 []) ≡ label s ts (get_or ns i (node 0 false 0 0))
-unfolding scope_of text_of has_token member if◌then◌else◌
+unfolding scope_of text_of has_token member if◌then◌otherwise◌
 label_at s ts ns i = get_or-map (label s ts) ns i no_node
 
 module _ (s s' : List ℕ) (ns ns' : List Node) (c c' : Called Reading) (t : Told s ns c) (t' : Told s' ns' c') where

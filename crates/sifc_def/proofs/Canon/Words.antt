@@ -6,7 +6,7 @@ use Rattle.std.proofs.Common.{sym, ap, ◌∙◌, append_assoc, append-nil, inl,
 use Rattle.std.proofs.Math.Option.{Option}
 use Rattle.std.proofs.Math.Bool.{true}
 use Rattle.std.proofs.Math.Dec.{nleb→lt, not_T}
-use Rattle.sifc_word.specs.Base.{if◌then◌else◌, member}
+use Rattle.sifc_word.specs.Base.{if◌then◌otherwise◌, member}
 use Rattle.sifc_word.specs.BaseLaws.{if-either}
 use Rattle.sifc_def.specs.declared.What.{What}
 use Rattle.sifc_def.specs.State.{W, Sym}
@@ -102,7 +102,7 @@ unary-test h s (inr m) =
 
 -- a tree's strength and a typed tree's height
 strong : (look : List ℕ → Option What) (b : Bool) (e : Expr) → Ok look b e → Said Tells e → Matches (height e) (piece (tree_e e)).strength
-unfolding Ok Said Tells height tree_e piece strength_of member if◌then◌else◌ Matches
+unfolding Ok Said Tells height tree_e piece strength_of member if◌then◌otherwise◌ Matches
 strong look b (prim x) k g = inl (refl, omega arith)
 strong look b (un o e) k g = inl (refl, omega arith)
 strong look b (bin o l r) k g = let z = looseness-le o.kind in inr (k.0, omega arith, g.0 k.0)
@@ -158,7 +158,7 @@ module _ (look : List ℕ → Option What) where
 
   -- the words of an expression, and of arguments with commas between
   mutual
-    unfolding Ok Oks Said Saids pr prs tree_e trees_e piece pieces words_of unary after closed row valued commas member if◌then◌else◌
+    unfolding Ok Oks Said Saids pr prs tree_e trees_e piece pieces words_of unary after closed row valued commas member if◌then◌otherwise◌
 
     says-E : (b : Bool) (e : Expr) → Ok look b e → Said Tells e → Says (piece (tree_e e)).words (pr e)
     says-E b (prim x) k g = says-word x says_none
@@ -183,7 +183,7 @@ module _ (look : List ℕ → Option What) where
 
   -- The items of a table.
   says-I : (is : Items) → OkItems look is → SaidItems Tells is → Says (commas (pieces (trees_i is))) (pr_items is)
-  unfolding OkItems SaidItems pr_items trees_i piece pieces words_of row member if◌then◌else◌
+  unfolding OkItems SaidItems pr_items trees_i piece pieces words_of row member if◌then◌otherwise◌
   says-I no_item k g = unfold commas in says_none
   says-I (item x e is) k g = says-items _ is (says-word x (says-word arrow (says_row (says-E true e k.1 g.1)))) (says-I is k.2 g.2)
 
@@ -191,18 +191,18 @@ module _ (look : List ℕ → Option What) where
 
 -- Names.
 says-N : (ns : List W) → Says (commas (pieces (trees_n ns))) (pr_names ns)
-unfolding pr_names trees_n piece pieces words_of member if◌then◌else◌
+unfolding pr_names trees_n piece pieces words_of member if◌then◌otherwise◌
 says-N [] = unfold commas in says_none
 says-N (x ∷ ns) = says-names (piece (atom x)) ns (says-word x says_none) (says-N ns)
 
 -- An array's items.
 says-array : (look : List ℕ → Option What) (es : Exprs) → Oks look true es → Saids Tells es → Says (row (pieces (array_forest es))) (prs es)
-unfolding array_forest piece pieces words_of row member if◌then◌else◌
+unfolding array_forest piece pieces words_of row member if◌then◌otherwise◌
 says-array look nil k g = unfold prs in says_none
 says-array look (more e es) k g = says_row (says-Es look true (more e es) k g)
 
 mutual
-  unfolding OkS OkSs OkBs SaidS SaidSs SaidBs pr_s pr_ss pr_bs tree_s trees_s trees_b piece pieces words_of row or_else after closed valued branched commas member if◌then◌else◌
+  unfolding OkS OkSs OkBs SaidS SaidSs SaidBs pr_s pr_ss pr_bs tree_s trees_s trees_b piece pieces words_of row or_else after closed valued branched commas member if◌then◌otherwise◌
 
   -- the statement t at level l, where the names E are known
   says-S : (l : ℕ) (E : List Sym) (t : Stmt) → OkS l E t → SaidS Tells t → Says (piece (tree_s l t)).words (pr_s t)

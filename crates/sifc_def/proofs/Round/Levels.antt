@@ -7,7 +7,7 @@ use Rattle.std.proofs.Math.Option.{Option, none, some}
 use Rattle.std.proofs.Math.Bool.{true, false}
 use native.Mathlib.Omega.{arith}
 use Rattle.std.proofs.Math.Dec.{T, eqb, leb, leb→le, nleb→lt, eqb_refl}
-use Rattle.sifc_word.specs.Base.{if◌then◌else◌, member}
+use Rattle.sifc_word.specs.Base.{if◌then◌otherwise◌, member}
 use Rattle.sifc_word.specs.Kind.{LeftParen, RightParen, LeftBracket, Eq, Period, Bang, Minus, Ident, Str, Val, True, False, Eof}
 use Rattle.sifc_word.specs.Reserved.{is_std_lib_fn}
 use Rattle.sifc_def.specs.declared.What.{What}
@@ -45,12 +45,12 @@ Stop rest = (looseness (first rest).kind ≡ 0) × ((first rest).kind ≢ LeftPa
 
 -- `)` ends an expression
 pub stop-rp : (rest : List W) → Stop (rp ∷ rest)
-unfolding Stop looseness member if◌then◌else◌
+unfolding Stop looseness member if◌then◌otherwise◌
 stop-rp rest = (refl, omega arith, omega arith, omega arith, omega arith)
 
 -- `]` ends an expression
 pub stop-rb : (rest : List W) → Stop (rb ∷ rest)
-unfolding Stop looseness member if◌then◌else◌
+unfolding Stop looseness member if◌then◌otherwise◌
 stop-rb rest = (refl, omega arith, omega arith, omega arith, omega arith)
 
 -- after a single token
@@ -59,7 +59,7 @@ single-read s = stepped (pushed PrimaryExpr false 0 s.at s)
 
 -- the node of a single token
 pub made-single : {c : Ctx} {l : ℕ} {E : List Sym} {b : Bool} {x : W} {ws : List W} (s : St) → Ahead c l E b (x ∷ ws) s → Made c (prim_lab x ∷ []) s.nodes (node PrimaryExpr false 0 s.at ∷ s.nodes)
-unfolding scope_of text_of has_token member if◌then◌else◌
+unfolding scope_of text_of has_token member if◌then◌otherwise◌
 made-single s p = made-push (ap (λ (y : W). prim_lab y) (now p)) made_none
 
 module _ (c : Ctx) (l : ℕ) (E : List Sym) where
@@ -96,20 +96,20 @@ module _ (c : Ctx) (l : ℕ) (E : List Sym) where
 
   -- a name that was found, or is a standard function, passes
   pub known-eq : (i : ℕ) (w : Option What) (s : St) → T (is_some w || is_std_lib_fn (name_at c i)) → known c i w s ≡ done tt s
-  unfolding known is_some if◌then◌else◌
+  unfolding known is_some if◌then◌otherwise◌
   known-eq i (some v) s h = refl
   known-eq i none s h = rw (true_of (is_std_lib_fn (name_at c i)) h) refl
 
   -- the check of a name, on or off
   pub check-go : (b : Bool) (i : ℕ) (s : St) → T (not b || (is_some (find s.level (name_at c i) s.syms) || is_std_lib_fn (name_at c i)))
-      → if◌then◌else◌ {A = Void} b (retrieve c (name_at c i) >>= λ w. known c i w) ok s ≡ done tt s
-  unfolding retrieve if◌then◌else◌ go_on
+      → if◌then◌otherwise◌ {A = Void} b (retrieve c (name_at c i) >>= λ w. known c i w) ok s ≡ done tt s
+  unfolding retrieve if◌then◌otherwise◌ go_on
   check-go false i s h = refl
   check-go true i s h = known-eq i (find s.level (name_at c i) s.syms) s h
 
   -- a name that passes the check
   pub check-eq : (b : Bool) (x : W) (ws : List W) (s : St) → T (not b || (is_some (look (name_of x)) || is_std_lib_fn (name_of x))) → Has b (x ∷ ws) s → check_name c s.at s ≡ done tt s
-  unfolding check_name go_on if◌then◌else◌
+  unfolding check_name go_on if◌then◌otherwise◌
   check-eq b x ws s t p =
       check-go s.check s.at s
       (rw (p.stands.check, now p)
@@ -125,7 +125,7 @@ module _ (c : Ctx) (l : ℕ) (E : List Sym) where
 
   -- a single token that may stand as an expression is read as one
   pub prim-ok : (r : Rec) (b : Bool) (x : W) (ws : List W) (s : St) → T (fine look b x) → Has b (x ∷ ws) s → Res (primary_expr c r s) (λ u s₁. s₁ ≡ single-read s)
-  unfolding primary_expr ident_expr fine Res if◌then◌else◌ go_on
+  unfolding primary_expr ident_expr fine Res if◌then◌otherwise◌ go_on
   prim-ok r b x ws s t p = go (is_literal x.kind) refl
     where
       go : (lit : Bool) → is_literal x.kind ≡ lit → Res (primary_expr c r s) (λ u s₁. s₁ ≡ single-read s)
@@ -146,7 +146,7 @@ module _ (c : Ctx) (l : ℕ) (E : List Sym) where
   -- down to the call's level, at whatever depth is left
   pub to-call : (d : ℕ) (b : Bool) (x : W) (ws : List W) (s : St) (Q : Unit {0} → St → Type 0) → T (fine look b x) → Has b (x ∷ ws) s
       → ((d' : ℕ) → Res (fn_call_expr c (walkers c d') s) Q) → Res ((walkers c d).unary s) Q
-  unfolding walkers unary_expr Res of_size if◌then◌else◌ go_on
+  unfolding walkers unary_expr Res of_size if◌then◌otherwise◌ go_on
   to-call zero b x ws s Q t p h = tt
   to-call (suc zero) b x ws s Q t p h = no-else _ _ _ s Q (test is_unary false p (fine-unary b x t)) tt
   to-call (suc (suc d)) b x ws s Q t p h = no-else _ _ _ s Q (test is_unary false p (fine-unary b x t)) (h d)
@@ -155,7 +155,7 @@ module _ (c : Ctx) (l : ℕ) (E : List Sym) where
 
   -- a level's loop ends where none of its operators stands
   pub loop-stops : (f n : ℕ) (next : Void) (b : Bool) (rest : List W) (s : St) (Q : Unit {0} → St → Type 0) → Has b rest s → looseness (first rest).kind ≢ n → Q tt s → Res (operators c f n next s) Q
-  unfolding Res operators go_on if◌then◌else◌
+  unfolding Res operators go_on if◌then◌otherwise◌
   loop-stops zero n next b rest s Q h ne q = q
   loop-stops (suc f) n next b rest s Q h ne q = rw (kind-now h, not_eqb (looseness (first rest).kind) n ne) q
 
@@ -195,7 +195,7 @@ module _ (c : Ctx) (l : ℕ) (E : List Sym) where
 
   -- nothing goes on with a target
   pub postfix-none : (r : Rec) (target : Node) (b : Bool) (rest : List W) (s : St) (Q : Unit {0} → St → Type 0) (n : ℕ) → Calm n rest → Has b rest s → Q tt s → Res (postfix c r target s) Q
-  unfolding postfix Calm Res go_on if◌then◌else◌
+  unfolding postfix Calm Res go_on if◌then◌otherwise◌
   postfix-none r target b rest s Q n cm p q =
       no-else _ _ _ s _ (test (λ k. eqb k LeftParen) false p (not_eqb (first rest).kind LeftParen cm.1))
       (no-else _ _ _ s _ (test (λ k. eqb k Period) false p (not_eqb (first rest).kind Period cm.3))
@@ -212,7 +212,7 @@ module _ (c : Ctx) (l : ℕ) (E : List Sym) where
 
   -- an expression in parentheses is read by fn_call_expr
   pub paren-call : (e : Expr) → Assign e → (d : ℕ) (b : Bool) (rest : List W) (s : St) (n : ℕ) → Ok look b e → Calm n rest → Has b (lp ∷ pr e (rp ∷ rest)) s → Res (fn_call_expr c (walkers c d) s) (λ u. After b e rest s.nodes)
-  unfolding fn_call_expr primary_expr group_expr Assign is_literal member Res if◌then◌else◌ go_on
+  unfolding fn_call_expr primary_expr group_expr Assign is_literal member Res if◌then◌otherwise◌ go_on
   paren-call e asg d b rest s n k cm p =
       and_then (primary_expr c (walkers c d) s) _ (λ u. After b e rest s.nodes) (λ u. After b e rest s.nodes)
       (no-else _ _ _ s _ (test is_literal false p refl)
@@ -226,7 +226,7 @@ module _ (c : Ctx) (l : ℕ) (E : List Sym) where
 
   -- an expression in parentheses is read by unary_expr
   pub paren-unary : (e : Expr) → Assign e → (d : ℕ) (b : Bool) (rest : List W) (s : St) (n : ℕ) → Ok look b e → Calm n rest → Has b (lp ∷ pr e (rp ∷ rest)) s → Res ((walkers c d).unary s) (λ u. After b e rest s.nodes)
-  unfolding walkers unary_expr Res of_size is_unary if◌then◌else◌ go_on
+  unfolding walkers unary_expr Res of_size is_unary if◌then◌otherwise◌ go_on
   paren-unary e asg zero b rest s n k cm p = tt
   paren-unary e asg (suc zero) b rest s n k cm p = no-else _ _ _ s _ (test is_unary false p refl) tt
   paren-unary e asg (suc (suc d)) b rest s n k cm p = no-else _ _ _ s _ (test is_unary false p refl) (paren-call e asg d b rest s n k cm p)
@@ -246,7 +246,7 @@ module _ (c : Ctx) (l : ℕ) (E : List Sym) where
 
   -- an expression that is no assignment and no table access, read as a whole
   pub assign-low : (e : Expr) → Level e 7 → Assign e
-  unfolding Assign Level walkers assign_expr Res of_size Stop Calm if◌then◌else◌ go_on
+  unfolding Assign Level walkers assign_expr Res of_size Stop Calm if◌then◌otherwise◌ go_on
   assign-low e lv zero b rest s k st p = tt
   assign-low e lv (suc d) b rest s k st p =
       and_then (levels c 7 (walkers c d).unary s) _ (λ u. After b e rest s.nodes) (λ u. After b e rest s.nodes)
@@ -257,7 +257,7 @@ module _ (c : Ctx) (l : ℕ) (E : List Sym) where
 
   -- a unary operator and its operand
   pub un-unary : (o : W) (e : Expr) → Both e → Unary (un o e)
-  unfolding Unary walkers unary_expr Res of_size pr renc ends Ok levels Calm scope_of text_of has_token member if◌then◌else◌ go_on
+  unfolding Unary walkers unary_expr Res of_size pr renc ends Ok levels Calm scope_of text_of has_token member if◌then◌otherwise◌ go_on
   un-unary o e g zero b rest s n k cm p = tt
   un-unary o e g (suc d) b rest s n k cm p =
       yes-then _ _ _ s _ (test is_unary true p (true_of (is_unary o.kind) k.0))
@@ -289,7 +289,7 @@ module _ (c : Ctx) (l : ℕ) (E : List Sym) where
         → Ok look (ends b el) er → Calm n rest → After b el (o ∷ right rest) s.nodes s₁ → length (o ∷ right rest) ≤ f
         → ((s' : St) (f' : ℕ) → After b (bin o el er) rest s.nodes s' → length rest ≤ f' → Res (operators c f' (suc n) (levels c n (walkers c d).unary) s') Q)
         → Res (operators c f (suc n) (levels c n (walkers c d).unary) s₁) Q
-    unfolding operators renc ends scope_of text_of has_token member if◌then◌else◌ go_on
+    unfolding operators renc ends scope_of text_of has_token member if◌then◌otherwise◌ go_on
     bin-step n small lo d b rest s s₁ zero Q k cm a len h = absurd (not-suc-le-zero len)
     bin-step n small lo d b rest s s₁ (suc f) Q k cm a len h =
         let i : ℕ = s₁.at in
@@ -308,7 +308,7 @@ module _ (c : Ctx) (l : ℕ) (E : List Sym) where
 
     -- a binary expression of the very level as a left operand there
     bin-top : (n : ℕ) → n < 7 → looseness o.kind ≡ suc n → Cps (bin o el er) n
-    unfolding Cps pr Calm Ok looseness member if◌then◌else◌
+    unfolding Cps pr Calm Ok looseness member if◌then◌otherwise◌
     bin-top n small lo d b rest s f Q k cm p len h =
         cps-wrapped el gl (leb (height el) (looseness o.kind)) n small (λ t. let z : height el ≤ looseness o.kind = leb→le (height el) (looseness o.kind) t in omega arith) d b (o ∷ right rest) s f Q k.1
         (λ j lt e. let z : suc j ≡ suc n = sym e ∙ lo in omega arith, loose-not o.kind LeftParen k.0 refl, loose-not o.kind LeftBracket k.0 refl, loose-not o.kind Period k.0 refl)

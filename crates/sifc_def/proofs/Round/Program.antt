@@ -7,7 +7,7 @@ use mathlib.Core.List.{List, [], ◌∷◌, ◌++◌, map, append_assoc, append-
 use Rattle.std.proofs.Math.Option.{none}
 use Rattle.std.proofs.Math.Bool.{true, false}
 use Rattle.std.proofs.Math.Dec.{eqb}
-use Rattle.sifc_word.specs.Base.{if◌then◌else◌, member}
+use Rattle.sifc_word.specs.Base.{if◌then◌otherwise◌, member}
 use Rattle.sifc_word.specs.Kind.{Eof, LexPanic}
 use Rattle.sifc_def.specs.Ast.{Program}
 use Rattle.sifc_def.specs.State.{Node, Sym, Ctx, St, Out, done, fail, refuse, Void, go_on, W, word_in, tok_at, arrive, push}
@@ -46,7 +46,7 @@ module _ (c : Ctx) where
 
   -- the Program node
   end-ok : (n : ℕ) (s : St) (L : List Lab) (ns : List Node) → Made c L ns s.nodes → Res (end_read c n false none s) (Ended (bare Program false n ∷ L) ns)
-  unfolding end_read Res scope_of text_of has_token member if◌then◌else◌ go_on
+  unfolding end_read Res scope_of text_of has_token member if◌then◌otherwise◌ go_on
   end-ok n s L ns m =
       and_then (push c Program false n 0 s) _ (λ u s₁. Made c (bare Program false n ∷ L) ns s₁.nodes) (Ended (bare Program false n ∷ L) ns)
       (push_ok c Program false n 0 s (λ u s₁. Made c (bare Program false n ∷ L) ns s₁.nodes) (made-push refl m))
@@ -60,7 +60,7 @@ module _ (c : Ctx) where
   -- the loop of parse
   program-ok : (ts : Stmts) (d f n : ℕ) (E : List Sym) (L : List Lab) (ns : List Node) (s : St) → OkSs 0 E ts → counted ts ≤ f → Got c 0 E true L (pr_program ts) ns s
       → Res (program c f (decl c (walkers c d)) n false s) (Ended (bare Program false (n + counted ts) ∷ (renc_ss 0 ts ++ L)) ns)
-  unfolding program OkSs pr_ss counted renc_ss Res go_on if◌then◌else◌
+  unfolding program OkSs pr_ss counted renc_ss Res go_on if◌then◌otherwise◌
   program-ok stop d zero n E L ns s k len h = rw (add-zero n) (end-ok n s L ns h.made)
   program-ok stop d (suc f) n E L ns s k len h = yes-then _ _ _ s _ (test (λ m. eqb m Eof) true h.pre refl) (rw (add-zero n) (end-ok n s L ns h.made))
   program-ok (next t ts) d zero n E L ns s k len h = absurd (not-suc-le-zero len)
@@ -89,7 +89,7 @@ module _ (c : Ctx) where
   -- COMPLETE, programs: a script whose tokens have the words of a program is read as that program, flag down, at any depth limit and in any rooms, unless a
   -- refusal 6 to 9 is given
   pub program-read : (ts : Stmts) (depth : ℕ) → ((i : ℕ) → eqb (tok_at c i).kind LexPanic ≡ false) → map (word_in c.script) c.toks ≡ pr_program ts → OkProgram ts → Res (walk c depth) (ReadAs (renc_program ts))
-  unfolding arrive renc_program Fairs go_on if◌then◌else◌
+  unfolding arrive renc_program Fairs go_on if◌then◌otherwise◌
   program-read ts depth calm sees k =
       let p : Ahead c 0 [] true (pr_program ts) start = record { calm = calm; sees = sees; stands = record { level = refl; names = refl; fair = tt; check = refl } } in
       rw (walk-eq depth, calm 0)

@@ -8,7 +8,7 @@ use Rattle.std.proofs.Math.Option.{Option, none, some}
 use Rattle.std.proofs.Math.Bool.{Bool, false}
 use native.Mathlib.Omega.{arith}
 use Rattle.std.proofs.Math.Dec.{T, eqb→eq}
-use Rattle.sifc_word.specs.Base.{if◌then◌else◌, member}
+use Rattle.sifc_word.specs.Base.{if◌then◌otherwise◌, member}
 use Rattle.sifc_word.specs.Kind.{LeftParen, RightParen, At, Ident, Eof, LexPanic}
 use Rattle.sifc_word.specs.Reserved.{is_std_lib_fn}
 use Rattle.sifc_def.specs.declared.What.{What}
@@ -57,14 +57,14 @@ win-any (fail e s) = tt
 win-any (refuse r) = tt
 
 -- either branch gives it, each with its test
-pub win-if : {A : Type 0} (b : Bool) (x y : M A) (s : St) (Q : A → St → Type 0) → (T b → Win (x s) Q) → (T (not b) → Win (y s) Q) → Win (if◌then◌else◌ {A = M A} b x y s) Q
-unfolding if◌then◌else◌
+pub win-if : {A : Type 0} (b : Bool) (x y : M A) (s : St) (Q : A → St → Type 0) → (T b → Win (x s) Q) → (T (not b) → Win (y s) Q) → Win (if◌then◌otherwise◌ {A = M A} b x y s) Q
+unfolding if◌then◌otherwise◌
 win-if true x y s Q p q = p tt
 win-if false x y s Q p q = q tt
 
 -- either outcome gives it, each with its test
-pub win-when : {A : Type 0} (b : Bool) (x y : Out A) (Q : A → St → Type 0) → (T b → Win x Q) → (T (not b) → Win y Q) → Win (if◌then◌else◌ {A = Out A} b x y) Q
-unfolding if◌then◌else◌
+pub win-when : {A : Type 0} (b : Bool) (x y : Out A) (Q : A → St → Type 0) → (T b → Win x Q) → (T (not b) → Win y Q) → Win (if◌then◌otherwise◌ {A = Out A} b x y) Q
+unfolding if◌then◌otherwise◌
 win-when true x y Q p q = p tt
 win-when false x y Q p q = q tt
 
@@ -120,7 +120,7 @@ module _ (c : Ctx) where
 
   -- an expected token is taken: nothing but the place changes
   pub expect-sound : (k : ℕ) {l : ℕ} {E : List Sym} {b : Bool} (s : St) → Stands c l E b s → Win (expect c k s) (λ u. Kept c l E b s.nodes)
-  unfolding expect if◌then◌else◌ go_on
+  unfolding expect if◌then◌otherwise◌ go_on
   expect-sound k {l} {E} {b} s h = win-if (eqb (tok_at c s.at).kind k) _ _ s (λ u. Kept c l E b s.nodes) (λ t. consume-sound s h) (λ t. raise-sound _ s (λ u. Kept c l E b s.nodes))
 
   -- a node is added, or refused
@@ -225,7 +225,7 @@ module _ (c : Ctx) (Good : W → Type 0) (good : (i : ℕ) → Good (word_at c i
 
   -- a level's loop makes binary expressions
   operators-sound : (f n : ℕ) (next : Void) → Sound next → (b : Bool) (ns₀ : List Node) (s : St) → Reads b ns₀ s → Win (operators c f (suc n) next s) (λ u. Reads b ns₀)
-  unfolding operators Win Ok Said renc ends Spelt scope_of text_of has_token member if◌then◌else◌ go_on
+  unfolding operators Win Ok Said renc ends Spelt scope_of text_of has_token member if◌then◌otherwise◌ go_on
   operators-sound zero n next ns b ns₀ s r = r
   operators-sound (suc f) n next ns b ns₀ s r =
       let i : ℕ = s.at in
@@ -267,7 +267,7 @@ module _ (c : Ctx) (Good : W → Type 0) (good : (i : ℕ) → Good (word_at c i
 
   -- unary_expr reads expressions
   unary-sound : (r : Rec) → SoundRec r → Sound (unary_expr c r)
-  unfolding unary_expr Ok Said renc ends Spelt scope_of text_of has_token member if◌then◌else◌ go_on
+  unfolding unary_expr Ok Said renc ends Spelt scope_of text_of has_token member if◌then◌otherwise◌ go_on
   unary-sound r sr b s h =
       let i : ℕ = s.at in
       win-if (is_unary (tok_at c i).kind) _ _ s (λ u. Reads b s.nodes)
@@ -300,7 +300,7 @@ module _ (c : Ctx) (Good : W → Type 0) (good : (i : ℕ) → Good (word_at c i
 
   -- a name that passes the check, where it is on
   check_sound : (b : Bool) (s : St) → Stands c l E b s → Win (check_name c s.at s) (λ u. Knew b (word_at c s.at) s)
-  unfolding check_name retrieve Win if◌then◌else◌ go_on
+  unfolding check_name retrieve Win if◌then◌otherwise◌ go_on
   check_sound b s h =
       let x : W = word_at c s.at in
       win-if s.check _ _ s (λ u. Knew b x s)
@@ -312,7 +312,7 @@ module _ (c : Ctx) (Good : W → Type 0) (good : (i : ℕ) → Good (word_at c i
 
   -- a token that may stand as an expression is a single one
   literal-sound : (b : Bool) (s : St) → Stands c l E b s → T (fine look b (word_at c s.at)) → Win (literal c s.at s) (λ u. Reads b s.nodes)
-  unfolding literal Ok Said renc ends Spelt scope_of text_of has_token member if◌then◌else◌
+  unfolding literal Ok Said renc ends Spelt scope_of text_of has_token member if◌then◌otherwise◌
   literal-sound b s h t =
       let i : ℕ = s.at in
       win-then (push c PrimaryExpr false 0 i s) _ (λ u s₁. s₁ ≡ pushed PrimaryExpr false 0 i s) (λ u. Reads b s.nodes) (push-sound c PrimaryExpr false 0 i s (λ u s₁. s₁ ≡ pushed PrimaryExpr false 0 i s) refl)
@@ -331,7 +331,7 @@ module _ (c : Ctx) (Good : W → Type 0) (good : (i : ℕ) → Good (word_at c i
 
   -- primary_expr reads expressions; parentheses and `@` leave no trace
   primary-sound : (r : Rec) → SoundRec r → Sound (primary_expr c r)
-  unfolding primary_expr ident_expr group_expr at_expr fine if◌then◌else◌ go_on
+  unfolding primary_expr ident_expr group_expr at_expr fine if◌then◌otherwise◌ go_on
   primary-sound r sr b s h =
       let i : ℕ = s.at in
       let x : W = word_at c i in

@@ -8,7 +8,7 @@ use Rattle.std.proofs.Math.Bool.{Bool, true, false}
 use native.Mathlib.Omega.{arith}
 use Rattle.std.proofs.Math.Nat.{zero-add}
 use Rattle.std.proofs.Math.Dec.{eqb, eqb_refl}
-use Rattle.sifc_word.specs.Base.{if◌then◌else◌, member}
+use Rattle.sifc_word.specs.Base.{if◌then◌otherwise◌, member}
 use Rattle.sifc_word.specs.Kind.{LeftParen, LeftBracket, RightBracket, Semicolon, Eq, Comma, EqArrow, DoubleLeftBracket, DoubleRightBracket, Ident, Eof}
 use Rattle.sifc_def.specs.declared.Why.TheVariants.{InvalidTknMsg, ExpectedIdent}
 use Rattle.sifc_def.specs.declared.What.{What}
@@ -61,23 +61,23 @@ stop-of x rest z a b d e = (z, differ x.kind LeftParen a, differ x.kind LeftBrac
 
 -- `;` ends an expression
 pub stop-semi : (rest : List W) → Stop (semi ∷ rest)
-unfolding looseness member if◌then◌else◌
+unfolding looseness member if◌then◌otherwise◌
 stop-semi rest = stop-of semi rest refl refl refl refl refl
 
 -- `{` ends an expression
 pub stop-lbrace : (rest : List W) → Stop (lbrace ∷ rest)
-unfolding looseness member if◌then◌else◌
+unfolding looseness member if◌then◌otherwise◌
 stop-lbrace rest = stop-of lbrace rest refl refl refl refl refl
 
 -- what follows an element ends it
 pub stop-items : (es : Exprs) (rest : List W) → Stop (between es (prs es (rb ∷ rest)))
-unfolding between prs looseness member if◌then◌else◌
+unfolding between prs looseness member if◌then◌otherwise◌
 stop-items nil rest = stop-of rb rest refl refl refl refl refl
 stop-items (more e es) rest = stop-of comma (prs (more e es) (rb ∷ rest)) refl refl refl refl refl
 
 -- what follows an item's value ends it
 pub stop-pairs : (is : Items) (rest : List W) → Stop (between_items is (pr_items is (drb ∷ rest)))
-unfolding between_items pr_items looseness member if◌then◌else◌
+unfolding between_items pr_items looseness member if◌then◌otherwise◌
 stop-pairs no_item rest = stop-of drb rest refl refl refl refl refl
 stop-pairs (item x e is) rest = stop-of comma (pr_items (item x e is) (drb ∷ rest)) refl refl refl refl refl
 
@@ -119,7 +119,7 @@ module _ (c : Ctx) where
   pub declare-ok : (i n : ℕ) (x : W) (s : St) {l : ℕ} {E : List Sym} {L : List Lab} {rest : List W} {ns : List Node}
       → word_at c i ≡ x → x.kind ≡ Ident → Got c l E true L rest ns s
       → Res (declare_var c i n s) (λ u. Got c l (declared l x E) true (said VarDecl (global_at l) n x ∷ L) rest ns)
-  unfolding declare_var declared global_at erased scope_of text_of has_token member if◌then◌else◌ go_on
+  unfolding declare_var declared global_at erased scope_of text_of has_token member if◌then◌otherwise◌ go_on
   declare-ok i n x s {l} {E} {L} {rest} {ns} ew xk h =
       let g : Bool = eqb s.level 0 in
       let eg : g ≡ eqb l 0 = ap (λ (z : ℕ). eqb z 0) h.pre.stands.level in
@@ -135,8 +135,8 @@ module _ (c : Ctx) where
   elements-tail : (es : Exprs) (f n : ℕ) (r : Rec) (rest : List W) {l : ℕ} {E : List Sym} {L : List Lab} {ns : List Node} (s : St)
       → ((s₂ : St) → Ahead c l E true (prs es (rb ∷ rest)) s₂ → Res (comma_list c RightBracket r.assign f (suc n) s₂) (Count (suc n + many es) (Got c l E true (rencs es) (rb ∷ rest) s₂.nodes)))
       → Got c l E true L (between es (prs es (rb ∷ rest))) ns s
-      → Res (go_on (optional c Comma s) (λ more'. if◌then◌else◌ {A = M ℕ} more' (comma_list c RightBracket r.assign f (suc n)) (return (suc n)))) (Count (n + suc (many es)) (Got c l E true (rencs es ++ L) (rb ∷ rest) ns))
-  unfolding between prs many rencs Res go_on if◌then◌else◌
+      → Res (go_on (optional c Comma s) (λ more'. if◌then◌otherwise◌ {A = M ℕ} more' (comma_list c RightBracket r.assign f (suc n)) (return (suc n)))) (Count (n + suc (many es)) (Got c l E true (rencs es ++ L) (rb ∷ rest) ns))
+  unfolding between prs many rencs Res go_on if◌then◌otherwise◌
   elements-tail nil f n r rest s ih h = rw (optional-no Comma s h.pre refl) (record { num = omega arith; got = h })
   elements-tail (more e es) f n r rest {l} {E} {L} {ns} s ih h =
       rw (optional-yes Comma s h.pre refl refl)
@@ -147,7 +147,7 @@ module _ (c : Ctx) where
   -- the elements of an array are read as they are
   pub elements-ok : (es : Exprs) (d f n l : ℕ) (E : List Sym) (rest : List W) (s : St) → Oks (seen l E) true es → many es ≤ f → Ahead c l E true (prs es (rb ∷ rest)) s
       → Res (comma_list c RightBracket (walkers c d).assign f n s) (Count (n + many es) (Got c l E true (rencs es) (rb ∷ rest) s.nodes))
-  unfolding comma_list prs many Oks rencs Res member go_on if◌then◌else◌
+  unfolding comma_list prs many Oks rencs Res member go_on if◌then◌otherwise◌
   elements-ok nil d zero n l E rest s k len p = record { num = omega arith; got = record { pre = p; made = made_none } }
   elements-ok nil d (suc f) n l E rest s k len p = yes-then _ _ _ s _ (test (λ k. eqb k RightBracket) true p refl) (record { num = omega arith; got = record { pre = p; made = made_none } })
   elements-ok (more e es) d zero n l E rest s k len p = absurd (not-suc-le-zero len)
@@ -162,7 +162,7 @@ module _ (c : Ctx) where
 
   -- the nodes of an array
   array_nodes-ok : (i : ℕ) (x : W) (es : Exprs) (m : ℕ) (s : St) {l : ℕ} {E : List Sym} {rest : List W} {ns : List Node} → word_at c i ≡ x → m ≡ many es → Got c l E true (rencs es) rest ns s → Res (array_nodes c i m s) (λ u. Got c l E true (renc_array x es) rest ns)
-  unfolding array_nodes renc_array rencs many scope_of text_of has_token member if◌then◌else◌ go_on
+  unfolding array_nodes renc_array rencs many scope_of text_of has_token member if◌then◌otherwise◌ go_on
   array_nodes-ok i x nil m s {l} {E} {rest} {ns} ew em h =
       yes-then _ _ _ s _ (at-kind (λ n. eqb n 0 ≡ true) m 0 em refl)
       (push_ok c Array false 0 i s (λ u. Got c l E true (renc_array x nil) rest ns) (record { pre = h.pre; made = made-push (ap (λ (y : W). said Array false 0 y) ew) h.made }))
@@ -200,8 +200,8 @@ module _ (c : Ctx) where
   items-tail : (is : Items) (f n : ℕ) (r : Rec) (rest : List W) {l : ℕ} {E : List Sym} {L : List Lab} {ns : List Node} (s : St)
       → ((s₂ : St) → Ahead c l E true (pr_items is (drb ∷ rest)) s₂ → Res (comma_list c DoubleRightBracket (table_item c r) f (suc n) s₂) (Count (suc n + many_items is) (Got c l E true (renc_items is) (drb ∷ rest) s₂.nodes)))
       → Got c l E true L (between_items is (pr_items is (drb ∷ rest))) ns s
-      → Res (go_on (optional c Comma s) (λ more'. if◌then◌else◌ {A = M ℕ} more' (comma_list c DoubleRightBracket (table_item c r) f (suc n)) (return (suc n)))) (Count (n + suc (many_items is)) (Got c l E true (renc_items is ++ L) (drb ∷ rest) ns))
-  unfolding between_items pr_items many_items renc_items Res go_on if◌then◌else◌
+      → Res (go_on (optional c Comma s) (λ more'. if◌then◌otherwise◌ {A = M ℕ} more' (comma_list c DoubleRightBracket (table_item c r) f (suc n)) (return (suc n)))) (Count (n + suc (many_items is)) (Got c l E true (renc_items is ++ L) (drb ∷ rest) ns))
+  unfolding between_items pr_items many_items renc_items Res go_on if◌then◌otherwise◌
   items-tail no_item f n r rest s ih h = rw (optional-no Comma s h.pre refl) (record { num = omega arith; got = h })
   items-tail (item x e is) f n r rest {l} {E} {L} {ns} s ih h =
       rw (optional-yes Comma s h.pre refl refl)
@@ -212,7 +212,7 @@ module _ (c : Ctx) where
   -- an item of a table is read as it is
   item_ok : (x : W) (e : Expr) (d l : ℕ) (E : List Sym) (rest : List W) (s : St) → x.kind ≡ Ident → Ok (seen l E) true e → Stop rest → Ahead c l E true (x ∷ arrow ∷ pr e rest) s
       → Res (table_item c (walkers c d) s) (λ u. Got c l E true (said TableItem false 1 x ∷ renc e) rest s.nodes)
-  unfolding table_item scope_of text_of has_token member if◌then◌else◌ go_on
+  unfolding table_item scope_of text_of has_token member if◌then◌otherwise◌ go_on
   item_ok x e d l E rest s xk k st p =
       let Q : Unit {0} → St → Type 0 = λ u. Got c l E true (said TableItem false 1 x ∷ renc e) rest s.nodes in
       rw (ident-eq (λ i. InvalidTknMsg 3) s p xk)
@@ -224,7 +224,7 @@ module _ (c : Ctx) where
   -- the items of a table are read as they are
   pub items-ok : (is : Items) (d f n l : ℕ) (E : List Sym) (rest : List W) (s : St) → OkItems (seen l E) is → many_items is ≤ f → Ahead c l E true (pr_items is (drb ∷ rest)) s
       → Res (comma_list c DoubleRightBracket (table_item c (walkers c d)) f n s) (Count (n + many_items is) (Got c l E true (renc_items is) (drb ∷ rest) s.nodes))
-  unfolding comma_list pr_items many_items OkItems renc_items Res member go_on if◌then◌else◌
+  unfolding comma_list pr_items many_items OkItems renc_items Res member go_on if◌then◌otherwise◌
   items-ok no_item d zero n l E rest s k len p = record { num = omega arith; got = record { pre = p; made = made_none } }
   items-ok no_item d (suc f) n l E rest s k len p = yes-then _ _ _ s _ (test (λ k. eqb k DoubleRightBracket) true p refl) (record { num = omega arith; got = record { pre = p; made = made_none } })
   items-ok (item x e is) d zero n l E rest s k len p = absurd (not-suc-le-zero len)
@@ -247,7 +247,7 @@ module _ (c : Ctx) where
   -- a table is read as it is, and its name stored
   pub table-ok : (i : ℕ) (x : W) (is : Items) (d l : ℕ) (E : List Sym) (rest : List W) (s : St) → word_at c i ≡ x → OkItems (seen l E) is → Ahead c l E true (dlb ∷ pr_items is (drb ∷ semi ∷ rest)) s
       → Res (table_decl c (walkers c d) i s) (λ u. Got c l (stored l x E) true (said Table false 1 x ∷ bare ItemList false (many_items is) ∷ renc_items is) rest s.nodes)
-  unfolding table_decl item_list stored scope_of text_of has_token member if◌then◌else◌ go_on Res
+  unfolding table_decl item_list stored scope_of text_of has_token member if◌then◌otherwise◌ go_on Res
   table-ok i x is d l E rest s ew k p =
       let L : List Lab = bare ItemList false (many_items is) ∷ renc_items is in
       let Q : Unit {0} → St → Type 0 = λ u. Got c l (stored l x E) true (said Table false 1 x ∷ L) rest s.nodes in

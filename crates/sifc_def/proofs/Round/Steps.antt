@@ -4,7 +4,7 @@ use Rattle.std.proofs.Common.{ap, ◌∙◌, subst, arith, not-suc-le-zero, eqb�
 use Rattle.std.proofs.lemmas.List.{length-map}
 use Rattle.sifc_err.specs.declared.Token.{Token}
 use Rattle.sifc_err.specs.declared.Refusal.TheVariants.{NodesFull, SymbolsFull, ErrorsFull}
-use Rattle.sifc_word.specs.Base.{if◌then◌else◌, member}
+use Rattle.sifc_word.specs.Base.{if◌then◌otherwise◌, member}
 use Rattle.sifc_word.specs.Kind.{Percent, Star, Slash, Plus, Minus, Lt, LtEq, Gt, GtEq, BangEq, EqEq, AmpAmp, PipePipe, Ident, Eof, LexPanic}
 use Rattle.sifc_lex.specs.Lex.{token}
 use Rattle.sifc_def.specs.declared.Err.{Err}
@@ -96,62 +96,62 @@ listed e s = record { at = s.at; nodes = s.nodes; syms = s.syms; level = s.level
 
 -- a word that is not the end is taken
 pub consume-eq : (s : St) {c : Ctx} {l : ℕ} {E : List Sym} {b : Bool} {x : W} {ws : List W} → Ahead c l E b (x ∷ ws) s → eqb x.kind Eof ≡ false → consume c s ≡ done tt (stepped s)
-unfolding consume arrive if◌then◌else◌
+unfolding consume arrive if◌then◌otherwise◌
 consume-eq s p e = rw (kind-now p, e, p.calm (suc s.at)) refl
 
 -- an expected word is taken
 pub expect-eq : (k : ℕ) (s : St) {c : Ctx} {l : ℕ} {E : List Sym} {b : Bool} {x : W} {ws : List W} → Ahead c l E b (x ∷ ws) s → eqb x.kind k ≡ true → eqb x.kind Eof ≡ false → expect c k s ≡ done tt (stepped s)
-unfolding expect go_on if◌then◌else◌
+unfolding expect go_on if◌then◌otherwise◌
 expect-eq k s p e n = rw (kind-now p, e) (consume-eq s p n)
 
 -- a node is added, or refused for room
 pub push_ok : (c : Ctx) (k : ℕ) (f : Bool) (n q : ℕ) (s : St) (Q : Unit {0} → St → Type 0) → Q tt (pushed k f n q s) → Res (push c k f n q s) Q
-unfolding Res of_size push if◌then◌else◌
+unfolding Res of_size push if◌then◌otherwise◌
 push_ok c k f n q s Q h = go (ltb (length s.nodes) c.node_room)
   where
-    go : (b : Bool) → Res (if◌then◌else◌ {A = Out (Unit {0})} b (done tt (pushed k f n q s)) (refuse NodesFull)) Q
+    go : (b : Bool) → Res (if◌then◌otherwise◌ {A = Out (Unit {0})} b (done tt (pushed k f n q s)) (refuse NodesFull)) Q
     go true = h
     go false = tt
 
 -- a name is stored, or refused for room
 pub store_ok : (c : Ctx) (i : ℕ) (w : What) (s : St) (Q : Unit {0} → St → Type 0) → Q tt (stored_as (name_at c i) w s) → Res (store c i w s) Q
-unfolding Res of_size store if◌then◌else◌
+unfolding Res of_size store if◌then◌otherwise◌
 store_ok c i w s Q h = go (leb (length (put_at s.level (name_at c i) w s.syms)) c.sym_room)
   where
-    go : (b : Bool) → Res (if◌then◌else◌ {A = Out (Unit {0})} b (done tt (stored_as (name_at c i) w s)) (refuse SymbolsFull)) Q
+    go : (b : Bool) → Res (if◌then◌otherwise◌ {A = Out (Unit {0})} b (done tt (stored_as (name_at c i) w s)) (refuse SymbolsFull)) Q
     go true = h
     go false = tt
 
 -- an error is listed, or refused for room
 pub list-ok : (c : Ctx) (e : Err) (s : St) (Q : Unit {0} → St → Type 0) → Q tt (listed e s) → Res (list c e s) Q
-unfolding Res of_size list if◌then◌else◌
+unfolding Res of_size list if◌then◌otherwise◌
 list-ok c e s Q h = go (ltb (length s.errs) c.err_room)
   where
-    go : (b : Bool) → Res (if◌then◌else◌ {A = Out (Unit {0})} b (done tt (listed e s)) (refuse ErrorsFull)) Q
+    go : (b : Bool) → Res (if◌then◌otherwise◌ {A = Out (Unit {0})} b (done tt (listed e s)) (refuse ErrorsFull)) Q
     go true = h
     go false = tt
 
 -- a name is taken
 pub ident-eq : (why : ℕ → Why) (s : St) {c : Ctx} {l : ℕ} {E : List Sym} {b : Bool} {x : W} {ws : List W} → Ahead c l E b (x ∷ ws) s → x.kind ≡ Ident → ident c why s ≡ done s.at (stepped s)
-unfolding ident match_ident or_throw go_on if◌then◌else◌
+unfolding ident match_ident or_throw go_on if◌then◌otherwise◌
 ident-eq why s {x} p k =
     rw (test (λ n. eqb n Ident) true p (at-kind (λ n. eqb n Ident ≡ true) x.kind Ident k refl), consume-eq s p (at-kind (λ n. eqb n Eof ≡ false) x.kind Ident k refl)) refl
 
 -- an optional token that is there, and one that is not
 pub optional-yes : (k : ℕ) (s : St) {c : Ctx} {l : ℕ} {E : List Sym} {b : Bool} {x : W} {ws : List W} → Ahead c l E b (x ∷ ws) s → eqb x.kind k ≡ true → eqb x.kind Eof ≡ false → optional c k s ≡ done true (stepped s)
-unfolding optional go_on if◌then◌else◌
+unfolding optional go_on if◌then◌otherwise◌
 optional-yes k s p e n = rw (kind-now p, e, consume-eq s p n) refl
 
 -- an optional token that is not there
 pub optional-no : (k : ℕ) (s : St) {c : Ctx} {l : ℕ} {E : List Sym} {b : Bool} {ws : List W} → Ahead c l E b ws s → eqb (first ws).kind k ≡ false → optional c k s ≡ done false s
-unfolding optional go_on if◌then◌else◌
+unfolding optional go_on if◌then◌otherwise◌
 optional-no k s p e = rw (kind-now p, e) refl
 
 -- ── operators ──
 
 -- a bound of both branches is one of the choice
-pub if-le : (b : Bool) (x y m : ℕ) → x ≤ m → y ≤ m → (if b then x else y) ≤ m
-unfolding if◌then◌else◌
+pub if-le : (b : Bool) (x y m : ℕ) → x ≤ m → y ≤ m → (if b then x otherwise y) ≤ m
+unfolding if◌then◌otherwise◌
 if-le true x y m p q = p
 if-le false x y m p q = q
 
@@ -169,7 +169,7 @@ loose-le k =
 
 -- the end is no operator
 pub loose-end : (k : ℕ) → 0 < looseness k → eqb k Eof ≡ false
-unfolding looseness member if◌then◌else◌
+unfolding looseness member if◌then◌otherwise◌
 loose-end k h = go (eqb k Eof) refl
   where
     go : (x : Bool) → eqb k Eof ≡ x → x ≡ false

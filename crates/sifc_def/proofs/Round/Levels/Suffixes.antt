@@ -9,7 +9,7 @@ use Rattle.std.proofs.Math.Bool.{true, false, not}
 use native.Mathlib.Omega.{arith}
 use Rattle.std.proofs.Math.Nat.{zero-add}
 use Rattle.std.proofs.Math.Dec.{T, eqb, leb→le}
-use Rattle.sifc_word.specs.Base.{if◌then◌else◌, member}
+use Rattle.sifc_word.specs.Base.{if◌then◌otherwise◌, member}
 use Rattle.sifc_word.specs.Kind.{LeftParen, RightParen, LeftBracket, RightBracket, Eq, Period, Comma, Bang, Minus, Ident, Str, Eof}
 use Rattle.sifc_word.specs.Reserved.{is_std_lib_fn}
 use Rattle.sifc_def.specs.declared.What.{What}
@@ -27,13 +27,13 @@ use Rattle.sifc_def.proofs.Round.Levels.{singles, starters, Calm, Stop, stop-rb,
 
 -- what stands between two arguments ends an argument
 stop-sep : (es : Exprs) (rest : List W) → Stop (between es (prs es (rp ∷ rest)))
-unfolding Stop looseness member between prs if◌then◌else◌
+unfolding Stop looseness member between prs if◌then◌otherwise◌
 stop-sep nil rest = (refl, omega arith, omega arith, omega arith, omega arith)
 stop-sep (more e es) rest = (refl, omega arith, omega arith, omega arith, omega arith)
 
 -- `=` goes on with no level
 calm-eq : (ws : List W) → Calm 7 (eq ∷ ws)
-unfolding Calm looseness member if◌then◌else◌
+unfolding Calm looseness member if◌then◌otherwise◌
 calm-eq ws = (λ j lt. omega arith, omega arith, omega arith, omega arith)
 
 -- in parentheses or not, it begins as an expression does
@@ -86,7 +86,7 @@ module _ (c : Ctx) (l : ℕ) (E : List Sym) where
 
   -- an index is read as it is
   idx-unary : (x : W) (e : Expr) → Assign c l E e → Unary c l E (idx x e)
-  unfolding Unary Assign Ok pr renc ends postfix index_part Res single scope_of text_of has_token member go_on if◌then◌else◌
+  unfolding Unary Assign Ok pr renc ends postfix index_part Res single scope_of text_of has_token member go_on if◌then◌otherwise◌
   idx-unary x e asg d b rest s n k cm p =
       let Q : Unit {0} → St → Type 0 = λ u. After c l E b (idx x e) rest s.nodes in
       to-call c l E d b x (lb ∷ pr e (rb ∷ rest)) s Q k.0 p
@@ -106,7 +106,7 @@ module _ (c : Ctx) (l : ℕ) (E : List Sym) where
 
   -- a table access is read as it is by unary_expr
   dot-unary : (x : W) (e : Expr) → Assign c l E e → (d : ℕ) (b : Bool) (rest : List W) (s : St) → Ok (look c l E) b (dot x e) → Stop rest → Has c l E b (pr (dot x e) rest) s → Res ((walkers c d).unary s) (λ u. After c l E b (dot x e) rest s.nodes)
-  unfolding Assign Ok pr renc ends postfix dot_part Res single set_check scope_of text_of has_token member if◌then◌else◌ go_on
+  unfolding Assign Ok pr renc ends postfix dot_part Res single set_check scope_of text_of has_token member if◌then◌otherwise◌ go_on
   dot-unary x e asg d b rest s k st p =
       let Q : Unit {0} → St → Type 0 = λ u. After c l E b (dot x e) rest s.nodes in
       to-call c l E d b x (period ∷ pr e rest) s Q k.0 p
@@ -122,7 +122,7 @@ module _ (c : Ctx) (l : ℕ) (E : List Sym) where
 
   -- a table access is read as it is by assign_expr
   dot-assign : (x : W) (e : Expr) → Assign c l E e → Assign c l E (dot x e)
-  unfolding Assign walkers assign_expr Res of_size Stop Calm if◌then◌else◌ go_on
+  unfolding Assign walkers assign_expr Res of_size Stop Calm if◌then◌otherwise◌ go_on
   dot-assign x e asg zero b rest s k st p = tt
   dot-assign x e asg (suc d) b rest s k st p =
       let Q : Unit {0} → St → Type 0 = λ u. After c l E b (dot x e) rest s.nodes in
@@ -144,7 +144,7 @@ module _ (c : Ctx) (l : ℕ) (E : List Sym) where
 
   -- a comma, or none before `)`
   sep-ok : (es : Exprs) (b : Bool) (rest : List W) (ns : List Node) (L : List Lab) (s : St) → Got c l E b L (between es (prs es (rp ∷ rest))) ns s → Res (separator c s) (λ u. Got c l E b L (prs es (rp ∷ rest)) ns)
-  unfolding separator between prs Res go_on if◌then◌else◌
+  unfolding separator between prs Res go_on if◌then◌otherwise◌
   sep-ok nil b rest ns L s h = no-else _ _ _ s _ (test (λ k. not (eqb k RightParen)) false h.pre refl) h
   sep-ok (more e es) b rest ns L s h =
       yes-then _ _ _ s _ (test (λ k. not (eqb k RightParen)) true h.pre refl)
@@ -153,7 +153,7 @@ module _ (c : Ctx) (l : ℕ) (E : List Sym) where
   -- arguments are read as they are
   args_ok : (es : Exprs) → Assigns es → (d f n : ℕ) (b : Bool) (rest : List W) (s : St) → Oks (look c l E) b es → n + many es ≤ 64 → length (prs es (rp ∷ rest)) ≤ f → Has c l E b (prs es (rp ∷ rest)) s
       → Res (param_list c (walkers c d).assign f n s) (Args b es n (rp ∷ rest) s.nodes)
-  unfolding Assigns param_list prs many Oks Assign Res endss rencs member if◌then◌else◌ go_on
+  unfolding Assigns param_list prs many Oks Assign Res endss rencs member if◌then◌otherwise◌ go_on
   args_ok nil all d zero n b rest s k small len p = absurd (not-suc-le-zero len)
   args_ok nil all d (suc f) n b rest s k small len p = yes-then _ _ _ s _ (test (λ k. eqb k RightParen) true p refl) (record { num = omega arith; got = record { pre = p; made = made_none } })
   args_ok (more e es) all d zero n b rest s k small len p = absurd (let z = pr-length e (between es (prs es (rp ∷ rest))) in let y : ⊥ = omega arith in y)
@@ -184,7 +184,7 @@ module _ (c : Ctx) (l : ℕ) (E : List Sym) where
 
   -- a name or string that may be called with so many arguments
   named_ok : (x : W) (i n paren : ℕ) (b : Bool) (s : St) (Q : Unit {0} → St → Type 0) → word_at c i ≡ x → T (callable (look c l E) x n) → In c l E b s.level s.syms s.check → Q tt (pushed FnCallExpr (is_std_lib_fn (name_of x)) (suc n) 0 s) → Res (call_named c (node PrimaryExpr false 0 i) paren n s) Q
-  unfolding call_named call_name is_named callable retrieve if◌then◌else◌ go_on
+  unfolding call_named call_name is_named callable retrieve if◌then◌otherwise◌ go_on
   named_ok x i n paren b s Q ew t h q =
       let ek : (tok_at c i).kind ≡ x.kind = ap (λ (y : W). y.kind) ew in
       let tk : T (eqb x.kind Ident || eqb x.kind Str) = and_l (eqb x.kind Ident || eqb x.kind Str) _ t in
@@ -193,7 +193,7 @@ module _ (c : Ctx) (l : ℕ) (E : List Sym) where
       yes-then _ _ _ s Q fk (go (is_std_lib_fn (name_of x)) refl tw)
     where
       go : (y : Bool) → is_std_lib_fn (name_of x) ≡ y → T (is_std_lib_fn (name_of x) || wants (look c l E (name_of x)) n)
-          → Res (if◌then◌else◌ {A = Void} (is_std_lib_fn (name_of (word_at c i))) (push c FnCallExpr true (suc n) 0) (call_declared c i n (find s.level (name_of (word_at c i)) s.syms)) s) Q
+          → Res (if◌then◌otherwise◌ {A = Void} (is_std_lib_fn (name_of (word_at c i))) (push c FnCallExpr true (suc n) 0) (call_declared c i n (find s.level (name_of (word_at c i)) s.syms)) s) Q
       go true e tw = yes-then _ _ _ s Q (ap (λ (v : W). is_std_lib_fn (name_of v)) ew ∙ e) (push_ok c FnCallExpr true (suc n) 0 s Q (rw e at q))
       go false e tw =
           let tw₂ : T (wants (look c l E (name_of x)) n) = rw e at tw in
@@ -204,7 +204,7 @@ module _ (c : Ctx) (l : ℕ) (E : List Sym) where
 
   -- a call is read as it is
   call-unary : (x : W) (es : Exprs) → Assigns es → Unary c l E (call x es)
-  unfolding Unary Ok pr renc ends postfix call_part Res callable scope_of text_of has_token member go_on if◌then◌else◌
+  unfolding Unary Ok pr renc ends postfix call_part Res callable scope_of text_of has_token member go_on if◌then◌otherwise◌
   call-unary x es all d b rest s n k cm p =
       let ws : List W = prs es (rp ∷ rest) in
       let Q : Unit {0} → St → Type 0 = λ u. After c l E b (call x es) rest s.nodes in
@@ -242,7 +242,7 @@ module _ (c : Ctx) (l : ℕ) (E : List Sym) where
 
   -- an assignment to a variable is read as it is
   set-assign : (x : W) (g : Bool) (e : Expr) → Assign c l E e → Assign c l E (set x g e)
-  unfolding Assign walkers assign_expr Res of_size Ok pr renc ends assign_to assign_token retrieve scope_of text_of has_token member go_on if◌then◌else◌
+  unfolding Assign walkers assign_expr Res of_size Ok pr renc ends assign_to assign_token retrieve scope_of text_of has_token member go_on if◌then◌otherwise◌
   set-assign x g e asg zero b rest s k st p = tt
   set-assign x g e asg (suc d) b rest s k st p =
       let Q : Unit {0} → St → Type 0 = λ u. After c l E b (set x g e) rest s.nodes in
@@ -266,7 +266,7 @@ module _ (c : Ctx) (l : ℕ) (E : List Sym) where
 
   -- an assignment to an element is read as it is
   mut-assign : (x : W) (i e : Expr) → Assign c l E i → Assign c l E e → Assign c l E (mut x i e)
-  unfolding Assign walkers assign_expr Res of_size Ok pr renc ends assign_to assign_array set_nodes scope_of text_of has_token member Level go_on if◌then◌else◌
+  unfolding Assign walkers assign_expr Res of_size Ok pr renc ends assign_to assign_array set_nodes scope_of text_of has_token member Level go_on if◌then◌otherwise◌
   mut-assign x i e asi asg zero b rest s k st p = tt
   mut-assign x i e asi asg (suc d) b rest s k st p =
       let Q : Unit {0} → St → Type 0 = λ u. After c l E b (mut x i e) rest s.nodes in

@@ -9,7 +9,7 @@ use Rattle.std.proofs.Math.Bool.{Bool, true, false}
 use native.Mathlib.Omega.{arith}
 use Rattle.std.proofs.Math.Nat.{zero-add}
 use Rattle.std.proofs.Math.Dec.{T, eqb, eqb→eq, nleb→lt}
-use Rattle.sifc_word.specs.Base.{if◌then◌else◌, member}
+use Rattle.sifc_word.specs.Base.{if◌then◌otherwise◌, member}
 use Rattle.sifc_word.specs.Kind.{RightParen, LeftBracket, RightBracket, Semicolon, Comma, EqArrow, DoubleLeftBracket, DoubleRightBracket, Ident, Eof}
 use Rattle.sifc_def.specs.declared.Why.{Why}
 use Rattle.sifc_def.specs.declared.Why.TheVariants.{ExpectedIdent}
@@ -43,7 +43,7 @@ module _ (c : Ctx) where
 
   -- match_ident finds a name
   match-sound : {l : ℕ} {E : List Sym} {b : Bool} (s : St) → Stands c l E b s → Win (match_ident c s) (Matched l E b s.nodes)
-  unfolding match_ident Matched Win if◌then◌else◌ go_on
+  unfolding match_ident Matched Win if◌then◌otherwise◌ go_on
   match-sound {l} {E} {b} s h =
       let Q : Option ℕ → St → Type 0 = Matched l E b s.nodes in
       win-if (eqb (tok_at c s.at).kind Ident) _ _ s Q
@@ -85,7 +85,7 @@ module _ (c : Ctx) where
 
   -- a token is taken or not: nothing but the place changes
   pub optional-sound : (k : ℕ) {l : ℕ} {E : List Sym} {b : Bool} (s : St) → Stands c l E b s → Win (optional c k s) (λ v. Kept c l E b s.nodes)
-  unfolding optional Win if◌then◌else◌ go_on
+  unfolding optional Win if◌then◌otherwise◌ go_on
   optional-sound k {l} {E} {b} s h =
       win-if (eqb (tok_at c s.at).kind k) _ _ s (λ v. Kept c l E b s.nodes)
       (λ t. win-then (consume c s) _ (λ u. Kept c l E b s.nodes) (λ v. Kept c l E b s.nodes) (consume-sound c s h) (λ u s₁ q. q))
@@ -98,7 +98,7 @@ module _ (c : Ctx) where
 
   -- a variable's node and name
   pub declare-sound : (i n : ℕ) (l : ℕ) (E : List Sym) (L : List Lab) (ns : List Node) (s : St) → (word_at c i).kind ≡ Ident → Made c L ns s.nodes → Stands c l E true s → Win (declare_var c i n s) (λ u. Declared l (declared l (word_at c i) E) (said VarDecl (global_at l) n (word_at c i) ∷ L) ns)
-  unfolding declare_var declared global_at erased scope_of text_of has_token member if◌then◌else◌ go_on
+  unfolding declare_var declared global_at erased scope_of text_of has_token member if◌then◌otherwise◌ go_on
   declare-sound i n l E L ns s xk m h =
       let g : Bool = eqb s.level 0 in
       let eg : g ≡ eqb l 0 = ap (λ (z : ℕ). eqb z 0) h.level in
@@ -160,7 +160,7 @@ module _ (c : Ctx) (Good : W → Type 0) (good : (i : ℕ) → Good (word_at c i
 
   -- the loop of array_decl reads elements; a trailing comma leaves no trace
   pub elements-sound : (r : Rec) → ReadsExpr r.assign → (f n l : ℕ) (E : List Sym) (s : St) → Stands c l E true s → Win (comma_list c RightBracket r.assign f n s) (Elements l E n s.nodes)
-  unfolding comma_list Win if◌then◌else◌ go_on
+  unfolding comma_list Win if◌then◌otherwise◌ go_on
   elements-sound r re zero n l E s h = no-elements l E n s h
   elements-sound r re (suc f) n l E s h =
       let Q : ℕ → St → Type 0 = Elements l E n s.nodes in
@@ -177,7 +177,7 @@ module _ (c : Ctx) (Good : W → Type 0) (good : (i : ℕ) → Good (word_at c i
 
   -- the nodes of an array
   array_nodes-sound : (i m : ℕ) (es : Exprs) (l : ℕ) (E : List Sym) (ns : List Node) (s : St) → m ≡ many es → Made c (rencs es) ns s.nodes → Stands c l E true s → Win (array_nodes c i m s) (λ u. Declared c l E (renc_array (word_at c i) es) ns)
-  unfolding array_nodes renc_array rencs many Win scope_of text_of has_token member if◌then◌else◌ go_on
+  unfolding array_nodes renc_array rencs many Win scope_of text_of has_token member if◌then◌otherwise◌ go_on
   array_nodes-sound i m nil l E ns s em md h =
       win-if (eqb m 0) _ _ s (λ u. Declared c l E (renc_array (word_at c i) nil) ns)
       (λ t. push-sound c Array false 0 i s (λ u. Declared c l E (renc_array (word_at c i) nil) ns) (record { made = made-push refl md; inn = h }))
@@ -262,7 +262,7 @@ module _ (c : Ctx) (Good : W → Type 0) (good : (i : ℕ) → Good (word_at c i
 
   -- a table's item is a name and an expression
   item-sound : (r : Rec) → ReadsExpr r.assign → (l : ℕ) (E : List Sym) (s : St) → Stands c l E true s → Win (table_item c r s) (λ u. OnePair l E s.nodes)
-  unfolding table_item scope_of text_of has_token member if◌then◌else◌
+  unfolding table_item scope_of text_of has_token member if◌then◌otherwise◌
   item-sound r re l E s h =
       let Q : Unit {0} → St → Type 0 = λ u. OnePair l E s.nodes in
       win-then (ident c _ s) _ (Named c l E true s.nodes) Q (ident-sound c _ s h)
@@ -289,7 +289,7 @@ module _ (c : Ctx) (Good : W → Type 0) (good : (i : ℕ) → Good (word_at c i
 
   -- the loop of item_list reads items; a trailing comma leaves no trace
   pub items-sound : (r : Rec) → ReadsExpr r.assign → (f n l : ℕ) (E : List Sym) (s : St) → Stands c l E true s → Win (comma_list c DoubleRightBracket (table_item c r) f n s) (Pairs l E n s.nodes)
-  unfolding comma_list Win if◌then◌else◌ go_on
+  unfolding comma_list Win if◌then◌otherwise◌ go_on
   items-sound r re zero n l E s h = no_pairs l E n s h
   items-sound r re (suc f) n l E s h =
       let Q : ℕ → St → Type 0 = Pairs l E n s.nodes in
@@ -314,7 +314,7 @@ module _ (c : Ctx) (Good : W → Type 0) (good : (i : ℕ) → Good (word_at c i
 
   -- item_list reads items
   item_list-sound : (r : Rec) → ReadsExpr r.assign → (l : ℕ) (E : List Sym) (s : St) → Stands c l E true s → Win (item_list c r s) (λ u. Itemed l E s.nodes)
-  unfolding item_list scope_of text_of has_token member if◌then◌else◌
+  unfolding item_list scope_of text_of has_token member if◌then◌otherwise◌
   item_list-sound r re l E s h =
       win-then (comma_list c DoubleRightBracket (table_item c r) (fuel c) 0 s) _ (Pairs l E 0 s.nodes) (λ u. Itemed l E s.nodes) (items-sound r re (fuel c) 0 l E s h)
       (λ m s₁ q.
@@ -323,7 +323,7 @@ module _ (c : Ctx) (Good : W → Type 0) (good : (i : ℕ) → Good (word_at c i
 
   -- table_decl reads a table
   table-sound : (r : Rec) → ReadsExpr r.assign → (i l : ℕ) (E : List Sym) (s : St) → (word_at c i).kind ≡ Ident → Stands c l E true s → Win (table_decl c r i s) (λ u. Valued (word_at c i) l E s.nodes)
-  unfolding table_decl renc_s env_s OkS SaidS stored scope_of text_of has_token member if◌then◌else◌
+  unfolding table_decl renc_s env_s OkS SaidS stored scope_of text_of has_token member if◌then◌otherwise◌
   table-sound r re i l E s xk h =
       let x : W = word_at c i in
       let Q : Unit {0} → St → Type 0 = λ u. Valued x l E s.nodes in
@@ -356,7 +356,7 @@ module _ (c : Ctx) (Good : W → Type 0) (good : (i : ℕ) → Good (word_at c i
 
   -- the value of a variable is an array, a table or an expression
   pub initial-sound : (r : Rec) → ReadsExpr r.assign → (i l : ℕ) (E : List Sym) (s : St) → (word_at c i).kind ≡ Ident → Stands c l E true s → Win (initial c r i s) (λ u. Valued (word_at c i) l E s.nodes)
-  unfolding initial renc_s env_s OkS SaidS if◌then◌else◌ go_on
+  unfolding initial renc_s env_s OkS SaidS if◌then◌otherwise◌ go_on
   initial-sound r re i l E s xk h =
       let x : W = word_at c i in
       let Q : Unit {0} → St → Type 0 = λ u. Valued x l E s.nodes in
@@ -420,7 +420,7 @@ module _ (c : Ctx) (Good : W → Type 0) (good : (i : ℕ) → Good (word_at c i
 
   -- param_list reads parameters; a trailing comma leaves no trace
   pub params-sound : (f n l : ℕ) (E : List Sym) (s : St) → n ≤ 64 → Stands c l E true s → Win (param_list c (param c) f n s) (Params l E n s.nodes)
-  unfolding param_list param OkNames SaidNames renc_names Win scope_of text_of has_token member if◌then◌else◌ go_on
+  unfolding param_list param OkNames SaidNames renc_names Win scope_of text_of has_token member if◌then◌otherwise◌ go_on
   params-sound zero n l E s few h = no-params l E n s few h
   params-sound (suc f) n l E s few h =
       let Q : ℕ → St → Type 0 = Params l E n s.nodes in

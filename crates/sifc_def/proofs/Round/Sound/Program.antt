@@ -7,7 +7,7 @@ use mathlib.Core.List.{List, [], ◌∷◌, ◌++◌, map, append_assoc, append-
 use Rattle.std.proofs.Math.Option.{Option, none, some}
 use Rattle.std.proofs.Math.Bool.{true, false}
 use Rattle.std.proofs.Math.Dec.{T}
-use Rattle.sifc_word.specs.Base.{if◌then◌else◌, member}
+use Rattle.sifc_word.specs.Base.{if◌then◌otherwise◌, member}
 use Rattle.sifc_word.specs.Kind.{Eof, LexPanic}
 use Rattle.sifc_def.specs.declared.Err.{Err}
 use Rattle.sifc_def.specs.Ast.{Program}
@@ -48,14 +48,14 @@ module _ (c : Ctx) (Good : W → Type 0) (good : (i : ℕ) → Good (word_at c i
 
   -- a flag that is up stays up
   pub flag_up : (f : ℕ) (d : Void) (n : ℕ) (s : St) → Win (program c f d n true s) (λ v s₁. v.flag ≡ true)
-  unfolding program if◌then◌else◌ go_on
+  unfolding program if◌then◌otherwise◌ go_on
   flag_up zero d n s = end-flag n true none s
   flag_up (suc f) d n s =
       let Q : End → St → Type 0 = λ v s₁. v.flag ≡ true in
       win-if (eqb (tok_at c s.at).kind Eof) _ _ s Q (λ t. end-flag n true none s)
       (λ t. win-then (top_decl c d s) _ (λ o s₁. Unit {0}) Q (win-any (top_decl c d s))
       (λ o s₁ k. elim o as (λ v.
-      Win ((elim v as (λ z. M End) [ none ↦ program c f d (suc n) true | some e ↦ if continuable c e.why then program c f d n true else end_read c n true (some e) ]) s₁) Q) [
+      Win ((elim v as (λ z. M End) [ none ↦ program c f d (suc n) true | some e ↦ if continuable c e.why then program c f d n true otherwise end_read c n true (some e) ]) s₁) Q) [
         | none ↦ flag_up f d (suc n) s₁
         | some e ↦ win-if (continuable c e.why) _ _ s₁ Q (λ t₁. flag_up f d n s₁) (λ t₁. end-flag n true (some e) s₁)
       ]))
@@ -70,7 +70,7 @@ module _ (c : Ctx) (Good : W → Type 0) (good : (i : ℕ) → Good (word_at c i
 
   -- the Program node
   end-sound : (n : ℕ) (E : List Sym) (L : List Lab) (ns : List Node) (s : St) → Made c L ns s.nodes → Win (end_read c n false none s) (λ e s₁. T (not e.flag) → Programmed n E L ns e s₁)
-  unfolding end_read Win counted OkSs SaidSs renc_ss scope_of text_of has_token member if◌then◌else◌
+  unfolding end_read Win counted OkSs SaidSs renc_ss scope_of text_of has_token member if◌then◌otherwise◌
   end-sound n E L ns s md =
       win-then (push c Program false n 0 s) _ (λ u s₁. s₁ ≡ pushed Program false n 0 s) (λ e s₁. T (not e.flag) → Programmed n E L ns e s₁) (push-sound c Program false n 0 s (λ u s₁. s₁ ≡ pushed Program false n 0 s) refl)
       (λ u s₁ e₁.
@@ -84,7 +84,7 @@ module _ (c : Ctx) (Good : W → Type 0) (good : (i : ℕ) → Good (word_at c i
 
   -- the loop of parse reads declarations
   program-sound : (d f n : ℕ) (E : List Sym) (L : List Lab) (ns : List Node) (s : St) → Made c L ns s.nodes → Stands c 0 E true s → Win (program c f (decl c (walkers c d)) n false s) (λ e s₁. T (not e.flag) → Programmed n E L ns e s₁)
-  unfolding program Settled counted OkSs SaidSs renc_ss if◌then◌else◌ go_on
+  unfolding program Settled counted OkSs SaidSs renc_ss if◌then◌otherwise◌ go_on
   program-sound d zero n E L ns s md h = end-sound n E L ns s md
   program-sound d (suc f) n E L ns s md h =
       let Q : End → St → Type 0 = λ e s₁. T (not e.flag) → Programmed n E L ns e s₁ in
@@ -96,7 +96,7 @@ module _ (c : Ctx) (Good : W → Type 0) (good : (i : ℕ) → Good (word_at c i
           → ((q : Declares c Good good 0 E s.nodes s₁) → Win (program c f (decl c (walkers c d)) (suc n) false s₁) (λ e s₂. T (not e.flag) → Programmed (suc n) (env_s 0 E q.tree) (renc_s 0 q.tree ++ L) ns e s₂))
           → Win (let m : M End = elim o [
             | none ↦ program c f (decl c (walkers c d)) (suc n) false
-            | some e ↦ if continuable c e.why then program c f (decl c (walkers c d)) n true else end_read c n true (some e)
+            | some e ↦ if continuable c e.why then program c f (decl c (walkers c d)) n true otherwise end_read c n true (some e)
           ] in m s₁) (λ e s₂. T (not e.flag) → Programmed n E L ns e s₂)
       go none s₁ q ih =
           win-map (program c f (decl c (walkers c d)) (suc n) false s₁) (λ e s₂. T (not e.flag) → Programmed (suc n) (env_s 0 E q.tree) (renc_s 0 q.tree ++ L) ns e s₂) (λ e s₂. T (not e.flag) → Programmed n E L ns e s₂)
@@ -125,7 +125,7 @@ module _ (c : Ctx) (Good : W → Type 0) (good : (i : ℕ) → Good (word_at c i
 
   -- SOUND, programs: a script that is read with the flag down is a typed program that is Ok, with these labels
   pub program-is-typed : (depth : ℕ) → Win (walk c depth) (λ e s. T (not e.flag) → IsProgram e s)
-  unfolding arrive renc_program Fairs Win if◌then◌else◌ go_on
+  unfolding arrive renc_program Fairs Win if◌then◌otherwise◌ go_on
   program-is-typed depth =
       rw (walk-eq c depth)
       (win-then (arrive c start) _ (λ u s. s ≡ start) (λ e s. T (not e.flag) → IsProgram e s)

@@ -9,7 +9,7 @@ use native.Mathlib.Omega.{arith}
 use Rattle.std.proofs.Math.Nat.{zero-add}
 use Rattle.std.proofs.Math.Dec.{eqb}
 use Rattle.std.proofs.Math.ListN.{length, length-map}
-use Rattle.sifc_word.specs.Base.{if◌then◌else◌, member}
+use Rattle.sifc_word.specs.Base.{if◌then◌otherwise◌, member}
 use Rattle.sifc_word.specs.Kind.{LeftParen, RightParen, LeftBrace, RightBrace, Semicolon, Eq, Comma, Ident, Var, Fn, Return, If, Elif, Else, For, In as InKind, Eof}
 use Rattle.sifc_def.specs.declared.Why.{Why}
 use Rattle.sifc_def.specs.declared.Why.TheVariants.{InvalidIfStmt, ExpectedIdent}
@@ -142,7 +142,7 @@ module _ (c : Ctx) (Good : W → Type 0) (good : (i : ℕ) → Good (word_at c i
 
     -- var_decl reads a variable
     var-sound : (l : ℕ) (E : List Sym) (s : St) → Stands c l E true s → Win (var_decl c r s) (λ u. Declares l E s.nodes)
-    unfolding var_decl renc_s env_s OkS SaidS if◌then◌else◌ go_on
+    unfolding var_decl renc_s env_s OkS SaidS if◌then◌otherwise◌ go_on
     var-sound l E s h =
         let Q : Unit {0} → St → Type 0 = λ u. Declares l E s.nodes in
         win-then (expect c Var s) _ (λ u. Kept c l E true s.nodes) Q (expect-sound c Var s h)
@@ -179,7 +179,7 @@ module _ (c : Ctx) (Good : W → Type 0) (good : (i : ℕ) → Good (word_at c i
 
     -- fn_decl reads a function
     fn-sound : (l : ℕ) (E : List Sym) (s : St) → Stands c l E true s → Win (fn_decl c r s) (λ u. Declares l E s.nodes)
-    unfolding fn_decl inside erased renc_s env_s OkS SaidS scope_of text_of has_token member if◌then◌else◌ go_on
+    unfolding fn_decl inside erased renc_s env_s OkS SaidS scope_of text_of has_token member if◌then◌otherwise◌ go_on
     fn-sound l E s h =
         let Q : Unit {0} → St → Type 0 = λ u. Declares l E s.nodes in
         win-then (expect c Fn s) _ (λ u. Kept c l E true s.nodes) Q (expect-sound c Fn s h)
@@ -242,10 +242,10 @@ module _ (c : Ctx) (Good : W → Type 0) (good : (i : ℕ) → Good (word_at c i
 
     -- the end of an `if`, with two `else` or not
     end_if-sound : (n elses l : ℕ) (E : List Sym) (L : List Lab) (ns : List Node) (s : St) → Made c L ns s.nodes → Stands c l E true s → Win (end_if c n elses s) (λ u. Declared c l E (bare IfStmt false (2 + n) ∷ L) ns)
-    unfolding end_if Win scope_of text_of has_token member if◌then◌else◌ go_on
+    unfolding end_if Win scope_of text_of has_token member if◌then◌otherwise◌ go_on
     end_if-sound n elses l E L ns s md h =
         let Q : Unit {0} → St → Type 0 = λ u. Declared c l E (bare IfStmt false (2 + n) ∷ L) ns in
-        win-then (if◌then◌else◌ {A = Void} (ltb 1 elses) (add_error c InvalidIfStmt >> ok) ok s) _ (λ u. Kept c l E true s.nodes) Q
+        win-then (if◌then◌otherwise◌ {A = Void} (ltb 1 elses) (add_error c InvalidIfStmt >> ok) ok s) _ (λ u. Kept c l E true s.nodes) Q
         (win-if (ltb 1 elses) _ _ s (λ u. Kept c l E true s.nodes)
         (λ t. win-then (add_error c InvalidIfStmt s) _ (λ e. Kept c l E true s.nodes) (λ u. Kept c l E true s.nodes) (add-sound InvalidIfStmt s h) (λ e s₁ k. k))
         (λ t. record { inn = h; same_nodes = refl }))
@@ -300,7 +300,7 @@ module _ (c : Ctx) (Good : W → Type 0) (good : (i : ℕ) → Good (word_at c i
 
     -- an elif is read
     elif-sound : (l : ℕ) (E : List Sym) (s : St) → Stands c l E true s → Win (elif_stmt c r s) (λ u. ElifRead l E s.nodes)
-    unfolding elif_stmt scope_of text_of has_token member if◌then◌else◌
+    unfolding elif_stmt scope_of text_of has_token member if◌then◌otherwise◌
     elif-sound l E s h =
         let Q : Unit {0} → St → Type 0 = λ u. ElifRead l E s.nodes in
         win-then (consume c s) _ (λ u. Kept c l E true s.nodes) Q (consume-sound c s h)
@@ -319,7 +319,7 @@ module _ (c : Ctx) (Good : W → Type 0) (good : (i : ℕ) → Good (word_at c i
 
     -- the loop of if_stmt reads branches
     branches-sound : (f n elses l : ℕ) (E : List Sym) (L : List Lab) (ns : List Node) (s : St) → Made c L ns s.nodes → Stands c l E true s → Win (branches c r f n elses s) (λ u. Branched n l E L ns)
-    unfolding branches bound OkBs SaidBs renc_bs env_bs many_branches if◌then◌else◌ go_on
+    unfolding branches bound OkBs SaidBs renc_bs env_bs many_branches if◌then◌otherwise◌ go_on
     branches-sound zero n elses l E L ns s md h = no-branch n elses l E L ns s md h
     branches-sound (suc f) n elses l E L ns s md h =
         let Q : Unit {0} → St → Type 0 = λ u. Branched n l E L ns in
@@ -389,7 +389,7 @@ module _ (c : Ctx) (Good : W → Type 0) (good : (i : ℕ) → Good (word_at c i
 
     -- ident_pair reads two names
     pair-sound : (l : ℕ) (E : List Sym) (s : St) → Stands c l E true s → Win (ident_pair c s) (PairRead l E s.nodes)
-    unfolding ident_pair Win scope_of text_of has_token member if◌then◌else◌
+    unfolding ident_pair Win scope_of text_of has_token member if◌then◌otherwise◌
     pair-sound l E s h =
         let Q : List ℕ → St → Type 0 = PairRead l E s.nodes in
         win-then (ident_node c s) _ (NameNode c Good good l E s.nodes) Q (ident_node-sound c Good good l E s h)
@@ -406,7 +406,7 @@ module _ (c : Ctx) (Good : W → Type 0) (good : (i : ℕ) → Good (word_at c i
 
     -- for_stmt reads a `for`
     for-sound : (l : ℕ) (E : List Sym) (s : St) → Stands c l E true s → Win (for_stmt c r s) (λ u. Declares l E s.nodes)
-    unfolding for_stmt renc_s env_s OkS SaidS scope_of text_of has_token member if◌then◌else◌
+    unfolding for_stmt renc_s env_s OkS SaidS scope_of text_of has_token member if◌then◌otherwise◌
     for-sound l E s h =
         let Q : Unit {0} → St → Type 0 = λ u. Declares l E s.nodes in
         win-then (expect c For s) _ (λ u. Kept c l E true s.nodes) Q (expect-sound c For s h)
@@ -434,7 +434,7 @@ module _ (c : Ctx) (Good : W → Type 0) (good : (i : ℕ) → Good (word_at c i
 
     -- ret_stmt reads a return
     ret-sound : (l : ℕ) (E : List Sym) (s : St) → Stands c l E true s → Win (ret_stmt c r s) (λ u. Declares l E s.nodes)
-    unfolding ret_stmt renc_s env_s OkS SaidS scope_of text_of has_token member if◌then◌else◌ go_on
+    unfolding ret_stmt renc_s env_s OkS SaidS scope_of text_of has_token member if◌then◌otherwise◌ go_on
     ret-sound l E s h =
         let Q : Unit {0} → St → Type 0 = λ u. Declares l E s.nodes in
         win-then (expect c Return s) _ (λ u. Kept c l E true s.nodes) Q (expect-sound c Return s h)
@@ -451,7 +451,7 @@ module _ (c : Ctx) (Good : W → Type 0) (good : (i : ℕ) → Good (word_at c i
 
     -- expr_stmt reads an expression statement
     expr_stmt-sound : (l : ℕ) (E : List Sym) (s : St) → Stands c l E true s → Win (expr_part c r s) (λ u. Declares l E s.nodes)
-    unfolding expr_part renc_s env_s OkS SaidS scope_of text_of has_token member if◌then◌else◌
+    unfolding expr_part renc_s env_s OkS SaidS scope_of text_of has_token member if◌then◌otherwise◌
     expr_stmt-sound l E s h =
         let Q : Unit {0} → St → Type 0 = λ u. Declares l E s.nodes in
         win-then (r.assign s) _ (λ u. Expressed c Good good l E s.nodes) Q (so.expr l E s h)
@@ -468,7 +468,7 @@ module _ (c : Ctx) (Good : W → Type 0) (good : (i : ℕ) → Good (word_at c i
 
     -- decl reads a declaration
     decl-sound : (l : ℕ) (E : List Sym) (s : St) → Stands c l E true s → Win (decl c r s) (λ u. Declares l E s.nodes)
-    unfolding decl stmt if◌then◌else◌ go_on
+    unfolding decl stmt if◌then◌otherwise◌ go_on
     decl-sound l E s h =
         let Q : Unit {0} → St → Type 0 = λ u. Declares l E s.nodes in
         win-if (eqb (tok_at c s.at).kind Var) _ _ s Q (λ t. var-sound l E s h)
@@ -496,7 +496,7 @@ module _ (c : Ctx) (Good : W → Type 0) (good : (i : ℕ) → Good (word_at c i
 
     -- the loop of block reads declarations
     decls-sound : (f n l : ℕ) (E : List Sym) (s : St) → Stands c l E true s → Win (decls c r f n s) (Listed l E n s.nodes)
-    unfolding decls counted OkSs SaidSs renc_ss env_ss Win if◌then◌else◌ go_on
+    unfolding decls counted OkSs SaidSs renc_ss env_ss Win if◌then◌otherwise◌ go_on
     decls-sound zero n l E s h = no-decl l E n s h
     decls-sound (suc f) n l E s h =
         let Q : ℕ → St → Type 0 = Listed l E n s.nodes in
@@ -528,7 +528,7 @@ module _ (c : Ctx) (Good : W → Type 0) (good : (i : ℕ) → Good (word_at c i
     -- a body that ends in no return gets one
     finish-sound : (body : Bool) (l L : ℕ) (E : List Sym) (ns : List Node) (ts : Stmts) (m : ℕ) (s : St) → m ≡ counted ts → OkSs l E ts → SaidSs Good ts → Made c (renc_ss l ts) ns s.nodes → Stands c L (env_ss l E ts) true s
         → Win (with_return c body m s) (Finished body l E ns L)
-    unfolding with_return Win scope_of text_of has_token member if◌then◌else◌ go_on
+    unfolding with_return Win scope_of text_of has_token member if◌then◌otherwise◌ go_on
     finish-sound false l L E ns ts m s em k w md h = record { trees = ts; num = em; ended = tt; fit = k; words = w; made = md; inn = h }
     finish-sound true l L E ns ts m s em k w md h =
         let Q : ℕ → St → Type 0 = Finished true l E ns L in
@@ -550,7 +550,7 @@ module _ (c : Ctx) (Good : W → Type 0) (good : (i : ℕ) → Good (word_at c i
 
     -- block reads a block
     block-sound : (body : Bool) (is : List ℕ) (l : ℕ) (E : List Sym) (s : St) → Stands c l E true s → Win (block_part c r body is s) (λ u. Blocked body (spoken is) l E s.nodes)
-    unfolding block_part init_scope close_scope set_level scope_of text_of has_token member if◌then◌else◌ go_on
+    unfolding block_part init_scope close_scope set_level scope_of text_of has_token member if◌then◌otherwise◌ go_on
     block-sound body is l E s h =
         let Q : Unit {0} → St → Type 0 = λ u. Blocked body (spoken is) l E s.nodes in
         let E₁ : List Sym = bound (suc l) (spoken is) E in

@@ -8,7 +8,7 @@ use Rattle.std.proofs.Math.Option.{Option, none, some}
 use Rattle.std.proofs.Math.Bool.{Bool, true, false}
 use Rattle.std.proofs.Math.Nat.{zero-add}
 use Rattle.std.proofs.Math.Dec.{T, eqb, eqb→eq, nleb→lt, le→leb}
-use Rattle.sifc_word.specs.Base.{if◌then◌else◌, member}
+use Rattle.sifc_word.specs.Base.{if◌then◌otherwise◌, member}
 use Rattle.sifc_word.specs.Kind.{LeftParen, RightParen, LeftBracket, RightBracket, Eq, Period, Comma, Ident, Str, Eof}
 use Rattle.sifc_word.specs.Reserved.{is_std_lib_fn}
 use Rattle.sifc_def.specs.declared.What.{What}
@@ -52,12 +52,12 @@ module _ (c : Ctx) (Good : W → Type 0) (good : (i : ℕ) → Good (word_at c i
 
   -- a comma, or none before `)`
   pub separator-sound : {b : Bool} (s : St) → Stands c l E b s → Win (separator c s) (λ u. Kp b s.nodes)
-  unfolding separator Win if◌then◌else◌ go_on
+  unfolding separator Win if◌then◌otherwise◌ go_on
   separator-sound {b} s h = win-if (not (eqb (tok_at c s.at).kind RightParen)) _ _ s (λ u. Kp b s.nodes) (λ t₃. expect-sound c Comma s h) (λ t₃. record { inn = h; same_nodes = refl })
 
   -- param_list reads arguments; a trailing comma leaves no trace
   arguments_sound : (m : Void) → Sound c Good good l E m → (f n : ℕ) (b : Bool) (s : St) → n ≤ 64 → Stands c l E b s → Win (param_list c m f n s) (Args b n s.nodes)
-  unfolding param_list Win many Oks Said rencs endss if◌then◌else◌ go_on
+  unfolding param_list Win many Oks Said rencs endss if◌then◌otherwise◌ go_on
   arguments_sound m is zero n b s few h = no-args b n s few h
   arguments_sound m is (suc f) n b s few h =
       let Q : ℕ → St → Type 0 = Args b n s.nodes in
@@ -103,7 +103,7 @@ module _ (c : Ctx) (Good : W → Type 0) (good : (i : ℕ) → Good (word_at c i
 
   -- a call that passes the check of its name
   named-sound : (target : Node) (i n : ℕ) (s : St) (b : Bool) → n ≤ 64 → Stands c l E b s → Win (call_named c target i n s) (λ u. CallOk target n s)
-  unfolding call_named call_name is_named callable retrieve Win if◌then◌else◌ go_on
+  unfolding call_named call_name is_named callable retrieve Win if◌then◌otherwise◌ go_on
   named-sound target i n s b few h =
       let x : W = word_at c target.pay in
       let Q : Unit {0} → St → Type 0 = λ u. CallOk target n s in
@@ -153,7 +153,7 @@ module _ (c : Ctx) (Good : W → Type 0) (good : (i : ℕ) → Good (word_at c i
 
   -- `(` makes a call
   call_part-sound : (r : Rec) → SoundRec c Good good l E r → (b : Bool) (ns₀ : List Node) (s : St) → Rd b ns₀ s → Win (call_part c r (top_of s.nodes) s.at s) (λ u. Rd b ns₀)
-  unfolding call_part Ok Said renc ends Spelt scope_of text_of has_token member if◌then◌else◌
+  unfolding call_part Ok Said renc ends Spelt scope_of text_of has_token member if◌then◌otherwise◌
   call_part-sound r sr b ns₀ s rd =
       let e : Expr = rd.expr in
       let b₁ : Bool = ends b e in
@@ -184,7 +184,7 @@ module _ (c : Ctx) (Good : W → Type 0) (good : (i : ℕ) → Good (word_at c i
 
   -- `.` makes a table access
   dot-sound : (r : Rec) → SoundRec c Good good l E r → (b : Bool) (ns₀ : List Node) (s : St) → Rd b ns₀ s → Win (dot_part c r (top_of s.nodes) s.at s) (λ u. Rd b ns₀)
-  unfolding dot_part set_check single Win Ok Said renc ends Spelt scope_of text_of has_token member if◌then◌else◌ go_on
+  unfolding dot_part set_check single Win Ok Said renc ends Spelt scope_of text_of has_token member if◌then◌otherwise◌ go_on
   dot-sound r sr b ns₀ s rd =
       let e : Expr = rd.expr in
       let b₁ : Bool = ends b e in
@@ -211,7 +211,7 @@ module _ (c : Ctx) (Good : W → Type 0) (good : (i : ℕ) → Good (word_at c i
 
   -- `[` makes an index
   index-sound : (r : Rec) → SoundRec c Good good l E r → (b : Bool) (ns₀ : List Node) (s : St) → Rd b ns₀ s → Win (index_part c r (top_of s.nodes) s.at s) (λ u. Rd b ns₀)
-  unfolding index_part single Win Ok Said renc ends Spelt scope_of text_of has_token member if◌then◌else◌ go_on
+  unfolding index_part single Win Ok Said renc ends Spelt scope_of text_of has_token member if◌then◌otherwise◌ go_on
   index-sound r sr b ns₀ s rd =
       let e : Expr = rd.expr in
       let b₁ : Bool = ends b e in
@@ -240,7 +240,7 @@ module _ (c : Ctx) (Good : W → Type 0) (good : (i : ℕ) → Good (word_at c i
 
   -- what follows a primary expression makes an expression
   postfix-sound : (r : Rec) → SoundRec c Good good l E r → (b : Bool) (ns₀ : List Node) (s : St) → Rd b ns₀ s → Win (postfix c r (top_of s.nodes) s) (λ u. Rd b ns₀)
-  unfolding postfix Win if◌then◌else◌ go_on
+  unfolding postfix Win if◌then◌otherwise◌ go_on
   postfix-sound r sr b ns₀ s rd =
       let Q : Unit {0} → St → Type 0 = λ u. Rd b ns₀ in
       win-if (eqb (tok_at c s.at).kind LeftParen) _ _ s Q (λ t. call_part-sound r sr b ns₀ s rd)
@@ -265,7 +265,7 @@ module _ (c : Ctx) (Good : W → Type 0) (good : (i : ℕ) → Good (word_at c i
 
   -- the target was read up to s, the value from s₂ to s₃
   token-sound : (b : Bool) (ns₀ : List Node) (s s₂ s₃ : St) (rd : Rd b ns₀ s) → s₂.nodes ≡ s.nodes → Rd (ends b rd.expr) s₂.nodes s₃ → T (eqb (top_of s.nodes).kind PrimaryExpr) → Win (assign_token c (top_of s.nodes).pay s₃) (λ u. Rd b ns₀)
-  unfolding assign_token retrieve Ok Said renc ends Spelt scope_of text_of has_token member if◌then◌else◌ go_on
+  unfolding assign_token retrieve Ok Said renc ends Spelt scope_of text_of has_token member if◌then◌otherwise◌ go_on
   token-sound b ns₀ s s₂ s₃ rd en r₃ t =
       let e : Expr = rd.expr in
       let i : ℕ = (top_of s.nodes).pay in
@@ -291,7 +291,7 @@ module _ (c : Ctx) (Good : W → Type 0) (good : (i : ℕ) → Good (word_at c i
 
   -- an assignment to an element
   array-sound : (b : Bool) (ns₀ : List Node) (s s₂ s₃ : St) (rd : Rd b ns₀ s) → s₂.nodes ≡ s.nodes → Rd (ends b rd.expr) s₂.nodes s₃ → T (eqb (top_of s.nodes).kind ArrayAccess) → Win (assign_array c (length s.nodes - 1) s₃) (λ u. Rd b ns₀)
-  unfolding assign_array set_nodes Ok Said renc ends Spelt scope_of text_of has_token member if◌then◌else◌ go_on
+  unfolding assign_array set_nodes Ok Said renc ends Spelt scope_of text_of has_token member if◌then◌otherwise◌ go_on
   array-sound b ns₀ s s₂ s₃ rd en r₃ t =
       let e : Expr = rd.expr in
       let q : IsIndexed c e = is-indexed c e ns₀ s.nodes rd.made t in
@@ -319,7 +319,7 @@ module _ (c : Ctx) (Good : W → Type 0) (good : (i : ℕ) → Good (word_at c i
 
   -- an assignment is to a variable or to an element
   assign_to-sound : (op : ℕ) (b : Bool) (ns₀ : List Node) (s s₂ s₃ : St) (rd : Rd b ns₀ s) → s₂.nodes ≡ s.nodes → Rd (ends b rd.expr) s₂.nodes s₃ → Win (assign_to c (top_of s.nodes) (length s.nodes - 1) op s₃) (λ u. Rd b ns₀)
-  unfolding assign_to assign_nothing if◌then◌else◌
+  unfolding assign_to assign_nothing if◌then◌otherwise◌
   assign_to-sound op b ns₀ s s₂ s₃ rd en r₃ =
       let Q : Unit {0} → St → Type 0 = λ u. Rd b ns₀ in
       win-if (eqb (top_of s.nodes).kind PrimaryExpr) _ _ s₃ Q (λ t. token-sound b ns₀ s s₂ s₃ rd en r₃ t)
@@ -328,7 +328,7 @@ module _ (c : Ctx) (Good : W → Type 0) (good : (i : ℕ) → Good (word_at c i
 
   -- assign_expr reads expressions
   assign-sound : (r : Rec) → SoundRec c Good good l E r → Sound c Good good l E (assign_expr c r)
-  unfolding assign_expr Win if◌then◌else◌ go_on
+  unfolding assign_expr Win if◌then◌otherwise◌ go_on
   assign-sound r sr b s h =
       let Q : Unit {0} → St → Type 0 = λ u. Rd b s.nodes in
       win-then (levels c 7 r.unary s) _ Q Q (levels_sound c Good good l E 7 r.unary sr.unary b s h)

@@ -9,7 +9,7 @@ use Rattle.std.proofs.Math.Nat.{zero-add}
 use Rattle.std.proofs.Math.Dec.{T, eqb, ltb}
 use Rattle.std.proofs.lemmas.List.{length-reverse, length-map}
 use Rattle.std.proofs.Math.Seq.{take-append_seam}
-use Rattle.sifc_word.specs.Base.{if◌then◌else◌, member}
+use Rattle.sifc_word.specs.Base.{if◌then◌otherwise◌, member}
 use Rattle.sifc_word.specs.Kind.{LeftBrace, RightBrace, Semicolon, Var, Fn, Return, If, Elif, Else, For, Eof}
 use Rattle.sifc_def.specs.Ast.{Block, ReturnStmt, ExprStmt, PrimaryExpr}
 use Rattle.sifc_def.specs.State.{Node, node, Sym, Ctx, St, done, go_on, W, tok_at, word_at}
@@ -209,7 +209,7 @@ levelled n s = record { at = s.at; nodes = s.nodes; syms = s.syms; level = n; ch
 module _ (c : Ctx) where
   -- a function's body has its return
   return-eq : (body : Bool) (ts : Stmts) (l m : ℕ) (ns : List Node) (s : St) → T (not body || returns ts) → Made c (renc_ss l ts) ns s.nodes → m ≡ counted ts → with_return c body m s ≡ done m s
-  unfolding with_return go_on if◌then◌else◌
+  unfolding with_return go_on if◌then◌otherwise◌
   return-eq false ts l m ns s t made em = refl
   return-eq true ts l m ns s t made em =
       let q : Headed ReturnStmt (renc_ss l ts) = returns-head ts l t in
@@ -241,7 +241,7 @@ module _ (c : Ctx) where
   -- the loop of block reads declarations as they are
   decls-ok : (ts : Stmts) → AllSay ts → (d f n l : ℕ) (E : List Sym) (rest : List W) (s : St) → OkSs l E ts → counted ts ≤ f → Ahead c l E true (pr_ss ts (rbrace ∷ rest)) s
       → Res (decls c (walkers c d) f n s) (Count (n + counted ts) (Got c l (env_ss l E ts) true (renc_ss l ts) (rbrace ∷ rest) s.nodes))
-  unfolding AllSay Says decls pr_ss OkSs env_ss renc_ss counted Res if◌then◌else◌ go_on
+  unfolding AllSay Says decls pr_ss OkSs env_ss renc_ss counted Res if◌then◌otherwise◌ go_on
   decls-ok stop all d zero n l E rest s k len p = record { num = omega arith; got = record { pre = p; made = made_none } }
   decls-ok stop all d (suc f) n l E rest s k len p = yes-then _ _ _ s _ (test (λ m. eqb m RightBrace || eqb m Eof) true p refl) (record { num = omega arith; got = record { pre = p; made = made_none } })
   decls-ok (next t ts) all d zero n l E rest s k len p = absurd (not-suc-le-zero len)
@@ -265,7 +265,7 @@ module _ (c : Ctx) where
   block-ok : (ss : Stmts) → AllSay ss → (body : Bool) (is : List ℕ) (xs : List W) (d l : ℕ) (E : List Sym) (rest : List W) (s : St) → T (not body || returns ss) → map (λ (i : ℕ). word_at c i) is ≡ xs
       → OkSs (suc l) (bound (suc l) xs E) ss → Ahead c l E true (lbrace ∷ pr_ss ss (rbrace ∷ rest)) s
       → Res ((walkers c d).block body is s) (λ u. Got c l (env_ss (suc l) (bound (suc l) xs E) ss) true (block_labs (suc l) ss) rest s.nodes)
-  unfolding walkers block_part init_scope close_scope set_level Res of_size scope_of text_of has_token member go_on if◌then◌else◌
+  unfolding walkers block_part init_scope close_scope set_level Res of_size scope_of text_of has_token member go_on if◌then◌otherwise◌
   block-ok ss all body is xs zero l E rest s t ex k p = tt
   block-ok ss all body is xs (suc d) l E rest s t ex k p =
       let ws : List W = pr_ss ss (rbrace ∷ rest) in
@@ -300,12 +300,12 @@ module _ (c : Ctx) where
 
   -- what is no variable and no function is a statement
   to-stmt : (r : Rec) (l : ℕ) (E : List Sym) (ws : List W) (s : St) (Q : Unit {0} → St → Type 0) → Ahead c l E true ws s → eqb (first ws).kind Var ≡ false → eqb (first ws).kind Fn ≡ false → Res (stmt c r s) Q → Res (decl c r s) Q
-  unfolding decl go_on if◌then◌else◌
+  unfolding decl go_on if◌then◌otherwise◌
   to-stmt r l E ws s Q p e₁ e₂ h = no-else _ _ _ s Q (test (λ n. eqb n Var) false p e₁) (no-else _ _ _ s Q (test (λ n. eqb n Fn) false p e₂) h)
 
   -- an expression statement is read as it is
   expr-says : (e : Expr) → Says (expr_stmt e)
-  unfolding Says OkS pr_s stmt expr_part env_s renc_s scope_of text_of has_token member if◌then◌else◌ go_on
+  unfolding Says OkS pr_s stmt expr_part env_s renc_s scope_of text_of has_token member if◌then◌otherwise◌ go_on
   expr-says e d l E rest s k f p =
       let Q : Unit {0} → St → Type 0 = λ u. Got c l E true (bare ExprStmt false 1 ∷ renc e) rest s.nodes in
       let m : T (member (first (pr e (semi ∷ rest))).kind starters) = start c l E e true k (semi ∷ rest) in
@@ -320,7 +320,7 @@ module _ (c : Ctx) where
 
   -- a block is read as it is
   block-says : (ss : Stmts) → AllSay ss → Says (block ss)
-  unfolding Says OkS pr_s stmt env_s renc_s if◌then◌else◌ go_on
+  unfolding Says OkS pr_s stmt env_s renc_s if◌then◌otherwise◌ go_on
   block-says ss all d l E rest s k f p =
       let Q : Unit {0} → St → Type 0 = λ u. Got c l (env_ss (suc l) E ss) true (block_labs (suc l) ss) rest s.nodes in
       to-stmt (walkers c d) l E (lbrace ∷ pr_ss ss (rbrace ∷ rest)) s Q p refl refl
@@ -331,7 +331,7 @@ module _ (c : Ctx) where
 
   -- `return ;` is read as it is
   ret-says : Says ret
-  unfolding Says OkS pr_s stmt ret_stmt env_s renc_s scope_of text_of has_token member if◌then◌else◌ go_on
+  unfolding Says OkS pr_s stmt ret_stmt env_s renc_s scope_of text_of has_token member if◌then◌otherwise◌ go_on
   ret-says d l E rest s k f p =
       let Q : Unit {0} → St → Type 0 = λ u. Got c l E true (bare ReturnStmt false 0 ∷ []) rest s.nodes in
       to-stmt (walkers c d) l E (return_word ∷ semi ∷ rest) s Q p refl refl
@@ -345,7 +345,7 @@ module _ (c : Ctx) where
 
   -- a return with a value is read as it is
   ret_expr-says : (e : Expr) → Says (ret_expr e)
-  unfolding Says OkS pr_s stmt ret_stmt env_s renc_s scope_of text_of has_token member if◌then◌else◌ go_on
+  unfolding Says OkS pr_s stmt ret_stmt env_s renc_s scope_of text_of has_token member if◌then◌otherwise◌ go_on
   ret_expr-says e d l E rest s k f p =
       let Q : Unit {0} → St → Type 0 = λ u. Got c l E true (bare ReturnStmt false 1 ∷ renc e) rest s.nodes in
       to-stmt (walkers c d) l E (return_word ∷ pr e (semi ∷ rest)) s Q p refl refl

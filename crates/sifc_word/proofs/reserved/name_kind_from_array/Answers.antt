@@ -1,26 +1,26 @@
 use borrow.Author.Rules.{rules}
 use mathlib.Core.Path.{refl, sym, ◌∙◌}
 use lib.ListN.{drop}
-use Rattle.sifc_word.specs.Base.{if◌then◌else◌}
+use Rattle.sifc_word.specs.Base.{if◌then◌otherwise◌}
 use Rattle.sifc_word.specs.Reserved.{reserved_words, kind_among, name_kind}
 use Rattle.sifc_word.proofs.reserved.name_kind_from_array.Goals as goal
 
 pub returns-then-same : goal.returns-then-same
-unfolding kind_among reserved_words if◌then◌else◌
+unfolding kind_among reserved_words if◌then◌otherwise◌
 returns-then-same c = rw (sym c.same.ensures ∙ c.if-same.true) refl
 
 pub returns-then-same-2 : goal.returns-then-same-2
-unfolding kind_among reserved_words if◌then◌else◌
+unfolding kind_among reserved_words if◌then◌otherwise◌
 returns-then-same-2 c = rw (sym c.same.ensures ∙ c.if-same.false, sym c.same-2.ensures ∙ c.if-same-2.true) refl
 
 pub returns-then-same-3 : goal.returns-then-same-3
-unfolding kind_among reserved_words if◌then◌else◌
+unfolding kind_among reserved_words if◌then◌otherwise◌
 returns-then-same-3 c = rw (sym c.same.ensures ∙ c.if-same.false, sym c.same-2.ensures ∙ c.if-same-2.false, sym c.same-3.ensures ∙ c.if-same-3.true) refl
 
 pub returns-then-same-4 : goal.returns-then-same-4
-unfolding kind_among reserved_words if◌then◌else◌
+unfolding kind_among reserved_words if◌then◌otherwise◌
 returns-then-same-4 c = rw (sym c.same.ensures ∙ c.if-same.false, sym c.same-2.ensures ∙ c.if-same-2.false, sym c.same-3.ensures ∙ c.if-same-3.false, sym c.same-4.ensures ∙ c.if-same-4.true) refl
 
 pub returns : goal.returns
-unfolding kind_among reserved_words if◌then◌else◌
+unfolding kind_among reserved_words if◌then◌otherwise◌
 returns c = rw (sym c.same.ensures ∙ c.if-same.false, sym c.same-2.ensures ∙ c.if-same-2.false, sym c.same-3.ensures ∙ c.if-same-3.false, sym c.same-4.ensures ∙ c.if-same-4.false) c.name_kind_from_for.ensures

@@ -10,7 +10,7 @@ use Rattle.std.proofs.Math.Nat.{zero-add}
 use Rattle.std.proofs.Math.Dec.{T, eqb}
 use Rattle.std.proofs.Math.ListN.{length}
 use Rattle.std.proofs.lemmas.List.{length-map}
-use Rattle.sifc_word.specs.Base.{if◌then◌else◌, member}
+use Rattle.sifc_word.specs.Base.{if◌then◌otherwise◌, member}
 use Rattle.sifc_word.specs.Kind.{LeftParen, RightParen, LeftBracket, Semicolon, Eq, Comma, DoubleLeftBracket, Ident, Var, Fn, If, Elif, Else, For, In as InKind, Eof}
 use Rattle.sifc_def.specs.declared.Why.{Why}
 use Rattle.sifc_def.specs.declared.Why.TheVariants.{InvalidIfStmt, ExpectedIdent}
@@ -37,7 +37,7 @@ module _ (c : Ctx) where
 
   -- the value that follows `=`, an expression
   initial-expr : (i : ℕ) (e : Expr) (d l : ℕ) (E : List Sym) (rest : List W) (s : St) → Ok (seen l E) true e → Ahead c l E true (pr e (semi ∷ rest)) s → Res (initial c (walkers c d) i s) (λ u. Got c l E true (renc e) rest s.nodes)
-  unfolding initial Res member go_on if◌then◌else◌
+  unfolding initial Res member go_on if◌then◌otherwise◌
   initial-expr i e d l E rest s k p =
       let Q : Unit {0} → St → Type 0 = λ u. Got c l E true (renc e) rest s.nodes in
       let m : T (member (first (pr e (semi ∷ rest))).kind starters) = start c l E e true k (semi ∷ rest) in
@@ -49,19 +49,19 @@ module _ (c : Ctx) where
 
   -- the value that follows `=`, an array
   initial-array : (i : ℕ) (x : W) (es : Exprs) (d l : ℕ) (E : List Sym) (rest : List W) (s : St) → word_at c i ≡ x → Oks (seen l E) true es → Ahead c l E true (lb ∷ prs es (rb ∷ semi ∷ rest)) s → Res (initial c (walkers c d) i s) (λ u. Got c l (stored l x E) true (renc_array x es) rest s.nodes)
-  unfolding initial go_on if◌then◌else◌
+  unfolding initial go_on if◌then◌otherwise◌
   initial-array i x es d l E rest s ew k p = yes-then _ _ _ s _ (test (λ n. eqb n LeftBracket) true p refl) (array_ok c i x es d l E rest s ew k p)
 
   -- the value that follows `=`, a table
   initial-table : (i : ℕ) (x : W) (is : Items) (d l : ℕ) (E : List Sym) (rest : List W) (s : St) → word_at c i ≡ x → OkItems (seen l E) is → Ahead c l E true (dlb ∷ pr_items is (drb ∷ semi ∷ rest)) s → Res (initial c (walkers c d) i s) (λ u. Got c l (stored l x E) true (said Table false 1 x ∷ bare ItemList false (many_items is) ∷ renc_items is) rest s.nodes)
-  unfolding initial go_on if◌then◌else◌
+  unfolding initial go_on if◌then◌otherwise◌
   initial-table i x is d l E rest s ew k p = no-else _ _ _ s _ (test (λ n. eqb n LeftBracket) false p refl) (yes-then _ _ _ s _ (test (λ n. eqb n DoubleLeftBracket) true p refl) (table-ok c i x is d l E rest s ew k p))
 
   -- a variable whose value is read so
   var-ok : (x : W) (d l : ℕ) (E E₁ : List Sym) (L : List Lab) (ws rest : List W) (s : St) → x.kind ≡ Ident
       → ((s₁ : St) → Ahead c l E true ws s₁ → Res (initial c (walkers c d) (suc s.at) s₁) (λ u. Got c l E₁ true L rest s₁.nodes))
       → Ahead c l E true (var_word ∷ x ∷ eq ∷ ws) s → Res (decl c (walkers c d) s) (λ u. Got c l (declared l x E₁) true (said VarDecl (global_at l) 1 x ∷ L) rest s.nodes)
-  unfolding decl var_decl go_on if◌then◌else◌
+  unfolding decl var_decl go_on if◌then◌otherwise◌
   var-ok x d l E E₁ L ws rest s xk init p =
       let Q : Unit {0} → St → Type 0 = λ u. Got c l (declared l x E₁) true (said VarDecl (global_at l) 1 x ∷ L) rest s.nodes in
       yes-then _ _ _ s Q (test (λ n. eqb n Var) true p refl)
@@ -75,7 +75,7 @@ module _ (c : Ctx) where
 
   -- a variable without value is read as it is
   var_none-says : (x : W) → Says c (var_none x)
-  unfolding Says OkS pr_s env_s renc_s decl var_decl go_on if◌then◌else◌
+  unfolding Says OkS pr_s env_s renc_s decl var_decl go_on if◌then◌otherwise◌
   var_none-says x d l E rest s k f p =
       let Q : Unit {0} → St → Type 0 = λ u. Got c l (declared l x E) true (said VarDecl (global_at l) 0 x ∷ []) rest s.nodes in
       yes-then _ _ _ s Q (test (λ n. eqb n Var) true p refl)
@@ -118,7 +118,7 @@ module _ (c : Ctx) where
 
   -- a comma, or none before `)`
   sep-names : (xs : List W) (l : ℕ) (E : List Sym) (rest : List W) (s : St) → Ahead c l E true (between_names xs (pr_names xs (rp ∷ rest))) s → Res (separator c s) (λ u. Sepd l E (pr_names xs (rp ∷ rest)) s.nodes)
-  unfolding separator between_names pr_names Res go_on if◌then◌else◌
+  unfolding separator between_names pr_names Res go_on if◌then◌otherwise◌
   sep-names [] l E rest s p = no-else _ _ _ s _ (test (λ k. not (eqb k RightParen)) false p refl) (record { same_nodes = refl; pre = p })
   sep-names (x ∷ xs) l E rest s p =
       yes-then _ _ _ s _ (test (λ k. not (eqb k RightParen)) true p refl)
@@ -127,7 +127,7 @@ module _ (c : Ctx) where
   -- parameters are read as they are
   params_ok : (xs : List W) (f n l : ℕ) (E : List Sym) (rest : List W) (s : St) → OkNames xs → n + length xs ≤ 64 → length xs ≤ f → Ahead c l E true (pr_names xs (rp ∷ rest)) s
       → Res (param_list c (param c) f n s) (Params xs n l E (rp ∷ rest) s.nodes)
-  unfolding param_list param pr_names OkNames renc_names Res go_on if◌then◌else◌
+  unfolding param_list param pr_names OkNames renc_names Res go_on if◌then◌otherwise◌
   params_ok [] zero n l E rest s k small len p = record { num = omega arith; toks = []; spelt = refl; nodes = refl; got = record { pre = p; made = made_none } }
   params_ok [] (suc f) n l E rest s k small len p = yes-then _ _ _ s _ (test (λ k. eqb k RightParen) true p refl) (record { num = omega arith; toks = []; spelt = refl; nodes = refl; got = record { pre = p; made = made_none } })
   params_ok (x ∷ xs) zero n l E rest s k small len p = absurd (not-suc-le-zero len)
@@ -161,7 +161,7 @@ module _ (c : Ctx) where
 
   -- a function is read as it is
   func-says : (x : W) (ns : List W) (ss : Stmts) → AllSay c ss → Says c (func x ns ss)
-  unfolding Says OkS pr_s env_s renc_s inside decl fn_decl erased scope_of text_of has_token member go_on if◌then◌else◌
+  unfolding Says OkS pr_s env_s renc_s inside decl fn_decl erased scope_of text_of has_token member go_on if◌then◌otherwise◌
   func-says x xs ss all d l E rest s k f p =
       let Q : Unit {0} → St → Type 0 = λ u. Got c l (put_at l (name_of x) (Function (length xs)) (env_ss (suc l) (bound (suc l) xs (put_at l (name_of x) Placeholder E)) ss)) true (said FnDecl false 2 x ∷ (block_labs c (suc l) ss ++ (bare FnParams false (length xs) ∷ renc_names xs))) rest s.nodes in
       let i : ℕ = suc s.at in
@@ -206,13 +206,13 @@ module _ (c : Ctx) where
 
   -- a second `else` lists an error, and nothing else changes
   end_if-ok : (n elses : ℕ) (s : St) (l : ℕ) (E : List Sym) (L : List Lab) (rest : List W) (ns : List Node) → Got c l E true L rest ns s → Res (end_if c n elses s) (λ u. Got c l E true (bare IfStmt false (2 + n) ∷ L) rest ns)
-  unfolding end_if Res scope_of text_of has_token member go_on if◌then◌else◌
+  unfolding end_if Res scope_of text_of has_token member go_on if◌then◌otherwise◌
   end_if-ok n elses s l E L rest ns h =
-      and_then (if◌then◌else◌ {A = Void} (ltb 1 elses) (add_error c InvalidIfStmt >> ok) ok s) _ (λ u. Got c l E true L rest ns) (λ u. Got c l E true (bare IfStmt false (2 + n) ∷ L) rest ns)
+      and_then (if◌then◌otherwise◌ {A = Void} (ltb 1 elses) (add_error c InvalidIfStmt >> ok) ok s) _ (λ u. Got c l E true L rest ns) (λ u. Got c l E true (bare IfStmt false (2 + n) ∷ L) rest ns)
       (go (ltb 1 elses))
       (λ u s₁ h₁. push_ok c IfStmt false (2 + n) 0 s₁ (λ u. Got c l E true (bare IfStmt false (2 + n) ∷ L) rest ns) (record { pre = h₁.pre; made = made-push refl h₁.made }))
     where
-      go : (v : Bool) → Res (if◌then◌else◌ {A = Void} v (add_error c InvalidIfStmt >> ok) ok s) (λ u. Got c l E true L rest ns)
+      go : (v : Bool) → Res (if◌then◌otherwise◌ {A = Void} v (add_error c InvalidIfStmt >> ok) ok s) (λ u. Got c l E true L rest ns)
       go true =
           and_then (add_error c InvalidIfStmt s) _ (λ e s₁. s₁ ≡ listed (err s.at InvalidIfStmt) s) (λ u. Got c l E true L rest ns)
           (add_ok InvalidIfStmt s (λ e s₁. s₁ ≡ listed (err s.at InvalidIfStmt) s) refl)
@@ -242,7 +242,7 @@ module _ (c : Ctx) where
   -- the further branches and the end of an `if`, over what was read of it
   branches-ok : (bs : Branches) → AllBranches bs → (d f n elses l : ℕ) (E : List Sym) (L : List Lab) (rest : List W) (ns : List Node) (s : St) → OkBs l E bs → many_branches bs ≤ f → Follow rest → Got c l E true L (pr_bs bs rest) ns s
       → Res (branches c (walkers c d) f n elses s) (λ u. Got c l (env_bs l E bs) true (bare IfStmt false (2 + (n + many_branches bs)) ∷ (renc_bs l bs ++ L)) rest ns)
-  unfolding AllBranches branches elif_stmt else_block pr_bs OkBs env_bs renc_bs many_branches Follow Res scope_of text_of has_token member go_on if◌then◌else◌
+  unfolding AllBranches branches elif_stmt else_block pr_bs OkBs env_bs renc_bs many_branches Follow Res scope_of text_of has_token member go_on if◌then◌otherwise◌
   branches-ok no_branch all d zero n elses l E L rest ns s k len f h = rw (add-zero n) (end_if-ok n elses s l E L rest ns h)
   branches-ok no_branch all d (suc fu) n elses l E L rest ns s k len f h =
       no-else _ _ _ s _ (test (λ m. eqb m Elif) false h.pre f.0)
@@ -279,7 +279,7 @@ module _ (c : Ctx) where
 
   -- an `if` is read as it is
   cond-says : (e : Expr) (ss : Stmts) (bs : Branches) → AllSay c ss → AllBranches bs → Says c (cond e ss bs)
-  unfolding Says OkS pr_s env_s renc_s stmt if_stmt if◌then◌else◌ go_on
+  unfolding Says OkS pr_s env_s renc_s stmt if_stmt if◌then◌otherwise◌ go_on
   cond-says e ss bs all allb d l E rest s k f p =
       let E₁ : List Sym = env_ss (suc l) E ss in
       let Q : Unit {0} → St → Type 0 = λ u. Got c l (env_bs l E₁ bs) true (bare IfStmt false (2 + many_branches bs) ∷ (renc_bs l bs ++ (block_labs c (suc l) ss ++ renc e))) rest s.nodes in
@@ -301,7 +301,7 @@ module _ (c : Ctx) where
 
   -- two names are read as they are
   pair_ok : (x y : W) (l : ℕ) (E : List Sym) (rest : List W) (s : St) → x.kind ≡ Ident → y.kind ≡ Ident → Ahead c l E true (x ∷ comma ∷ y ∷ rest) s → Res (ident_pair c s) (Pair x y l E rest s.nodes)
-  unfolding ident_pair Res scope_of text_of has_token member if◌then◌else◌ go_on
+  unfolding ident_pair Res scope_of text_of has_token member if◌then◌otherwise◌ go_on
   pair_ok x y l E rest s xk yk p =
       let Q : List ℕ → St → Type 0 = Pair x y l E rest s.nodes in
       let s₁ : St = stepped (pushed PrimaryExpr false 0 s.at s) in
@@ -322,7 +322,7 @@ module _ (c : Ctx) where
 
   -- a `for` is read as it is
   loop-says : (x y : W) (e : Expr) (ss : Stmts) → AllSay c ss → Says c (loop x y e ss)
-  unfolding Says OkS pr_s env_s renc_s stmt for_stmt scope_of text_of has_token member if◌then◌else◌ go_on
+  unfolding Says OkS pr_s env_s renc_s stmt for_stmt scope_of text_of has_token member if◌then◌otherwise◌ go_on
   loop-says x y e ss all d l E rest s k f p =
       let E₁ : List Sym = env_ss (suc l) (bound (suc l) (x ∷ y ∷ []) E) ss in
       let P : List Lab = bare IdentPair false 2 ∷ prim_lab y ∷ prim_lab x ∷ [] in
