@@ -27,7 +27,7 @@ use Rattle.sifc_parse.proofs.Inside.{expect-level, names-kept, count-used, fits-
 use Rattle.sifc_parse.proofs.parser.+declarations.Goals as goal
 
 pub block-returns-then-depth-eq0 : goal.block-returns-then-depth-eq0
-block-returns-then-depth-eq0 t c = record { does = λ j jl jn. record { tells = λ E e t. told t (refused (block_none _ _ _ _ c.if1.true)) } }
+block-returns-then-depth-eq0 t c = record { does = λ j jl jn. record { tells = λ E e t. told t (refused (block_none _ _ _ _ c.if-depth-eq0.true)) } }
 
 pub block-overflow_sub-below : goal.block-overflow_sub-below
 block-overflow_sub-below t c = omega (arith, c.if-depth-eq0.false)
