@@ -1,6 +1,5 @@
-// The errors of a script, out of error records that one function owns. That function is proved by a walk
-// of its code: a reference to a slice of structs is not covered.
-ghost use Rattle.std.specs.Prelude.{◌≡◌};
+// The errors of a script, out of error records that one function owns.
+ghost use Rattle.std.specs.Prelude.{◌≡◌, IfOk};
 ghost use Rattle.sifc_lent.specs.Parts.{arrays};
 ghost use Rattle.sifc_records.specs.Records.{reading_records, blank_records};
 ghost use Rattle.sifc_records.proofs.RecordLaws.{errors_of, call_of};
@@ -11,57 +10,59 @@ use sifc_def::Reading;
 use sifc_err::{ParseErr, ParseErrTy, Token};
 use sifc_record::blank;
 use sifc_records::reading_records;
+use std::io;
+use std::io::Write;
 
 fn wide(n: u32) -> usize {
     n as usize
 }
 
 // A number, and a space before it.
-fn print_next(n: usize) {
-    print(b" ");
-    print_number(n);
+fn print_next<W: Write>(out: &mut W, n: usize) -> io::Result<()> {
+    print(out, b" ")?;
+    print_number(out, n)
 }
 
 // Kind, offset and length of a token.
-fn print_token(token: Token) {
-    print_next(wide(token.kind));
-    print_next(token.off);
-    print_next(token.len);
+fn print_token<W: Write>(out: &mut W, token: Token) -> io::Result<()> {
+    print_next(out, wide(token.kind))?;
+    print_next(out, token.off)?;
+    print_next(out, token.len)
 }
 
 // What a reason carries: a token, an expected kind before it, a message or counts.
-fn print_carried(ty: ParseErrTy) {
+fn print_carried<W: Write>(out: &mut W, ty: ParseErrTy) -> io::Result<()> {
     match ty {
-        ParseErrTy::NoReason => {}
-        ParseErrTy::InvalidIdent(token) => print_token(token),
-        ParseErrTy::InvalidTkn(token) => print_token(token),
-        ParseErrTy::InvalidTknMsg(message) => print_next(wide(message)),
-        ParseErrTy::InvalidAssign(token) => print_token(token),
-        ParseErrTy::InvalidForStmt => {}
-        ParseErrTy::InvalidIfStmt => {}
+        ParseErrTy::NoReason => Ok(()),
+        ParseErrTy::InvalidIdent(token) => print_token(out, token),
+        ParseErrTy::InvalidTkn(token) => print_token(out, token),
+        ParseErrTy::InvalidTknMsg(message) => print_next(out, wide(message)),
+        ParseErrTy::InvalidAssign(token) => print_token(out, token),
+        ParseErrTy::InvalidForStmt => Ok(()),
+        ParseErrTy::InvalidIfStmt => Ok(()),
         ParseErrTy::TknMismatch(kind, token) => {
-            print_next(wide(kind));
-            print_token(token);
+            print_next(out, wide(kind))?;
+            print_token(out, token)
         }
-        ParseErrTy::FnParmCntExceeded(count) => print_next(count),
+        ParseErrTy::FnParmCntExceeded(count) => print_next(out, count),
         ParseErrTy::WrongFnParmCnt(expected, count) => {
-            print_next(expected);
-            print_next(count);
+            print_next(out, expected)?;
+            print_next(out, count)
         }
-        ParseErrTy::UndeclSym(token) => print_token(token),
-        ParseErrTy::UnassignedVar(token) => print_token(token),
-        ParseErrTy::ExpectedIdent(token) => print_token(token),
+        ParseErrTy::UndeclSym(token) => print_token(out, token),
+        ParseErrTy::UnassignedVar(token) => print_token(out, token),
+        ParseErrTy::ExpectedIdent(token) => print_token(out, token),
     }
 }
 
 // Line, column and reason number of an error, and what the reason carries.
-fn print_error(e: ParseErr) {
+fn print_error<W: Write>(out: &mut W, e: ParseErr) -> io::Result<()> {
     let ty = e.ty;
-    print_number(e.line);
-    print_next(e.pos);
-    print_next(wide(ty.number()));
-    print_carried(ty);
-    print(b"\n");
+    print_number(out, e.line)?;
+    print_next(out, e.pos)?;
+    print_next(out, wide(ty.number()))?;
+    print_carried(out, ty)?;
+    print(out, b"\n")
 }
 
 // How many errors a reading has listed.
@@ -74,8 +75,10 @@ fn listed(said: Reading) -> usize
     }
 }
 
-// Reads a script and prints its errors, a line each. It owns 1,024 error records and lends them.
-pub fn show_errors(
+// Reads a script and prints its errors, a line each. It owns 1,024 error records and lends them. Where
+// the writer fails, the arrays are those of the reading all the same.
+pub fn show_errors<W: Write>(
+    out: &mut W,
     script: &[u8],
     offs: &mut [u32],
     words: &mut [u32],
@@ -84,8 +87,9 @@ pub fn show_errors(
     symbols: &mut [u32],
     places: &mut [u32],
     reasons: &mut [u32],
-) -> Reading
-    ensures { called result (arrays offs.new words.new heads.new loads.new symbols.new places.new reasons.new) ≡ call_of (reading_records script.now (arrays offs.old words.old heads.old loads.old symbols.old places.old reasons.old) (blank_records 1024)) }
+) -> io::Result<Reading>
+    ensures answer { IfOk result (λ said. called said (arrays offs.new words.new heads.new loads.new symbols.new places.new reasons.new) ≡ call_of (reading_records script.now (arrays offs.old words.old heads.old loads.old symbols.old places.old reasons.old) (blank_records 1024))) }
+    ensures memory { arrays offs.new words.new heads.new loads.new symbols.new places.new reasons.new ≡ (reading_records script.now (arrays offs.old words.old heads.old loads.old symbols.old places.old reasons.old) (blank_records 1024)).arrays }
 {
     let e = blank();
     let mut errors = [e; 1024];
@@ -101,10 +105,8 @@ pub fn show_errors(
         &mut errors,
     );
     let n = listed(said);
-    let mut i = 0;
-    while i < n {
-        print_error(errors[i]);
-        i = i + 1;
+    for i in 0..n {
+        print_error(out, errors[i])?;
     }
-    said
+    Ok(said)
 }

@@ -1,6 +1,8 @@
 // The kinds of a script's tokens, by stepping a lexing view.
 use sif_show::{print, print_number};
 use sifc_view::token_from;
+use std::io;
+use std::io::Write;
 
 const EOF: u32 = 47;
 
@@ -12,21 +14,19 @@ fn wide(kind: u32) -> usize {
 }
 
 // The kinds on one line, with a space between; an Eof or a lexing panic is the last.
-pub fn print_kinds(script: &[u8]) {
+pub fn print_kinds<W: Write>(out: &mut W, script: &[u8]) -> io::Result<()> {
     let mut off = 0;
-    let mut n = 0;
-    while n < MOST {
+    for n in 0..MOST {
         let lexed = token_from(script, off);
         let token = lexed.token;
         if 0 < n {
-            print(b" ");
+            print(out, b" ")?;
         }
-        print_number(wide(token.kind));
+        print_number(out, wide(token.kind))?;
         if EOF <= token.kind {
             break;
         }
         off = lexed.next;
-        n += 1;
     }
-    print(b"\n");
+    print(out, b"\n")
 }

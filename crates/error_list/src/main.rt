@@ -5,33 +5,37 @@
 mod errors;
 mod kinds;
 
-use libc::STDIN_FILENO;
 use sif_show::print;
 use sifc_def::Reading;
 use sifc_err::Refusal;
+use std::io;
+use std::io::{BufWriter, Read, Write};
 
 // The longest script that is listed.
 const MOST: usize = 4096;
 
 // After the errors, whether has_err is up; or a refusal.
-fn print_answer(said: Reading) {
+fn print_answer<W: Write>(out: &mut W, said: Reading) -> io::Result<()> {
     match said {
         Reading::Read(summary) => {
             if summary.flag {
-                print(b"flag up\n");
+                print(out, b"flag up\n")
             } else {
-                print(b"flag down\n");
+                print(out, b"flag down\n")
             }
         }
         Reading::Refused(refusal) => {
-            sif_show::print_refusal(refusal);
-            print(b"\n");
+            sif_show::print_refusal(out, refusal)?;
+            print(out, b"\n")
         }
     }
 }
 
-fn main() {
-    let mut script = [0u8; 4097];
+// Prints what the program prints of a script.
+fn answer<W: Write>(out: &mut W, script: &[u8]) -> io::Result<()> {
+    if MOST < script.len() {
+        return print_answer(out, Reading::Refused(Refusal::LongScript));
+    }
     let mut offs = [0u32; 4097];
     let mut words = [0u32; 4097];
     let mut heads = [0u32; 4097];
@@ -39,15 +43,10 @@ fn main() {
     let mut symbols = [0u32; 8192];
     let mut places = [0u32; 1024];
     let mut reasons = [0u32; 1024];
-    let n = io::read_full(STDIN_FILENO, &mut script);
-    if MOST < n {
-        print_answer(Reading::Refused(Refusal::LongScript));
-        return;
-    }
-    let text = &script[..n];
-    kinds::print_kinds(text);
+    kinds::print_kinds(out, script)?;
     let said = errors::show_errors(
-        text,
+        out,
+        script,
         &mut offs,
         &mut words,
         &mut heads,
@@ -55,6 +54,14 @@ fn main() {
         &mut symbols,
         &mut places,
         &mut reasons,
-    );
-    print_answer(said);
+    )?;
+    print_answer(out, said)
+}
+
+fn main(rt: HostRuntime) -> io::Result<()> {
+    let mut script = Vec::new(rt.alloc());
+    rt.stdin().take(MOST as u64 + 1).read_to_end(&mut script)?;
+    let mut out = BufWriter::new(rt.alloc(), rt.stdout())?;
+    answer(&mut out, script.as_slice())?;
+    out.flush()
 }

@@ -3,17 +3,23 @@
 // readings are the Rust's.
 #![tactic(auto)]
 
-use libc::STDIN_FILENO;
 use sif_show::{after_newline, entry_at};
+use std::io;
+use std::io::{BufWriter, Read, Write};
 
-fn main() {
-    let mut buffer = [0u8; 131072];
-    let n = io::read_full(STDIN_FILENO, &mut buffer);
-    replay_all(&buffer[..n]);
+// The longest list that is read.
+const MOST: u64 = 131072;
+
+fn main(rt: HostRuntime) -> io::Result<()> {
+    let mut list = Vec::new(rt.alloc());
+    rt.stdin().take(MOST).read_to_end(&mut list)?;
+    let mut out = BufWriter::new(rt.alloc(), rt.stdout())?;
+    replay_all(&mut out, list.as_slice())?;
+    out.flush()
 }
 
 // Prints the answer for one script.
-fn answer(script: &[u8]) {
+fn answer<W: Write>(out: &mut W, script: &[u8]) -> io::Result<()> {
     let mut offs = [0u32; 4097];
     let mut words = [0u32; 4097];
     let mut heads = [0u32; 4097];
@@ -22,6 +28,7 @@ fn answer(script: &[u8]) {
     let mut places = [0u32; 1024];
     let mut reasons = [0u32; 1024];
     let said = read_show::list(
+        out,
         script,
         &mut offs,
         &mut words,
@@ -30,23 +37,22 @@ fn answer(script: &[u8]) {
         &mut symbols,
         &mut places,
         &mut reasons,
-    );
-    read_show::print_rest(said, &reasons);
+    )?;
+    read_show::print_rest(out, said, &reasons)
 }
 
 // The entries one after the other; each is longer than nothing, or the list is over.
-fn replay_all(list: &[u8]) {
+fn replay_all<W: Write>(out: &mut W, list: &[u8]) -> io::Result<()> {
     let mut at = 0;
-    let mut turns = list.len();
-    while 0 < turns {
+    for _ in 0..list.len() {
         if list.len() <= at {
-            return;
+            break;
         }
         let entry = entry_at(list, at);
         let from = entry.from;
         let end = entry.end;
-        answer(&list[from..end]);
+        answer(out, &list[from..end])?;
         at = after_newline(list, end);
-        turns -= 1;
     }
+    Ok(())
 }

@@ -1,7 +1,7 @@
 // What the programs print of readings.
 #![tactic(auto)]
 
-ghost use Rattle.std.specs.Prelude.{◌≡◌};
+ghost use Rattle.std.specs.Prelude.{◌≡◌, IfOk};
 ghost use Rattle.sifc_def.specs.Read.{called};
 ghost use Rattle.sifc_lent.specs.Parts.{arrays};
 ghost use Rattle.read_show.specs.Listing.{listed};
@@ -9,6 +9,8 @@ ghost use Rattle.read_show.specs.Listing.{listed};
 use sif_show::{print, print_number};
 use sifc_def::{Early, Reading, Summary};
 use sifc_err::{ParseErr, ParseErrTy, Refusal};
+use std::io;
+use std::io::Write;
 
 // The longest script that is listed.
 const MOST: usize = 4096;
@@ -22,70 +24,79 @@ fn digit(b: bool) -> usize {
 }
 
 // A number, and a space before it.
-fn print_next(n: usize) {
-    print(b" ");
-    print_number(n);
+fn print_next<W: Write>(out: &mut W, n: usize) -> io::Result<()> {
+    print(out, b" ")?;
+    print_number(out, n)
 }
 
 // The first n words of an array on one line, with a space between.
-fn print_words(words: &[u32], n: usize) {
-    let mut i = 0;
-    while i < n {
+fn print_words<W: Write>(out: &mut W, words: &[u32], n: usize) -> io::Result<()> {
+    for i in 0..n {
         if words.len() <= i {
             break;
         }
         if 0 < i {
-            print(b" ");
+            print(out, b" ")?;
         }
-        print_number(wide(words[i]));
-        i += 1;
+        print_number(out, wide(words[i]))?;
     }
-    print(b"\n");
+    print(out, b"\n")
 }
 
 // Line, column and reason number of an error, from its two words.
-fn print_error(place: u32, reason: u32) {
-    print_number(wide(place / 65536 + 1));
-    print_next(wide(place % 65536));
-    print_next(wide(reason % 16));
-    print(b"\n");
+fn print_error<W: Write>(out: &mut W, place: u32, reason: u32) -> io::Result<()> {
+    print_number(out, wide(place / 65536 + 1))?;
+    print_next(out, wide(place % 65536))?;
+    print_next(out, wide(reason % 16))?;
+    print(out, b"\n")
 }
 
 // The first n errors, a line each.
-fn print_errors(places: &[u32], reasons: &[u32], n: usize) {
-    let mut i = 0;
-    while i < n {
+fn print_errors<W: Write>(
+    out: &mut W,
+    places: &[u32],
+    reasons: &[u32],
+    n: usize,
+) -> io::Result<()> {
+    for i in 0..n {
         if places.len() <= i {
-            return;
+            break;
         }
         if reasons.len() <= i {
-            return;
+            break;
         }
-        print_error(places[i], reasons[i]);
-        i += 1;
+        print_error(out, places[i], reasons[i])?;
     }
+    Ok(())
 }
 
 // The counts and the flag.
-fn print_counts(summary: Summary) {
-    print_number(summary.tokens);
-    print_next(summary.nodes);
-    print_next(summary.errors);
-    print_next(digit(summary.flag));
-    print(b"\n");
+fn print_counts<W: Write>(out: &mut W, summary: Summary) -> io::Result<()> {
+    print_number(out, summary.tokens)?;
+    print_next(out, summary.nodes)?;
+    print_next(out, summary.errors)?;
+    print_next(out, digit(summary.flag))?;
+    print(out, b"\n")
 }
 
-fn print_answer(said: Reading, heads: &[u32], loads: &[u32], places: &[u32], reasons: &[u32]) {
+fn print_answer<W: Write>(
+    out: &mut W,
+    said: Reading,
+    heads: &[u32],
+    loads: &[u32],
+    places: &[u32],
+    reasons: &[u32],
+) -> io::Result<()> {
     match said {
         Reading::Read(summary) => {
-            print_counts(summary);
-            print_words(heads, summary.nodes);
-            print_words(loads, summary.nodes);
-            print_errors(places, reasons, summary.errors);
+            print_counts(out, summary)?;
+            print_words(out, heads, summary.nodes)?;
+            print_words(out, loads, summary.nodes)?;
+            print_errors(out, places, reasons, summary.errors)
         }
         Reading::Refused(refusal) => {
-            sif_show::print_refusal(refusal);
-            print(b"\n");
+            sif_show::print_refusal(out, refusal)?;
+            print(out, b"\n")
         }
     }
 }
@@ -114,8 +125,9 @@ fn read(
 
 // Lists a script: the counts and the flag; the first words of the nodes; their second words; and for
 // each error a line with its line, column and reason number. A refusal is one line. Answers what the
-// reading answered.
-pub fn list(
+// reading answered. Where the writer fails, the arrays are those of the reading all the same.
+pub fn list<W: Write>(
+    out: &mut W,
     script: &[u8],
     offs: &mut [u32],
     words: &mut [u32],
@@ -124,54 +136,57 @@ pub fn list(
     symbols: &mut [u32],
     places: &mut [u32],
     reasons: &mut [u32],
-) -> Reading
-    ensures { called result (arrays offs.new words.new heads.new loads.new
+) -> io::Result<Reading>
+    ensures answer { IfOk result (λ said. called said (arrays offs.new words.new heads.new loads.new
         symbols.new places.new reasons.new)
         ≡ listed script.now (arrays offs.old words.old heads.old
-        loads.old symbols.old places.old reasons.old) }
+        loads.old symbols.old places.old reasons.old)) }
+    ensures memory { arrays offs.new words.new heads.new loads.new symbols.new places.new reasons.new
+        ≡ (listed script.now (arrays offs.old words.old heads.old
+        loads.old symbols.old places.old reasons.old)).arrays }
 {
     let said = read(script, offs, words, heads, loads, symbols, places, reasons);
-    print_answer(said, heads, loads, places, reasons);
-    said
+    print_answer(out, said, heads, loads, places, reasons)?;
+    Ok(said)
 }
 
 // Line, column and reason number of the error that ended a reading; the offset of the token that it
 // carries, else 0; and the kind that it expected, or its count.
-fn print_ending(err: ParseErr) {
+fn print_ending<W: Write>(out: &mut W, err: ParseErr) -> io::Result<()> {
     let ty = err.ty;
-    print_number(err.line);
-    print_next(err.pos);
-    print_next(wide(ty.number()));
+    print_number(out, err.line)?;
+    print_next(out, err.pos)?;
+    print_next(out, wide(ty.number()))?;
     match ty {
         ParseErrTy::TknMismatch(kind, token) => {
-            print_next(token.off);
-            print_next(wide(kind));
+            print_next(out, token.off)?;
+            print_next(out, wide(kind))?;
         }
         ParseErrTy::FnParmCntExceeded(count) => {
-            print_next(0);
-            print_next(count);
+            print_next(out, 0)?;
+            print_next(out, count)?;
         }
         _ => {}
     }
-    print(b"\n");
+    print(out, b"\n")
 }
 
-fn print_early(early: Early) {
+fn print_early<W: Write>(out: &mut W, early: Early) -> io::Result<()> {
     match early {
-        Early::Never => print(b"none\n"),
-        Early::By(err) => print_ending(err),
+        Early::Never => print(out, b"none\n"),
+        Early::By(err) => print_ending(out, err),
     }
 }
 
 // What a listing leaves out: a line with the second words of the errors, whole, and a line for the
 // error that ended the reading.
-pub fn print_rest(said: Reading, reasons: &[u32]) {
+pub fn print_rest<W: Write>(out: &mut W, said: Reading, reasons: &[u32]) -> io::Result<()> {
     match said {
         Reading::Read(summary) => {
             let early = summary.early;
-            print_words(reasons, summary.errors);
-            print_early(early);
+            print_words(out, reasons, summary.errors)?;
+            print_early(out, early)
         }
-        Reading::Refused(_) => {}
+        Reading::Refused(_) => Ok(()),
     }
 }

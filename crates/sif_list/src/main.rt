@@ -2,10 +2,11 @@
 // counts and the flag, the first and the second words of the nodes, and the errors.
 #![tactic(auto)]
 
-use libc::STDIN_FILENO;
+use std::io;
+use std::io::{BufWriter, Read, Write};
 
-fn main() {
-    let mut script = [0u8; 4097];
+fn main(rt: HostRuntime) -> io::Result<()> {
+    let mut script = Vec::new(rt.alloc());
     let mut offs = [0u32; 4097];
     let mut words = [0u32; 4097];
     let mut heads = [0u32; 4097];
@@ -13,9 +14,11 @@ fn main() {
     let mut symbols = [0u32; 8192];
     let mut places = [0u32; 1024];
     let mut reasons = [0u32; 1024];
-    let n = io::read_full(STDIN_FILENO, &mut script);
+    rt.stdin().take(4097).read_to_end(&mut script)?;
+    let mut out = BufWriter::new(rt.alloc(), rt.stdout())?;
     read_show::list(
-        &script[..n],
+        &mut out,
+        script.as_slice(),
         &mut offs,
         &mut words,
         &mut heads,
@@ -23,5 +26,6 @@ fn main() {
         &mut symbols,
         &mut places,
         &mut reasons,
-    );
+    )?;
+    out.flush()
 }

@@ -2,17 +2,18 @@
 // line, as the listing program has it.
 #![tactic(auto)]
 
-use libc::STDIN_FILENO;
 use sif_show::print;
 use sifc_def::Texting;
 use sifc_err::Refusal;
 use sifc_word::part;
+use std::io;
+use std::io::{BufWriter, Read, Write};
 
 // The longest script that is read.
 const MOST: usize = 4096;
 
-fn main() {
-    let mut script = [0u8; 4097];
+fn main(rt: HostRuntime) -> io::Result<()> {
+    let mut script = Vec::new(rt.alloc());
     let mut offs = [0u32; 4097];
     let mut words = [0u32; 4097];
     let mut heads = [0u32; 4097];
@@ -21,9 +22,11 @@ fn main() {
     let mut places = [0u32; 1024];
     let mut reasons = [0u32; 1024];
     let mut text = [0u8; 16384];
-    let n = io::read_full(STDIN_FILENO, &mut script);
+    rt.stdin().take(MOST as u64 + 1).read_to_end(&mut script)?;
+    let mut out = BufWriter::new(rt.alloc(), rt.stdout())?;
     write(
-        &script[..n],
+        &mut out,
+        script.as_slice(),
         &mut offs,
         &mut words,
         &mut heads,
@@ -32,7 +35,8 @@ fn main() {
         &mut places,
         &mut reasons,
         &mut text,
-    );
+    )?;
+    out.flush()
 }
 
 // The text of a script of at most 4,096 bytes.
@@ -56,7 +60,8 @@ fn text_of(
 }
 
 // Prints the text of a script, or its refusal.
-fn write(
+fn write<W: Write>(
+    out: &mut W,
     script: &[u8],
     offs: &mut [u32],
     words: &mut [u32],
@@ -66,15 +71,15 @@ fn write(
     places: &mut [u32],
     reasons: &mut [u32],
     text: &mut [u8],
-) {
+) -> io::Result<()> {
     let said = text_of(
         script, offs, words, heads, loads, symbols, places, reasons, text,
     );
     match said {
-        Texting::Wrote(n) => print(part(text, 0, n)),
+        Texting::Wrote(n) => print(out, part(text, 0, n)),
         Texting::Refused(refusal) => {
-            sif_show::print_refusal(refusal);
-            print(b"\n");
+            sif_show::print_refusal(out, refusal)?;
+            print(out, b"\n")
         }
     }
 }
