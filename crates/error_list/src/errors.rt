@@ -1,8 +1,7 @@
 // The errors of a script, out of error records that one function owns.
 ghost use Rattle.std.specs.Prelude.{◌≡◌, IfOk};
 ghost use Rattle.sifc_lent.specs.Parts.{arrays};
-ghost use Rattle.sifc_records.specs.Records.{reading_records, blank_records};
-ghost use Rattle.sifc_records.proofs.RecordLaws.{errors_of, call_of};
+ghost use Rattle.sifc_records.specs.Records.{reading_records, blank_records, errors_of, call_of};
 ghost use Rattle.sifc_def.specs.Read.{called};
 
 use sif_show::{print, print_number};

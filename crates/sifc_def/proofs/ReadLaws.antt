@@ -16,7 +16,7 @@ use Rattle.sifc_tokens.proofs.PlaceLaws.{walked_none, walked_more, walked_line, 
 use Rattle.sifc_def.specs.declared.Err.{Err}
 use Rattle.sifc_def.specs.declared.Why.{Why}
 use Rattle.sifc_def.specs.declared.Why.TheVariants.{InvalidIdent, InvalidTkn, InvalidTknMsg, InvalidAssign, InvalidForStmt, InvalidIfStmt, TknMismatch, FnParmCntExceeded, WrongFnParmCnt, UndeclSym, UnassignedVar, ExpectedIdent}
-use Rattle.sifc_def.specs.Error.{ty_of, carried, carried_too, place_at, err_place, err_reason}
+use Rattle.sifc_def.specs.Error.{ty_of, carried, carried_too, place_at, err_place, err_reason, PlaceFits}
 use Rattle.sifc_def.specs.Label.{labels}
 use Rattle.sifc_def.specs.State.{Node, Ctx, Out, done, fail, refuse, tok_at}
 use Rattle.sifc_def.specs.Tree.{Tree, enc}
@@ -43,12 +43,6 @@ walked-sum s (suc i) h = rw (← add-one i, walked_more s i h) (omega (arith, ne
 walked-first : (s : List ℕ) (i : ℕ) → 1 ≤ (walked_to s i).line
 unfolding walked_to
 walked-first s i = omega arith
-
--- A token's place in a script of at most 65,535 bytes: the line is at most 65,536, the column at most 65,535.
-pub record PlaceFits (q : Place) : Type 0 where
-  pub first : 1 ≤ q.line
-  pub line : q.line ≤ 65536
-  pub pos : q.pos ≤ 65535
 
 pub place-fits : (s : List ℕ) (p : ℕ) → length s ≤ 65535 → PlaceFits (place_of s p)
 place-fits s p h = go (ltb p (length s)) refl (ltb 0 (walked_to s (length s)).pos) refl

@@ -1,6 +1,6 @@
 -- What an error of the walk stands for: a ParseErr, and its two words. "An error is a line, a column and a reason that carries its token, counts or fixed
 -- message."
-use Rattle.std.specs.Prelude.{ℕ, ◌+◌, ◌-◌, ◌*◌, Bool}
+use Rattle.std.specs.Prelude.{ℕ, ◌+◌, ◌-◌, ◌*◌, ◌≤◌, Bool}
 use Rattle.sifc_err.specs.declared.parse_err.ParseErr.{ParseErr}
 use Rattle.sifc_err.specs.declared.parse_err.ParseErrTy.{ParseErrTy}
 use Rattle.sifc_err.specs.declared.parse_err.ParseErrTy.TheVariants as Ty
@@ -11,6 +11,12 @@ use Rattle.sifc_def.specs.declared.Err.{Err}
 use Rattle.sifc_def.specs.declared.Why.{Why}
 use Rattle.sifc_def.specs.declared.Why.TheVariants.{InvalidIdent, InvalidTkn, InvalidTknMsg, InvalidAssign, InvalidForStmt, InvalidIfStmt, TknMismatch, FnParmCntExceeded, WrongFnParmCnt, UndeclSym, UnassignedVar, ExpectedIdent}
 use Rattle.sifc_def.specs.State.{Ctx, tok_at}
+
+-- A token's place in a script of at most 65,535 bytes: the line is at most 65,536, the column at most 65,535.
+pub record PlaceFits (q : Place) : Type 0 where
+  pub first : 1 ≤ q.line
+  pub line : q.line ≤ 65536
+  pub pos : q.pos ≤ 65535
 
 module _ (c : Ctx) where
   -- the tokens at their indices

@@ -9,7 +9,8 @@ use lib.Seq.{take-suc, drop-cons, length-take-le, set_at, get_or_at}
 use Rattle.sifc_tokens.specs.declared.place.Place.{Place}
 use Rattle.sifc_tokens.specs.Place.{place_of, place, walked_to}
 use Rattle.sifc_tokens.proofs.PlaceLaws.{walked_none, walked_line, place_inside, place-even, place-ragged}
-use Rattle.sifc_def.proofs.ReadLaws.{PlaceFits, place-fits}
+use Rattle.sifc_def.proofs.ReadLaws.{place-fits}
+use Rattle.sifc_def.specs.Error.{PlaceFits}
 use Rattle.sifc_lent.specs.declared.place.Spot.{Spot}
 use Rattle.sifc_lent.specs.Parts.{Reached, SpotOf, place_word, place_word_at}
 

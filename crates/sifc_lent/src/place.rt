@@ -1,7 +1,7 @@
 // The places of the listed errors, in one pass over the script as long as they rise.
 ghost use Rattle.std.specs.Prelude.{◌≡◌, ◌++◌, map, ◌≤◌, ◌<◌, length, take, drop, get_or};
 ghost use Rattle.sifc_tokens.specs.Place.{place_of};
-ghost use Rattle.sifc_def.proofs.ReadLaws.{PlaceFits};
+ghost use Rattle.sifc_def.specs.Error.{PlaceFits};
 ghost use Rattle.sifc_lent.specs.Parts.{Reached, SpotOf, place_word, place_word_at};
 
 use sifc_step::wide;

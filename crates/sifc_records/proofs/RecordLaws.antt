@@ -31,10 +31,11 @@ use Rattle.sifc_def.proofs.OutcomeLaws.{Holds}
 use Rattle.sifc_def.proofs.StepLaws.{Each, FairErr}
 use Rattle.sifc_def.proofs.TokLaws.{worth, lexed-toks}
 use Rattle.sifc_def.proofs.WalkLaws.{Ended, walk_ends}
-use Rattle.sifc_def.proofs.ReadLaws.{PlaceFits, place-fits}
+use Rattle.sifc_def.proofs.ReadLaws.{place-fits}
+use Rattle.sifc_def.specs.Error.{PlaceFits}
 use Rattle.sifc_lent.specs.Parts.{bare}
 use Rattle.sifc_record.specs.Record.{invalid_tkn, why_by, why_of, record_of, records_in}
-use Rattle.sifc_records.specs.Records.{entry_records, Recorded, recorded, records_of, reading_records}
+use Rattle.sifc_records.specs.Records.{call_of, errors_of, entry_records, Recorded, recorded, records_of, reading_records}
 use Rattle.sifc_records.proofs.Listed.{Spoken, Listed, walk-lists}
 
 -- ── one error ──
@@ -165,10 +166,6 @@ module _ (r : Rooms) (s : List ℕ) where
 
 -- ── the call on words ──
 
--- the answer and the arrays of a call on records
-abbrev pub call_of : Recorded → Called Reading
-call_of x = called x.answer x.arrays
-
 -- the tests of entry, by those of the call on words and whether there are as many records
 abbrev pub entry_by : Checked → Bool → Checked
 entry_by k b = elim k [ check.Refused r ↦ check.Refused r | Fine ↦ if b then Fine otherwise check.Refused Uneven ]
@@ -208,11 +205,6 @@ records-agree s a rs l = ap call_of (records-even s a rs l) ∙ go (entry s a)
 pub records-uneven : (s : List ℕ) (a : Arrays) (rs : List ParseErr) → entry s a ≡ Fine → (length a.places ≡ length rs → ⊥) → reading_records s a rs ≡ recorded (Refused Uneven) a rs
 unfolding if◌then◌otherwise◌
 records-uneven s a rs e l = sym (records-by s a rs) ∙ ap (records_by s a rs) (sym (entry-by s a (length rs)) ∙ ap₂ entry_by e (ne_eqb (length a.places) (length rs) l))
-
--- how many errors an answer counts
-abbrev pub errors_of : Reading → ℕ
-errors_of (Read m) = m.errors
-errors_of (Refused r) = 0
 
 -- a refusal does not pass
 never-refused : {X : Type 0} (f : Refusal) → check.Refused f ≡ Fine → X

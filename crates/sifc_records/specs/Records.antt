@@ -7,10 +7,10 @@ use Rattle.sifc_tokens.specs.declared.call.Checked.TheVariants.{Fine}
 use Rattle.sifc_tokens.specs.declared.call.Checked.TheVariants as check
 use Rattle.sifc_word.specs.Base.{if◌then◌otherwise◌}
 use Rattle.sifc_def.specs.declared.Reading.{Reading}
-use Rattle.sifc_def.specs.declared.Reading.TheVariants.{Refused}
+use Rattle.sifc_def.specs.declared.Reading.TheVariants.{Read, Refused}
 use Rattle.sifc_def.specs.State.{Ctx}
 use Rattle.sifc_def.specs.Error.{parse_err}
-use Rattle.sifc_def.specs.Read.{Arrays, rooms_of, ctx_of, Outcome, found, refused, entry, read, answered}
+use Rattle.sifc_def.specs.Read.{Arrays, rooms_of, ctx_of, Outcome, found, refused, entry, read, Called, called, answered}
 use Rattle.sifc_record.specs.Record.{blank_err}
 
 -- ── the call ──
@@ -50,3 +50,12 @@ reading_records s a rs =
       | check.Refused r ↦ recorded (Refused r) a rs
       | Fine ↦ recorded (answered s a (read (rooms_of a) s)).answer (answered s a (read (rooms_of a) s)).arrays (records_of (ctx_of (rooms_of a) s) (length rs) (read (rooms_of a) s))
     ]
+
+-- the answer and the arrays of a call on records
+abbrev pub call_of : Recorded → Called Reading
+call_of x = called x.answer x.arrays
+
+-- how many errors an answer counts
+abbrev pub errors_of : Reading → ℕ
+errors_of (Read m) = m.errors
+errors_of (Refused r) = 0
