@@ -1,17 +1,16 @@
 -- Further steps and ends of a walk over state words.
 use Prim.Native.Nat.{ℕ, ◌+◌, ◌≤◌, ◌<◌}
 use native.Mathlib.Omega.{arith}
-use mathlib.Core.Path.{◌≡◌, refl, sym, ap, ◌∙◌, subst}
+use mathlib.Core.Path.{◌≡◌, subst}
 use mathlib.Core.List.{List, [], ◌∷◌}
 use mathlib.Core.Bool.{Bool}
-use lib.ListN.{length, get_or, set}
+use lib.ListN.{get_or, set}
 use Rattle.sifc_def.specs.declared.Err.{Err}
 use Rattle.sifc_def.specs.declared.What.TheVariants.{Variable, Other}
 use Rattle.sifc_def.specs.State.{Ctx, St, Out, done, go_on, return}
 use Rattle.sifc_def.specs.Stmt.{ident_node, param}
 use Rattle.sifc_step.specs.declared.walk.Limits.{Limits}
 use Rattle.sifc_step.specs.declared.walk.Walk.{Walk}
-use Rattle.sifc_step.specs.declared.walk.Parsed.{Parsed as Outcome}
 use Rattle.sifc_step.specs.Abs.{Inp, Mem, mem, Rooms, abs, void, many, count_of, Stands}
 use Rattle.sifc_step.specs.Small as step
 use Rattle.sifc_step.specs.Steps as steps
@@ -19,7 +18,7 @@ use Rattle.sifc_declare.proofs.Ends as ends
 use Rattle.walk_step.specs.declared.state.Parsed.{Parsed}
 use Rattle.walk_step.specs.declared.state.Parsed.TheVariants.{Done, Failed, Refused}
 use Rattle.walk_step.specs.Words.{walk_of, lim_of, told, Words}
-use Rattle.walk_step.specs.WordsLaws.{walk-set, lim-set, words-set, within, word_set, left_as, left-set, told-done}
+use Rattle.walk_step.specs.WordsLaws.{walk-set, within, word_set, left_as, left-set, told-done}
 use Rattle.walk_step.specs.Small.{Says, Storing}
 use Rattle.walk_step.specs.SmallLaws.{NotDone}
 use Rattle.walk_step.specs.Moves.{Starts, Goes, On, Ends, begins, called, separated}

@@ -8,7 +8,7 @@ use Rattle.sifc_def.specs.declared.Err.{Err}
 use Rattle.sifc_def.specs.State.{Ctx, St, Out, Void}
 use Rattle.sifc_def.specs.Expr.{fuel, param_list}
 use Rattle.sifc_step.specs.Abs.{inp, mem, Rooms, rooms_of, ctx, ctx_of, abs}
-use Rattle.sifc_step.specs.Steps.{Kept, blank, blanks}
+use Rattle.sifc_step.specs.Steps.{blank, blanks}
 use Rattle.sifc_step.specs.Loops as loops
 use Rattle.sifc_step.specs.Loops.{Looping}
 use Rattle.walk_step.specs.Words.{walk_of, lim_of, Words}

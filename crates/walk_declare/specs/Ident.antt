@@ -6,7 +6,7 @@ use Rattle.sifc_def.specs.Stmt.{ident_node, param, ident_pair}
 use Rattle.sifc_step.specs.declared.walk.Walk.{Walk}
 use Rattle.sifc_step.specs.Abs.{inp, mem, many, count_of, used_by}
 use Rattle.walk_step.specs.declared.state.Parsed.{Parsed}
-use Rattle.walk_step.specs.Words.{lim_of, told, Left}
+use Rattle.walk_step.specs.Words.{lim_of, told}
 use Rattle.walk_step.specs.Small.{Lent, Shown, entry, exit, shown}
 use Rattle.walk_step.specs.Moves.{Starts, Goes}
 

@@ -1,5 +1,5 @@
 -- What the proofs of the functions that ask the symbol table cite: the laws of sifc_name (there Names.antt), of what the words stand for.
-use Prim.Native.Nat.{ℕ, zero, suc, ◌+◌, ◌-◌, ◌*◌, ◌/◌, ◌%◌, ◌≤◌, ◌<◌}
+use Prim.Native.Nat.{ℕ, zero, suc, ◌+◌, ◌-◌, ◌*◌, ◌≤◌, ◌<◌}
 use native.Mathlib.Omega.{arith}
 use mathlib.Core.Path.{◌≡◌, refl, sym, ap, ◌∙◌, subst}
 use mathlib.Core.List.{List}
@@ -12,7 +12,6 @@ use Rattle.sifc_def.specs.declared.Err.{Err}
 use Rattle.sifc_def.specs.declared.What.{What}
 use Rattle.sifc_def.specs.declared.What.TheVariants.{Placeholder, Function, Variable, Other}
 use Rattle.sifc_def.specs.declared.Why.{Why}
-use Rattle.sifc_def.specs.declared.Why.TheVariants.{UndeclSym, WrongFnParmCnt}
 use Rattle.sifc_def.specs.State.{Sym, Out, push}
 use Rattle.sifc_def.specs.Symbols.{is_sym, find_at, find}
 use Rattle.sifc_def.specs.Expr.{assign_var, assign_array, call_declared}
@@ -20,8 +19,6 @@ use Rattle.sifc_symtab.specs.declared.symtab.Found.{Found}
 use Rattle.sifc_symtab.specs.declared.symtab.Found.TheVariants.{Nothing, Declared}
 use Rattle.sifc_symtab.specs.Table.{name_in, what_of, value_of, tag_at, value_at, sym_at, listed, syms_of, found_of, Retrieves}
 use Rattle.sifc_step.specs.declared.walk.Limits.{Limits}
-use Rattle.sifc_step.specs.declared.walk.Walk.{Walk}
-use Rattle.sifc_step.specs.declared.walk.Parsed.{Parsed as Outcome}
 use Rattle.sifc_step.specs.Abs.{Inp, Mem, mem, Rooms, void, Stands}
 use Rattle.sifc_step.specs.Small as step
 use Rattle.sifc_name.specs.Name as name

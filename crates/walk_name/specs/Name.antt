@@ -4,7 +4,7 @@ use Rattle.sifc_def.specs.State.{token_at}
 use Rattle.sifc_symtab.specs.declared.symtab.Found.{Found}
 use Rattle.sifc_symtab.specs.Toks.{toks_of}
 use Rattle.sifc_step.specs.declared.walk.Target.{Target}
-use Rattle.sifc_step.specs.Abs.{kind_at, Stands}
+use Rattle.sifc_step.specs.Abs.{kind_at}
 use Rattle.sifc_name.specs.Name as name
 use Rattle.sifc_name.specs.Name.{value_in}
 use Rattle.walk_step.specs.declared.state.Parsed.{Parsed}

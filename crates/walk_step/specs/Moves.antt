@@ -1,21 +1,20 @@
 -- Where a walk over state words stands, and the steps by which the proofs of the walk go on: those of sifc_step (there Steps.antt and SmallLaws.antt), of what
 -- the words stand for. A walk keeps, beside the walk itself, that its words are words and that their limits stay as they are.
-use Rattle.std.specs.Prelude.{ℕ, suc, ◌+◌, ◌-◌, ◌≤◌, ◌<◌, ◌≡◌, refl, List, [], Bool, true, false, eqb, length, get_or, set}
-use Rattle.std.proofs.Common.{arith, sym, ap, ◌∙◌, subst}
+use Rattle.std.specs.Prelude.{ℕ, ◌+◌, ◌-◌, ◌≤◌, ◌<◌, ◌≡◌, refl, List, Bool, true, false, length, get_or, set}
+use Rattle.std.proofs.Common.{sym, ◌∙◌, subst}
 use Rattle.sifc_word.specs.Base.{if◌then◌otherwise◌}
 use Rattle.sifc_def.specs.declared.Err.{Err}
 use Rattle.sifc_def.specs.declared.Why.{Why}
 use Rattle.sifc_def.specs.declared.What.{What}
-use Rattle.sifc_def.specs.State.{Ctx, St, Out, done, M, Void, go_on, consume, expect, ident, push, throw, throw_past, tok_at}
-use Rattle.sifc_def.specs.Symbols.{store, set_check}
+use Rattle.sifc_def.specs.State.{Ctx, St, Out, done, go_on, consume, expect, ident, push, throw, throw_past, tok_at}
+use Rattle.sifc_def.specs.Symbols.{store}
 use Rattle.sifc_def.specs.Expr.{separator, literal, single}
-use Rattle.sifc_symtab.specs.Table.{Fits}
 use Rattle.sifc_step.specs.declared.walk.Limits.{Limits}
 use Rattle.sifc_step.specs.declared.walk.Walk.{Walk}
 use Rattle.sifc_step.specs.declared.walk.Target.{Target}
 use Rattle.sifc_step.specs.declared.walk.Parsed.{Parsed as Outcome}
 use Rattle.sifc_step.specs.declared.walk.Parsed.TheVariants as outcome
-use Rattle.sifc_step.specs.Abs.{Inp, Mem, inp, mem, Rooms, rooms_of, kind_in, flag_in, kids_in, nodes_of, ctx, ctx_of, abs, kind_at, Stands, Ready, DoesAs, Sure, Lost, void, many, checked_by, counted_by, leveled_by}
+use Rattle.sifc_step.specs.Abs.{Inp, Mem, inp, mem, Rooms, rooms_of, kind_in, flag_in, kids_in, ctx, ctx_of, abs, kind_at, Stands, Ready, DoesAs, Sure, Lost, void, many}
 use Rattle.sifc_step.specs.Small as step
 use Rattle.sifc_step.specs.Small.{node_of, newest, throw_at, HeadWord}
 use Rattle.sifc_step.specs.SmallLaws as laws
@@ -24,8 +23,8 @@ use Rattle.sifc_step.specs.Steps.{At, Kept}
 use Rattle.walk_step.specs.declared.state.Parsed.{Parsed}
 use Rattle.walk_step.specs.declared.state.Parsed.TheVariants.{Done, Failed, Refused}
 use Rattle.walk_step.specs.Words.{walk_of, lim_of, why_of, Reason, refusal_of, told, Words, Left}
-use Rattle.walk_step.specs.WordsLaws.{walk-set, lim-set, words-set, within, left-set, left-same, left_as, told-done}
-use Rattle.walk_step.specs.Small.{Says, Standing, Listing, Pushable, Storing}
+use Rattle.walk_step.specs.WordsLaws.{lim-set, words-set, left-same, left_as, told-done}
+use Rattle.walk_step.specs.Small.{Says, Standing, Pushable}
 use Rattle.walk_step.specs.SmallLaws.{NotDone, lost-told}
 
 -- ── what a function of the walk may assume and promise ──

@@ -1,5 +1,5 @@
 -- What the small functions of the walk may assume and promise, over their parameters: the promises of sifc_step (there Small.antt), of what the words stand for.
-use Rattle.std.specs.Prelude.{ℕ, ◌≤◌, ◌<◌, ◌≡◌, List, true, length, get_or}
+use Rattle.std.specs.Prelude.{ℕ, ◌≤◌, ◌<◌, ◌≡◌, List, length, get_or}
 use Rattle.std.specs.Borrow.{Bor, MutBor}
 use denote.Triple.Both.{Both}
 use Rattle.sifc_def.specs.declared.What.{What}
@@ -9,7 +9,7 @@ use Rattle.sifc_step.specs.declared.walk.Walk.{Walk}
 use Rattle.sifc_step.specs.declared.walk.Target.{Target}
 use Rattle.sifc_step.specs.declared.walk.Parsed.{Parsed as Outcome}
 use Rattle.sifc_step.specs.declared.walk.Parsed.TheVariants as outcome
-use Rattle.sifc_step.specs.Abs.{listed_by, Stands, checked_by}
+use Rattle.sifc_step.specs.Abs.{listed_by, Stands}
 use Rattle.sifc_step.specs.Small as step
 use Rattle.walk_step.specs.declared.state.Parsed.{Parsed}
 use Rattle.walk_step.specs.Words.{walk_of, lim_of, why_of, Reason, refusal_of, told, Words, Left}

@@ -1,11 +1,10 @@
 -- What the proofs of the small functions cite: each answer from what was written and from the law of sifc_step (there SmallLaws.antt) that has it.
-use Rattle.std.specs.Prelude.{ℕ, suc, ◌+◌, ◌*◌, ◌%◌, ◌≤◌, ◌<◌, ◌≡◌, List, [], Bool, true, eqb, length, get_or, set}
+use Rattle.std.specs.Prelude.{ℕ, ◌+◌, ◌*◌, ◌%◌, ◌≤◌, ◌<◌, ◌≡◌, List, [], true, length, get_or, set}
 use Rattle.std.proofs.Common.{arith, sym, ap, ◌∙◌, get_or-set_other}
 use Rattle.std.proofs.Math.Path.{refl, subst}
 use Rattle.std.proofs.Math.Bool.{false}
 use Rattle.sifc_err.specs.declared.Refusal.TheVariants.{NodesFull, SymbolsFull, ErrorsFull, SourceFault}
 use Rattle.sifc_def.specs.declared.Why.{Why}
-use Rattle.sifc_def.specs.declared.Why.TheVariants.{TknMismatch}
 use Rattle.sifc_def.specs.declared.What.{What}
 use Rattle.sifc_def.specs.State.{err, consume, push}
 use Rattle.sifc_def.specs.Expr.{literal}
@@ -17,13 +16,13 @@ use Rattle.sifc_step.specs.declared.walk.Walk.{Walk}
 use Rattle.sifc_step.specs.declared.walk.Target.{Target}
 use Rattle.sifc_step.specs.declared.walk.Parsed.{Parsed as Outcome}
 use Rattle.sifc_step.specs.declared.walk.Parsed.TheVariants as outcome
-use Rattle.sifc_step.specs.Abs.{kind_at, listed_by, Stands, more, checked_by, stored_by}
+use Rattle.sifc_step.specs.Abs.{kind_at, listed_by, Stands, more, checked_by}
 use Rattle.sifc_step.specs.Small as step
 use Rattle.sifc_step.specs.SmallLaws as laws
 use Rattle.sifc_step.specs.Steps as steps
 use Rattle.walk_step.specs.declared.state.Parsed.{Parsed}
 use Rattle.walk_step.specs.declared.state.Parsed.TheVariants.{Done, Failed, Refused}
-use Rattle.walk_step.specs.Words.{pick, walk_of, lim_of, why_of, Reason, refusal_of, told, Words, Left}
+use Rattle.walk_step.specs.Words.{walk_of, lim_of, why_of, Reason, refusal_of, told, Words}
 use Rattle.walk_step.specs.WordsLaws.{walk-set, lim-set, words-set, within, left-set, left-same, left_as, told-done, told-refused, left-refused, told-failed, left-failed, known, mismatch-word}
 use Rattle.walk_step.specs.Small.{Says, Refusing, Reasoned, Standing, Listing, Pushable}
 

@@ -1,15 +1,13 @@
 -- What the words stand for after one of them is written, and the words of the reasons.
-use Rattle.std.specs.Prelude.{ℕ, ◌+◌, ◌*◌, ◌/◌, ◌%◌, ◌≤◌, ◌<◌, ◌≡◌, refl, List, Bool, true, false, ◌&&◌, eqb, length, get_or, set}
-use Rattle.std.proofs.Common.{arith, sym, ap, ◌∙◌, subst, length-set, get_or-set_same, get_or-set_other, eq-eqb, ne_eqb, eqb-true}
+use Rattle.std.specs.Prelude.{ℕ, ◌+◌, ◌*◌, ◌/◌, ◌%◌, ◌<◌, ◌≡◌, refl, List, Bool, true, false, ◌&&◌, eqb, length, get_or, set}
+use Rattle.std.proofs.Common.{arith, sym, ap, ◌∙◌, subst, length-set, get_or-set_same, get_or-set_other, ne_eqb, eqb-true}
 use Rattle.std.proofs.lemmas.Bool.{eqb-false}
 use Rattle.sifc_def.specs.declared.Why.{Why}
 use Rattle.sifc_def.specs.declared.Why.TheVariants.{InvalidTkn, InvalidTknMsg, InvalidAssign, TknMismatch, FnParmCntExceeded, WrongFnParmCnt, UndeclSym, ExpectedIdent}
 use Rattle.sifc_def.specs.State.{err}
 use Rattle.sifc_step.specs.declared.walk.Limits.{Limits}
 use Rattle.sifc_step.specs.declared.walk.Walk.{Walk}
-use Rattle.sifc_step.specs.declared.walk.Parsed.{Parsed as Outcome}
 use Rattle.sifc_step.specs.declared.walk.Parsed.TheVariants as outcome
-use Rattle.sifc_step.specs.Abs.{listed_by}
 use Rattle.walk_step.specs.declared.state.Parsed.{Parsed}
 use Rattle.walk_step.specs.declared.state.Parsed.TheVariants.{Done, Failed, Refused}
 use Rattle.walk_step.specs.Words.{pick, walk_of, lim_of, why_of, Reason, refusal_of, told, Words, Left}

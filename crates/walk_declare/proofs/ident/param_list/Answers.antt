@@ -1,11 +1,10 @@
-use borrow.Author.Rules.{rules}
-use Prim.Native.Nat.{ℕ, ◌-◌, ◌≤◌, suc}
+use Prim.Native.Nat.{suc}
 use mathlib.Core.List.{[]}
 use borrow.Author.Tests.{eq-eqb, ne_eqb, le-leb, lt-leb}
 use native.Mathlib.Omega.{arith}
 use mathlib.Core.Path.{refl, sym, ◌∙◌}
 use lib.Dec.{eqb}
-use lib.ListN.{length, get_or}
+use lib.ListN.{get_or}
 use Rattle.sifc_def.specs.declared.Why.TheVariants.{InvalidTknMsg, FnParmCntExceeded}
 use Rattle.sifc_def.specs.State.{throw}
 use Rattle.sifc_def.specs.Expr.{fuel, separator as separator_of, param_list}
@@ -15,7 +14,7 @@ use Rattle.walk_step.specs.WordsLaws.{exceeded-word, message-word}
 use Rattle.walk_step.specs.SmallLaws.{listing}
 use Rattle.walk_step.specs.Moves.{begin, gives, go, stop, last, read, yes, no, test, standing-at, starts, separated, thrown-counting}
 use Rattle.walk_step.proofs.Tags.{not_done}
-use Rattle.walk_declare.proofs.Turns.{Turns, turns, own, amid, turn, turn-own, onward, recount}
+use Rattle.walk_declare.proofs.Turns.{turns, own, amid, turn, turn-own, onward, recount}
 use Rattle.walk_declare.proofs.Ends.{any_at, as_param, node-ahead, separated-kept, separated-ahead, counted, none_within, thrown-within, written-within}
 use Rattle.walk_declare.proofs.ident.param_list.Goals as goal
 

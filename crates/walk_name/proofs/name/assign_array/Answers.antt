@@ -1,4 +1,3 @@
-use borrow.Author.Rules.{rules}
 use Rattle.walk_name.proofs.Names.{mutate-past, mutate, pushable-fewer}
 use Rattle.walk_name.proofs.name.assign_array.Goals as goal
 

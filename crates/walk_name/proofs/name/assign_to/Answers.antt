@@ -1,7 +1,6 @@
-use borrow.Author.Rules.{rules}
 use native.Mathlib.Omega.{arith}
 use Prim.Native.Nat.{◌-◌}
-use mathlib.Core.Path.{◌≡◌, refl}
+use mathlib.Core.Path.{refl}
 use borrow.Author.Tests.{eq-eqb, ne_eqb}
 use Rattle.sifc_def.specs.declared.Why.TheVariants.{InvalidAssign}
 use Rattle.sifc_def.specs.Expr.{assign_to, assign_token, assign_array, assign_nothing}

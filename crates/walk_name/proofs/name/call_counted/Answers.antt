@@ -1,5 +1,3 @@
-use borrow.Author.Rules.{rules}
-use native.Mathlib.Omega.{arith}
 use mathlib.Core.Path.{refl}
 use Rattle.walk_step.specs.WordsLaws.{wrong_word}
 use Rattle.walk_step.specs.SmallLaws.{listing}

@@ -1,9 +1,7 @@
-use borrow.Author.Rules.{rules}
 use native.Mathlib.Omega.{arith}
 use Prim.Native.Nat.{suc}
-use mathlib.Core.Path.{◌≡◌, refl, sym, ◌∙◌}
+use mathlib.Core.Path.{refl, sym, ◌∙◌}
 use mathlib.Core.Bool.{true}
-use borrow.Author.Tests.{not-true, not-false}
 use Rattle.sifc_def.specs.State.{push}
 use Rattle.sifc_def.specs.Expr.{call_named, call_name, call_declared}
 use Rattle.sifc_symtab.specs.Table.{found_of}

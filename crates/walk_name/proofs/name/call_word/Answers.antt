@@ -1,4 +1,3 @@
-use borrow.Author.Rules.{rules}
 use Rattle.sifc_name.proofs.Names.{word-plain, word-std}
 use Rattle.walk_name.proofs.name.call_word.Goals as goal
 

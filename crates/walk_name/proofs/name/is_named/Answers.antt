@@ -1,4 +1,3 @@
-use borrow.Author.Rules.{rules}
 use Rattle.sifc_name.proofs.Names.{named-not, named-ident, named-str}
 use Rattle.walk_name.proofs.name.is_named.Goals as goal
 

@@ -1,8 +1,6 @@
-use borrow.Author.Rules.{rules}
 use native.Mathlib.Omega.{arith}
-use Prim.Native.Nat.{◌-◌, ◌≤◌}
-use lib.ListN.{length, length-set}
-use Rattle.sifc_name.proofs.Names.{Shifting, shifting, shifted-on, shifted}
+use lib.ListN.{length-set}
+use Rattle.sifc_name.proofs.Names.{shifting, shifted-on, shifted}
 use Rattle.walk_name.proofs.name.shift_down.Goals as goal
 
 pub loop-i-init : goal.loop-i-init

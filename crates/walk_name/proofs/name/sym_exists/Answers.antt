@@ -1,4 +1,3 @@
-use borrow.Author.Rules.{rules}
 use Rattle.sifc_name.proofs.Names.{exists-some, exists-none}
 use Rattle.walk_name.proofs.name.sym_exists.Goals as goal
 

@@ -1,4 +1,3 @@
-use borrow.Author.Rules.{rules}
 use mathlib.Core.Path.{◌∙◌}
 use Rattle.sifc_name.proofs.Names.{token-kind-in, token-kind-past}
 use Rattle.walk_name.proofs.name.token_kind.Goals as goal

@@ -1,4 +1,3 @@
-use borrow.Author.Rules.{rules}
 use Rattle.walk_step.specs.SmallLaws.{fail-says}
 use Rattle.walk_step.proofs.state.fail.Goals as goal
 

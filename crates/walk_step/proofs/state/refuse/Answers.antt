@@ -1,4 +1,3 @@
-use borrow.Author.Rules.{rules}
 use Rattle.walk_step.specs.SmallLaws.{refuse-says}
 use Rattle.walk_step.proofs.state.refuse.Goals as goal
 

@@ -1,4 +1,3 @@
-use borrow.Author.Rules.{rules}
 use Rattle.walk_step.specs.SmallLaws.{access-faults, access-pushes}
 use Rattle.walk_step.proofs.step.access.Goals as goal
 

@@ -1,4 +1,3 @@
-use borrow.Author.Rules.{rules}
 use Rattle.walk_step.specs.SmallLaws.{throw-here}
 use Rattle.walk_step.proofs.step.add_error.Goals as goal
 

@@ -1,4 +1,3 @@
-use borrow.Author.Rules.{rules}
 use Rattle.walk_step.specs.SmallLaws.{throw-listed, throw-full}
 use Rattle.walk_step.specs.WordsLaws.{words-set}
 use native.Mathlib.Omega.{arith}

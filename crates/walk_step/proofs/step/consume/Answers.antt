@@ -1,4 +1,3 @@
-use borrow.Author.Rules.{rules}
 use mathlib.Core.Path.{sym, ◌∙◌}
 use Rattle.sifc_step.specs.Steps.{not_last}
 use Rattle.walk_step.specs.SmallLaws.{consume-stays, consume-faults, consume-moves}

@@ -1,4 +1,3 @@
-use borrow.Author.Rules.{rules}
 use Rattle.walk_step.specs.SmallLaws.{access-checked, pushable-set}
 use native.Mathlib.Omega.{arith}
 use Rattle.walk_step.proofs.step.end_dot.Goals as goal

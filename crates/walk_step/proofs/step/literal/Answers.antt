@@ -1,4 +1,3 @@
-use borrow.Author.Rules.{rules}
 use Rattle.walk_step.specs.SmallLaws.{literal-stops, standing_on, literal-passes}
 use Rattle.walk_step.proofs.Tags.{not_done}
 use native.Mathlib.Omega.{arith}

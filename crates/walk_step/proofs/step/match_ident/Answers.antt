@@ -1,4 +1,3 @@
-use borrow.Author.Rules.{rules}
 use Rattle.walk_step.specs.SmallLaws.{ident-there, ident-full, ident-full-second, ident-missed}
 use Rattle.walk_step.specs.WordsLaws.{words-set}
 use mathlib.Core.Path.{sym, ◌∙◌}

@@ -1,4 +1,3 @@
-use borrow.Author.Rules.{rules}
 use Rattle.walk_step.specs.SmallLaws.{push-done, push-full}
 use Rattle.walk_step.proofs.step.push_node.Goals as goal
 

@@ -1,4 +1,3 @@
-use borrow.Author.Rules.{rules}
 use mathlib.Core.Path.{sym, ◌∙◌}
 use Rattle.walk_step.specs.SmallLaws.{separate-not, separate-by}
 use Rattle.walk_step.proofs.step.separator.Goals as goal

@@ -1,4 +1,3 @@
-use borrow.Author.Rules.{rules}
 use Rattle.walk_step.specs.SmallLaws.{put-done, put_full}
 use Rattle.walk_step.proofs.step.store_name.Goals as goal
 

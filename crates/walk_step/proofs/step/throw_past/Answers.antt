@@ -1,4 +1,3 @@
-use borrow.Author.Rules.{rules}
 use Rattle.walk_step.specs.SmallLaws.{counts-one, past-stops, past-fails, past-full}
 use Rattle.walk_step.specs.WordsLaws.{words-set}
 use Rattle.sifc_step.specs.SmallLaws.{stands-more}
