@@ -1,7 +1,7 @@
 -- Corners of the reference that a reader of document 01 can miss, each checked by running the Rust.
-use Rattle.std.specs.Prelude.{ℕ, zero, suc, ◌≡◌, refl, List, [], ◌∷◌, ◌++◌, map, true, false, replicate}
+use Rattle.std.specs.Prelude.{ℕ, zero, suc, ◌≡◌, refl, List, [], ◌∷◌, ◌++◌, map, true, false}
 use Prim.Native.String.{String}
-use Rattle.sifc_err.specs.declared.Refusal.TheVariants.{LongScript, NotAscii, SourceFault, TooDeep, NodesFull, SymbolsFull, ErrorsFull}
+use Rattle.sifc_err.specs.declared.Refusal.TheVariants.{SourceFault, TooDeep, NodesFull, SymbolsFull, ErrorsFull}
 use Rattle.sifc_err.specs.declared.parse_err.ParseErrTy.TheVariants.{TknMismatch}
 use Rattle.sifc_word.specs.Kind.{LeftParen, RightParen, Semicolon, Eq, Star, Percent, Ident, Str, Val, Var, Eof, LexPanic}
 use Rattle.sifc_lex.specs.Lex.{token}

@@ -11,7 +11,7 @@ use Rattle.sifc_err.specs.ParseErr.{values_of}
 use Rattle.sifc_tokens.specs.declared.place.Place.{Place}
 use Rattle.sifc_lex.specs.Lex.{lex}
 use Rattle.sifc_lex.proofs.LexLaws.{lex-count}
-use Rattle.sifc_tokens.specs.Place.{place_of, place, walked_to, next_place}
+use Rattle.sifc_tokens.specs.Place.{place_of, walked_to, next_place}
 use Rattle.sifc_tokens.proofs.PlaceLaws.{walked_none, walked_more, walked_line, walked-pos, place_inside, place-even, place-ragged}
 use Rattle.sifc_def.specs.declared.Err.{Err}
 use Rattle.sifc_def.specs.declared.Why.{Why}

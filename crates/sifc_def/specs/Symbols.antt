@@ -4,7 +4,7 @@ use Rattle.std.proofs.Math.Option.{Option, none, some}
 use Rattle.sifc_err.specs.declared.Refusal.TheVariants.{SymbolsFull}
 use Rattle.sifc_word.specs.Base.{if◌then◌otherwise◌, same}
 use Rattle.sifc_def.specs.declared.What.{What}
-use Rattle.sifc_def.specs.State.{Sym, Ctx, done, refuse, M, Void, ◌>>=◌, ◌>>◌, name_at}
+use Rattle.sifc_def.specs.State.{Sym, Ctx, done, refuse, M, Void, ◌>>=◌, name_at}
 
 unfoldable pub is_sym : ℕ → List ℕ → Sym → Bool
 is_sym l n x = eqb x.level l && same x.name n

@@ -1,8 +1,8 @@
 -- Laws of lexing that the layers above use: a turn takes a byte or ends, so the bound on turns never matters (`lex_at-turn`); a token
 -- list ends in exactly one token of kind 47 or 48, its offsets rise and its parts lie in the script (`lex-runs`), and it has at most one
 -- token more than the script has bytes (`lex-count`).
-use Rattle.std.specs.Prelude.{ℕ, zero, suc, ◌+◌, ◌-◌, ◌≤◌, ◌<◌, ◌≡◌, refl, List, [], ◌∷◌, map, Bool, true, false, ◌&&◌, ◌⊎◌, T, eqb, leb, take, drop, length}
-use Rattle.std.proofs.Common.{sym, ap, ◌∙◌, subst, inl, inr, not-suc-le-zero, zero-add, leb→le, length-drop}
+use Rattle.std.specs.Prelude.{ℕ, zero, suc, ◌+◌, ◌≤◌, ◌<◌, ◌≡◌, refl, List, [], ◌∷◌, map, Bool, true, false, ◌&&◌, ◌⊎◌, T, eqb, leb, take, drop, length}
+use Rattle.std.proofs.Common.{ap, inl, inr, not-suc-le-zero, zero-add, leb→le, length-drop}
 use native.Mathlib.Omega.{arith}
 use Rattle.std.proofs.lemmas.Bool.{eqb-false}
 use Rattle.sifc_err.specs.declared.Token.{Token}

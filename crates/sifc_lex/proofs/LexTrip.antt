@@ -1,9 +1,9 @@
 -- Words with one separator after each are lexed to those words; and a lexed token is such a word.
-use Prim.Native.Nat.{ℕ, zero, suc, ◌+◌, ◌-◌, ◌≤◌, ◌<◌}
+use Prim.Native.Nat.{ℕ, zero, suc, ◌+◌, ◌≤◌, ◌<◌}
 use Rattle.std.proofs.Math.Path.{◌≡◌, refl, sym, ap, subst, subst₂}
-use Rattle.std.proofs.Common.{ap₂, ◌∙◌, zero-add, suc-add, add-suc, add-zero, not-suc-le-zero, add-one, one-add, eqb-true, eqb→eq, leb→le, drop-drop, take-add, take_at}
+use Rattle.std.proofs.Common.{ap₂, ◌∙◌, one-add, eqb-true, eqb→eq, drop-drop, take-add, take_at}
 use mathlib.Core.List.{List, [], ◌∷◌, ◌++◌, map, append_assoc}
-use Rattle.std.specs.Prelude.{Bool, ◌&&◌, ◌||◌, not, T, leb, ltb, get_or}
+use Rattle.std.specs.Prelude.{Bool, ◌&&◌, not, T}
 use Rattle.std.proofs.Math.Bool.{true, false}
 use native.Mathlib.Omega.{arith}
 use Rattle.std.proofs.lemmas.Bool.{eqb-false}
@@ -15,8 +15,8 @@ use Rattle.sifc_err.specs.declared.Ending.{Ending}
 use Rattle.sifc_err.specs.declared.Ending.TheVariants.{TrueEnd, UnknownChar, UnterminatedString, Panic}
 use Rattle.sifc_lex.specs.declared.lex.Step.{Step}
 use Rattle.sifc_lex.specs.declared.lex.Step.TheVariants.{Skip, Word, Stop}
-use Rattle.sifc_word.specs.Base.{if◌then◌otherwise◌, within, same, span, part}
-use Rattle.sifc_word.specs.BaseLaws.{and_left, and_right, true_of, false_of, span-yes, span-no, span-again, length-span, span-stop}
+use Rattle.sifc_word.specs.Base.{if◌then◌otherwise◌, within, span, part}
+use Rattle.sifc_word.specs.BaseLaws.{and_left, and_right, true_of, false_of, span-again, length-span, span-stop}
 use Rattle.sifc_word.specs.Reserved.{name_kind}
 use Rattle.sifc_lex.specs.Lex.{token, white, digit, letter, alnum, in_line, in_str, Sign, doubles, singles, single_kind, double_kind, one_sign, next_is, lex_slash, line_end, hash_comment, slash_comment, closed, lex_str, pointed, fraction, lex_num, lex_ident, lex_sign, step, on_step, ended, end_kind, Lexed, lex_from, lexed, lex}
 use Rattle.sifc_lex.proofs.LexLaws.{lex_at, lex_at-turn}

@@ -4,13 +4,11 @@ use mathlib.Core.Path.{◌≡◌, refl, sym, ap, ap₂, ◌∙◌}
 use mathlib.Core.List.{List, [], ◌∷◌}
 use mathlib.Core.Bool.{Bool, true, false}
 use native.Mathlib.Omega.{arith}
-use native.Mathlib.Numerals.{add-one, one-add}
 use borrow.Author.Tests.{eq-eqb, ne_eqb, ltb-true, ltb-false}
-use lib.Dec.{eqb, ltb}
+use lib.Dec.{ltb}
 use lib.ListN.{take, drop, length, get_or, drop_of_length-le, get_or-eq_default}
 use lib.Seq.{drop-cons, drop-drop}
-use Rattle.sifc_err.specs.declared.Ending.TheVariants.{TrueEnd, UnknownChar, UnterminatedString, Panic}
-use Rattle.sifc_lex.specs.declared.lex.Step.{Step}
+use Rattle.sifc_err.specs.declared.Ending.TheVariants.{TrueEnd, UnterminatedString, Panic}
 use Rattle.sifc_lex.specs.declared.lex.Step.TheVariants.{Skip, Word, Stop}
 use Rattle.sifc_word.specs.Base.{if◌then◌otherwise◌, span}
 use Rattle.sifc_word.specs.BaseLaws.{and-false}

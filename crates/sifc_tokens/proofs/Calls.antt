@@ -1,12 +1,11 @@
 -- What the calls leave in the arrays, out of what the loop and the clearing leave.
-use Prim.Native.Nat.{ℕ, ◌+◌, ◌-◌, ◌≤◌, ◌<◌, min}
+use Prim.Native.Nat.{ℕ, ◌-◌, ◌≤◌, ◌<◌}
 use mathlib.Core.Path.{◌≡◌, refl, sym, ap, ap₂, ◌∙◌, subst}
-use mathlib.Core.List.{List, [], ◌∷◌, ◌++◌}
-use mathlib.Core.Bool.{Bool, true, false, not}
+use mathlib.Core.List.{List, ◌++◌}
+use mathlib.Core.Bool.{Bool, true, false}
 use native.Mathlib.Omega.{arith}
-use native.Mathlib.Nat.{min-eq_left}
 use borrow.Author.Tests.{lt-ltb, le-ltb, ltb-false, eq-eqb, ne_eqb}
-use lib.Dec.{ltb, eqb}
+use lib.Dec.{ltb}
 use lib.ListN.{take, length, replicate, length-take, length-map}
 use Rattle.sifc_err.specs.declared.Token.{Token}
 use Rattle.sifc_err.specs.declared.Ending.{Ending}
@@ -14,14 +13,13 @@ use Rattle.sifc_lex.specs.declared.lex.LexAnswer.{LexAnswer}
 use Rattle.sifc_lex.specs.declared.lex.LexAnswer.TheVariants.{Ended, Full}
 use Rattle.sifc_err.specs.declared.Refusal.{Refusal}
 use Rattle.sifc_err.specs.declared.Refusal.TheVariants.{LongScript, NotAscii}
-use Rattle.sifc_tokens.specs.declared.call.Checked.{Checked}
 use Rattle.sifc_tokens.specs.declared.call.Checked.TheVariants.{Fine}
 use Rattle.sifc_tokens.specs.declared.call.Checked.TheVariants as check
 use Rattle.sifc_tokens.specs.declared.call.TokensAnswer.TheVariants.{Refused}
 use Rattle.sifc_word.specs.Base.{if◌then◌otherwise◌, span}
 use Rattle.sifc_lex.specs.Lex.{ascii, lex, ending, end_at}
 use Rattle.sifc_tokens.specs.Loaded.{Loaded, used_by, Used}
-use Rattle.sifc_tokens.specs.Tokens.{offs_of, words_of, token_word, padded, zeroed, LexCall, lex_called, lex_call, check_of, Answer, answer_of, TokensCall, tokens_called, refusal, counted, by_ending, after_entry, tokens_call}
+use Rattle.sifc_tokens.specs.Tokens.{offs_of, words_of, token_word, padded, zeroed, LexCall, lex_called, lex_call, check_of, answer_of, TokensCall, tokens_called, refusal, by_ending, after_entry, tokens_call}
 use Rattle.sifc_tokens.proofs.TokensLaws.{padded-used}
 
 length-offs : (ts : List Token) → length (offs_of ts) ≡ length ts

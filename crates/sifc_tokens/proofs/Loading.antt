@@ -1,10 +1,10 @@
 -- The loop over the turns of lexing: what stands in the arrays so far, and what is left to lex.
-use Prim.Native.Nat.{ℕ, suc, ◌+◌, ◌*◌, ◌-◌, ◌≤◌, ◌<◌}
+use Prim.Native.Nat.{ℕ, ◌+◌, ◌*◌, ◌≤◌, ◌<◌}
 use mathlib.Core.Path.{◌≡◌, refl, sym, ap, ◌∙◌, subst}
-use mathlib.Core.List.{List, [], ◌∷◌, ◌++◌, append_assoc, append-nil, map}
+use mathlib.Core.List.{List, [], ◌∷◌, ◌++◌, append_assoc, append-nil}
 use native.Mathlib.Omega.{arith}
 use native.Mathlib.Numerals.{add-one}
-use lib.ListN.{take, drop, length, get_or, set, length-set, length-drop, length-append, length-map}
+use lib.ListN.{take, drop, length, set, length-set, length-drop, length-append, length-map}
 use lib.Seq.{drop-drop, take-suc-set, length-take-le}
 use Rattle.sifc_err.specs.declared.Token.{Token}
 use Rattle.sifc_err.specs.declared.Ending.{Ending}
@@ -14,8 +14,8 @@ use Rattle.sifc_lex.specs.declared.lex.Step.TheVariants.{Skip, Word, Stop}
 use Rattle.sifc_lex.specs.declared.lex.LexAnswer.TheVariants.{Ended, Full}
 use Rattle.sifc_lex.specs.Lex.{token, Lexed, before, ended, end_kind, end_len, on_step, step, lexed, lex, ending, end_at}
 use Rattle.sifc_lex.proofs.LexLaws.{Fair, fair-step, lex_at, lex_at-turn}
-use Rattle.sifc_tokens.specs.Tokens.{token_word, offs_of, words_of}
-use Rattle.sifc_tokens.specs.Loaded.{Held, Loaded}
+use Rattle.sifc_tokens.specs.Tokens.{offs_of, words_of}
+use Rattle.sifc_tokens.specs.Loaded.{Loaded}
 
 -- n tokens are in the arrays, and the script is lexed up to at
 pub record Loading (s offs₀ words₀ offs words : List ℕ) (at n : ℕ) : Type 0 where

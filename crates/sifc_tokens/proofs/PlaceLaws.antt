@@ -1,12 +1,11 @@
 -- Laws of places: a walk over the script, one byte at a time.
-use Rattle.std.specs.Prelude.{ℕ, zero, suc, ◌+◌, ◌≤◌, ◌<◌, ◌≡◌, refl, Bool, true, false, not, ◌&&◌, eqb, leb, ltb, take, length, get_or}
+use Rattle.std.specs.Prelude.{ℕ, suc, ◌+◌, ◌≤◌, ◌<◌, ◌≡◌, refl, Bool, true, false, not, eqb, take, length, get_or}
 use Rattle.std.proofs.Common.{sym, ap, ap₂, ◌∙◌, arith, zero-add, add-one, lt-ltb, le-ltb, le-leb, length-take, take-suc, take_all}
 use mathlib.Core.List.{List, [], ◌∷◌, ◌++◌, reverse, reverse_aux-append}
 use Rattle.std.proofs.lemmas.Bool.{lt-leb}
 use Rattle.std.proofs.lemmas.List.{length-reverse}
-use Rattle.sifc_tokens.specs.declared.place.Place.{Place}
 use Rattle.sifc_word.specs.Base.{if◌then◌otherwise◌, span}
-use Rattle.sifc_word.specs.BaseLaws.{span-yes, span-no, span-le, and-false}
+use Rattle.sifc_word.specs.BaseLaws.{span-yes, span-no, span-le}
 use Rattle.sifc_lex.specs.Lex.{in_line}
 use Rattle.sifc_tokens.specs.Place.{place, newlines, column, walked_to, next_place, place_of}
 

@@ -1,16 +1,16 @@
 -- Laws of the tokens call's answer: its count and its offset are small, so that 32 bits hold them. And of the arrays: what is padded is 0 past its elements.
-use Rattle.std.specs.Prelude.{ℕ, zero, suc, ◌+◌, ◌-◌, ◌≤◌, ◌<◌, ◌≡◌, refl, List, ◌++◌, Bool, true, false, not, eqb, ltb, length, drop, replicate}
+use Rattle.std.specs.Prelude.{ℕ, zero, suc, ◌+◌, ◌-◌, ◌≤◌, ◌<◌, ◌≡◌, List, ◌++◌, not, eqb, ltb, length, drop, replicate}
 use Rattle.std.proofs.Common.{ap, ◌∙◌, arith, not-suc-le-zero, zero-add, ltb-false, length-drop, length-append, drop_at}
 use Rattle.std.proofs.lemmas.List.{length-replicate}
 use Rattle.sifc_err.specs.declared.Ending.{Ending}
 use Rattle.sifc_err.specs.declared.Ending.TheVariants.{TrueEnd, UnknownChar, UnterminatedString, Panic}
 use Rattle.sifc_lex.specs.declared.lex.Step.{Step}
 use Rattle.sifc_lex.specs.declared.lex.Step.TheVariants.{Skip, Word, Stop}
-use Rattle.sifc_word.specs.Base.{if◌then◌otherwise◌, span}
+use Rattle.sifc_word.specs.Base.{span}
 use Rattle.sifc_word.specs.BaseLaws.{span-le, if-either}
 use Rattle.sifc_lex.specs.Lex.{ascii, Lexed, ended, on_step, step, lex_from, lexed, lex, ending, end_at}
 use Rattle.sifc_lex.proofs.LexLaws.{Fair, fair-step, lex-count}
-use Rattle.sifc_tokens.specs.Tokens.{padded, zeroed, Answer, TokensCall, tokens_called, by_ending, after_entry, tokens_call}
+use Rattle.sifc_tokens.specs.Tokens.{padded, zeroed, TokensCall, by_ending, after_entry, tokens_call}
 use Rattle.sifc_tokens.specs.Loaded.{Used}
 
 turn-ends : (next : ℕ → List ℕ → Lexed) (off n : ℕ) (s : List ℕ) → off + length s ≡ n → ((o : ℕ) (r : List ℕ) → length r < length s → o + length r ≡ n → (next o r).at ≤ n)

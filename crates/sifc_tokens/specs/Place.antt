@@ -1,6 +1,6 @@
 -- Document 01: "A token at byte offset p has as line 1 plus the newlines before p, and as column the bytes since the last one.
 -- Eof at the end of a non-empty script without final newline is one line further, column 0."
-use Rattle.std.specs.Prelude.{ℕ, suc, ◌+◌, List, [], ◌∷◌, reverse, Bool, true, false, ◌&&◌, eqb, leb, ltb, take, length}
+use Rattle.std.specs.Prelude.{ℕ, suc, ◌+◌, List, [], ◌∷◌, reverse, true, false, ◌&&◌, eqb, leb, ltb, take, length}
 use Rattle.sifc_tokens.specs.declared.place.Place.{Place}
 use Rattle.sifc_word.specs.Base.{if◌then◌otherwise◌, span}
 use Rattle.sifc_lex.specs.Lex.{in_line}

@@ -1,5 +1,5 @@
 -- Small tests and lists that every part of the definition uses.
-use Rattle.std.specs.Prelude.{ℕ, zero, suc, List, [], ◌∷◌, Bool, true, false, ◌&&◌, ◌||◌, not, eqb, leb, take, drop}
+use Rattle.std.specs.Prelude.{ℕ, suc, List, [], ◌∷◌, Bool, true, false, ◌&&◌, ◌||◌, eqb, leb, take, drop}
 
 infixr 15 if◌then◌otherwise◌
 -- shut: a proof that steps through a branch opens it by name

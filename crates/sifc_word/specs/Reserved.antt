@@ -1,5 +1,5 @@
 -- reserved.rs: the twelve reserved words with the kinds that they have, and the two standard functions.
-use Rattle.std.specs.Prelude.{ℕ, List, [], ◌∷◌, Bool, true, false, ◌||◌}
+use Rattle.std.specs.Prelude.{ℕ, List, [], ◌∷◌, Bool, ◌||◌}
 use Rattle.sifc_word.specs.Base.{if◌then◌otherwise◌, same}
 
 pub record Word : Type 0 where

@@ -1,7 +1,7 @@
 -- Document 01: "A token's spelling is a part of the script or of the fixed spelling list (the strings of `Display`). A Str's spelling lacks
 -- its quotes." token.rs, fmt.
-use Rattle.std.specs.Prelude.{ℕ, zero, suc, ◌+◌, ◌-◌, ◌<◌, ◌≡◌, refl, List, [], ◌∷◌, ◌++◌, Bool, true, false, ◌||◌, eqb, get_or, take, drop, length}
-use Rattle.std.proofs.Common.{ap, ◌∙◌, length-append}
+use Rattle.std.specs.Prelude.{ℕ, zero, suc, ◌+◌, ◌-◌, ◌<◌, ◌≡◌, refl, List, [], ◌∷◌, ◌++◌, ◌||◌, eqb, get_or, take, length}
+use Rattle.std.proofs.Common.{length-append}
 use Rattle.std.proofs.Math.ListN.{get_or-eq_default}
 use Rattle.std.proofs.Math.Seq.{drop-append-add, take-append_seam}
 use Rattle.sifc_word.specs.Base.{if◌then◌otherwise◌, part}

@@ -23,7 +23,7 @@ use Rattle.sifc_def.proofs.Canon.Lexed.{FromScript, from-script-fine, carry-Ss}
 use Rattle.sifc_def.proofs.Canon.Kinded.{IfToken, token-Ss}
 use Rattle.sifc_def.proofs.Canon.Laws.{print, text-print, print-words, print-calm, print-passes}
 use Rattle.sifc_def.proofs.Canon.Kinds.{Small, small-program}
-use Rattle.sifc_def.specs.Canon.Demand.{size_or_depth, Fits, FitsText, FlagDown, SameTree, Writes, Lent, its_reading, its_text, canonical, next_text, AllFit, RoundTrip, Demand3}
+use Rattle.sifc_def.specs.Canon.Demand.{size_or_depth, Fits, FitsText, FlagDown, SameTree, Writes, Lent, its_reading, its_text, canonical, AllFit, RoundTrip, Demand3}
 use Rattle.sifc_def.proofs.Canon.Same.{Told, told, labels-same, same-labels}
 use Rattle.sifc_def.proofs.Canon.Calls.{plain-script, Finds, finds, cramped, other-rooms, walked, done-found, refused-too, Reads, reads-reading, Down, flag-down, fits-reads, fits-text, writes_bytes, down-ascii}
 

@@ -1,7 +1,4 @@
-use borrow.Author.Rules.{rules}
-use mathlib.Core.Path.{sym, ◌∙◌, ap, refl}
-use Prim.Native.Nat.{ℕ}
-use Rattle.sifc_lex.specs.Lex.{doubles, double_kind}
+use mathlib.Core.Path.{sym}
 use Rattle.sifc_lex.proofs.Runs.{none-at}
 use Rattle.sifc_lex.proofs.lex.double_at.Goals as goal
 

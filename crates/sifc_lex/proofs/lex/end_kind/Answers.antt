@@ -1,4 +1,3 @@
-use borrow.Author.Rules.{rules}
 use Rattle.sifc_lex.specs.Lex.{end_kind}
 use Rattle.sifc_lex.proofs.lex.end_kind.Goals as goal
 

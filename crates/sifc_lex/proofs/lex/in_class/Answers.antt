@@ -1,6 +1,4 @@
-use borrow.Author.Rules.{rules}
-use mathlib.Core.Path.{sym, ◌∙◌, ap}
-use mathlib.Core.Bool.{Bool, ◌||◌, true, false}
+use mathlib.Core.Path.{sym, ◌∙◌}
 use Rattle.sifc_lex.specs.Lex.{ascii, alnum, in_line, in_str}
 use Rattle.sifc_lex.proofs.lex.in_class.Goals as goal
 

@@ -1,9 +1,5 @@
-use native.Mathlib.Omega.{arith}
-use mathlib.Core.Bool.{Bool, true, false, ◌||◌}
-use mathlib.Core.Path.{◌≡◌, refl, sym}
-use lib.Dec.{leb}
 use Rattle.sifc_word.specs.BaseLaws.{or-false}
-use borrow.Author.Tests.{lt-leb, le-leb, eq-eqb, ne_eqb}
+use borrow.Author.Tests.{lt-leb, le-leb, ne_eqb}
 use Rattle.sifc_word.specs.Base.{within}
 use Rattle.sifc_lex.specs.Lex.{white}
 use Rattle.sifc_lex.proofs.lex.is_white.Goals as goal

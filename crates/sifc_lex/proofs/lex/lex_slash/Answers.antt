@@ -1,4 +1,3 @@
-use borrow.Author.Rules.{rules}
 use mathlib.Core.Path.{sym, ◌∙◌}
 use Rattle.sifc_lex.proofs.Runs.{slash-alone, slash-other, slash-two}
 use Rattle.sifc_lex.proofs.lex.lex_slash.Goals as goal

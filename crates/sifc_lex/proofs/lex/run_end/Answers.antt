@@ -1,11 +1,6 @@
-use Prim.Native.Nat.{◌+◌, ◌-◌, ◌≤◌}
-use mathlib.Core.Path.{◌≡◌, sym, ◌∙◌, refl}
+use mathlib.Core.Path.{sym, ◌∙◌, refl}
 use native.Mathlib.Omega.{arith}
-use borrow.Author.Rules.{rules}
-use borrow.Author.Tests.{not-true, not-false}
 use native.Mathlib.Numerals.{add-one}
-use lib.ListN.{length, drop}
-use Rattle.sifc_word.specs.Base.{span}
 use Rattle.sifc_word.specs.BaseLaws.{span-at-yes, span-at-no, span-at-end}
 use Rattle.sifc_lex.specs.Class.{test_of}
 use Rattle.sifc_lex.proofs.lex.run_end.Goals as goal

@@ -1,4 +1,3 @@
-use borrow.Author.Rules.{rules}
 use mathlib.Core.Path.{sym}
 use Rattle.sifc_lex.proofs.Runs.{slash-more, slash-none}
 use Rattle.sifc_lex.proofs.lex.slash_comment.Goals as goal

@@ -1,4 +1,3 @@
-use borrow.Author.Rules.{rules}
 use mathlib.Core.Path.{sym, ◌∙◌}
 use native.Mathlib.Numerals.{add-one}
 use Rattle.sifc_lex.proofs.Runs.{turn_end, turn-white, turn-hash, turn-slash, turn-str, turn-num, turn-ident, turn-sign}

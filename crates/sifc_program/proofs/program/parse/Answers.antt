@@ -33,4 +33,4 @@ pub shape_of-reasons : goal.shape_of-reasons
 shape_of-reasons c = c.program.auto.reasons
 
 pub returns : goal.returns
-returns c = walks-room (inp c.args.script.now c.args.offs.now c.args.words.now c.args.lim) c.args.symbols.now c.open.new.1.0 c.args.head.now c.args.load.now (mem c.program.new.1.1.1.0 c.program.new.1.1.1.1.0 c.program.new.1.1.1.1.1.0) c.program.new.1.1.1.1.1.1.0 c.program.new.1.1.1.1.1.1.1.0 c.program.result c.open.auto.symbols c.program.ensures
+returns c = walks-room (inp c.args.script.now c.args.offs.now c.args.words.now c.args.lim) c.args.symbols.now c.open.new.symbols c.args.head.now c.args.load.now (mem c.program.new.symbols c.program.new.head c.program.new.load) c.program.new.places c.program.new.reasons c.program.result c.open.auto.symbols c.program.ensures

@@ -11,7 +11,7 @@ pub overflow_sub-text : goal.overflow_sub-text
 overflow_sub-text c = omega (arith, line-room (inp c.args.script.now c.args.offs.now c.args.words.now c.args.heads.now c.args.loads.now) c.stmt-written.ensures c.requires c.in-Done.is)
 
 pub bounds-text-at : goal.bounds-text-at
-bounds-text-at c = omega (arith, line-room (inp c.args.script.now c.args.offs.now c.args.words.now c.args.heads.now c.args.loads.now) c.stmt-written.ensures c.requires c.in-Done.is, c.stmt-written.auto.1.1.1.1.1.0, c.requires.room)
+bounds-text-at c = omega (arith, line-room (inp c.args.script.now c.args.offs.now c.args.words.now c.args.heads.now c.args.loads.now) c.stmt-written.ensures c.requires c.in-Done.is, c.stmt-written.auto.text, c.requires.room)
 
 pub returns : goal.returns
 returns c = line-done (inp c.args.script.now c.args.offs.now c.args.words.now c.args.heads.now c.args.loads.now) c.stmt-written.ensures c.requires.room c.in-Done.is

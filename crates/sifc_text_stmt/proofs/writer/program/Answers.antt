@@ -30,7 +30,7 @@ line-next-requires c =
     line-spot (inp c.args.script.now c.args.offs.now c.args.words.now c.args.heads.now c.args.loads.now) (spot (row_l (line_l (inp c.args.script.now c.args.offs.now c.args.words.now c.args.heads.now c.args.loads.now)) (c.loop-left.left - 1)) (line_l (inp c.args.script.now c.args.offs.now c.args.words.now c.args.heads.now c.args.loads.now)) c.loop-left.invariant (cut-row (line_l (inp c.args.script.now c.args.offs.now c.args.words.now c.args.heads.now c.args.loads.now)) c.loop-left.left _ (some_left c.loop-left-test.true)) z)
 
 pub shape_of-text-in_default : goal.shape_of-text-in_default
-shape_of-text-in_default c = c.line-next.auto.1.1.1.1.1.0 ∙ c.loop-left.invariant.kept
+shape_of-text-in_default c = c.line-next.auto.text ∙ c.loop-left.invariant.kept
 
 pub returns-in_default : goal.returns-in_default
 returns-in_default c =
@@ -48,7 +48,7 @@ pub loop-left-preserved : goal.loop-left-preserved
 loop-left-preserved c =
     let p = narrowed (row_l (line_l (inp c.args.script.now c.args.offs.now c.args.words.now c.args.heads.now c.args.loads.now)) c.wide-left.result) (c.args.hi - 1) (opening {L = program_l (inp c.args.script.now c.args.offs.now c.args.words.now c.args.heads.now c.args.loads.now)} {text = c.args.text.now} {hi = c.args.hi} {at = c.args.at}) (is-program (inp c.args.script.now c.args.offs.now c.args.words.now c.args.heads.now c.args.loads.now) c.args.hi c.wide-left.result c.wide-left.ensures) (omega arith) in
     let z = here p c.requires in
-    put (row_l (line_l (inp c.args.script.now c.args.offs.now c.args.words.now c.args.heads.now c.args.loads.now)) (c.loop-left.left - 1)) (line_l (inp c.args.script.now c.args.offs.now c.args.words.now c.args.heads.now c.args.loads.now)) c.loop-left.invariant (cut-row (line_l (inp c.args.script.now c.args.offs.now c.args.words.now c.args.heads.now c.args.loads.now)) c.loop-left.left _ (some_left c.loop-left-test.true)) z (stmt-low (inp c.args.script.now c.args.offs.now c.args.words.now c.args.heads.now c.args.loads.now)) c.line-next.ensures c.line-next.auto.1.1.1.1.1.0 c.in-Done.is
+    put (row_l (line_l (inp c.args.script.now c.args.offs.now c.args.words.now c.args.heads.now c.args.loads.now)) (c.loop-left.left - 1)) (line_l (inp c.args.script.now c.args.offs.now c.args.words.now c.args.heads.now c.args.loads.now)) c.loop-left.invariant (cut-row (line_l (inp c.args.script.now c.args.offs.now c.args.words.now c.args.heads.now c.args.loads.now)) c.loop-left.left _ (some_left c.loop-left-test.true)) z (stmt-low (inp c.args.script.now c.args.offs.now c.args.words.now c.args.heads.now c.args.loads.now)) c.line-next.ensures c.line-next.auto.text c.in-Done.is
 
 pub shape_of-text : goal.shape_of-text
 shape_of-text c = c.loop-left.invariant.kept

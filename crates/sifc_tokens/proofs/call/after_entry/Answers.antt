@@ -1,5 +1,4 @@
-use borrow.Author.Rules.{rules}
-use mathlib.Core.Path.{◌≡◌, ◌∙◌}
+use mathlib.Core.Path.{◌∙◌}
 use Rattle.sifc_tokens.proofs.Calls.{entry-uneven, entry-ended, entry-used, entry-full}
 use Rattle.sifc_tokens.proofs.call.after_entry.Goals as goal
 

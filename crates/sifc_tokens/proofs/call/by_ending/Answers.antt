@@ -1,6 +1,5 @@
-use borrow.Author.Rules.{rules}
 use Prim.Native.Nat.{ℕ}
-use mathlib.Core.Path.{◌≡◌, refl, ap₂}
+use mathlib.Core.Path.{refl, ap₂}
 use mathlib.Core.List.{List}
 use Rattle.sifc_tokens.specs.Tokens.{by_ending, tokens_called, refusal}
 use Rattle.sifc_tokens.proofs.call.by_ending.Goals as goal

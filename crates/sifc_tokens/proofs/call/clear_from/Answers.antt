@@ -1,4 +1,3 @@
-use borrow.Author.Rules.{rules}
 use mathlib.Core.Path.{refl, ◌∙◌}
 use Rattle.sifc_tokens.proofs.Clear.{cleared-all}
 use Rattle.sifc_tokens.proofs.call.clear_from.Goals as goal

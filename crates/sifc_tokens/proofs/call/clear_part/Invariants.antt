@@ -1,11 +1,6 @@
-use Prim.Native.Nat.{ℕ, ◌+◌, ◌-◌, ◌≤◌, ◌<◌}
-use native.Mathlib.Omega.{arith}
-use borrow.Author.Rules.{rules}
-use mathlib.Core.Path.{◌≡◌, ap, ◌∙◌}
-use mathlib.Core.List.{List}
-use lib.ListN.{length, set}
+use Prim.Native.Nat.{◌-◌, ◌≤◌}
+use mathlib.Core.Path.{◌≡◌}
 use Rattle.sifc_tokens.specs.Loaded.{cleared}
-use Rattle.sifc_tokens.proofs.Clear.{length-cleared, cleared-none, cleared_more}
 use Rattle.sifc_tokens.proofs.call.clear_part.Given as goal
 
 abbrev pub invariant-loop-i : goal.invariant-loop-i

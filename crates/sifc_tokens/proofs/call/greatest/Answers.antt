@@ -1,9 +1,5 @@
-use Prim.Native.Nat.{◌+◌, ◌-◌, ◌≤◌}
-use mathlib.Core.Path.{◌≡◌, sym, ◌∙◌, refl}
+use mathlib.Core.Path.{sym, ◌∙◌, refl}
 use native.Mathlib.Omega.{arith}
-use borrow.Author.Rules.{rules}
-use lib.ListN.{length, drop}
-use Rattle.sifc_lex.specs.Class.{greatest_from}
 use Rattle.sifc_tokens.proofs.Greatest.{more, no_more, at-end}
 use Rattle.sifc_tokens.proofs.call.greatest.Goals as goal
 use Rattle.sifc_tokens.proofs.call.greatest.Goals.{then-most-b, else-most-b}

@@ -1,11 +1,7 @@
-use Prim.Native.Nat.{◌+◌, ◌-◌, ◌≤◌}
-use mathlib.Core.Path.{◌≡◌, sym, ◌∙◌, refl}
-use native.Mathlib.Omega.{arith}
-use borrow.Author.Rules.{rules}
+use Prim.Native.Nat.{◌-◌, ◌≤◌}
+use mathlib.Core.Path.{◌≡◌}
 use lib.ListN.{length, drop}
-use mathlib.Core.Logic.{⊎_elim}
 use Rattle.sifc_lex.specs.Class.{greatest_from}
-use Rattle.sifc_tokens.proofs.Greatest.{more, no_more, at-end}
 use Rattle.sifc_tokens.proofs.call.greatest.Given as goal
 
 abbrev pub invariant-loop-i : goal.invariant-loop-i

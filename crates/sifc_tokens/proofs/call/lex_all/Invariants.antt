@@ -1,10 +1,6 @@
-use Prim.Native.Nat.{ℕ, ◌+◌, ◌-◌, ◌≤◌, ◌<◌}
-use native.Mathlib.Omega.{arith}
-use borrow.Author.Rules.{rules}
-use mathlib.Core.Path.{◌≡◌, sym, ◌∙◌}
-use lib.ListN.{length, drop}
-use Rattle.sifc_lex.specs.Lex.{step}
-use Rattle.sifc_tokens.proofs.Loading.{Loading, loading-none, skip-bounds, word-bounds, stop-bounds, loading-skip, loading-word, loading-stop, end-small, full-word, full-stop}
+use Prim.Native.Nat.{◌-◌}
+use lib.ListN.{length}
+use Rattle.sifc_tokens.proofs.Loading.{Loading}
 use Rattle.sifc_tokens.proofs.call.lex_all.Given as goal
 
 abbrev pub invariant-loop-k : goal.invariant-loop-k

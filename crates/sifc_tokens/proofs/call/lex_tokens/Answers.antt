@@ -1,9 +1,3 @@
-use borrow.Author.Rules.{rules}
-use Prim.Native.Nat.{ℕ, ◌≤◌, ◌-◌}
-use mathlib.Core.Path.{◌≡◌, subst, sym}
-use mathlib.Core.List.{List, ◌++◌}
-use lib.ListN.{length, take, replicate}
-use Rattle.sifc_tokens.specs.Loaded.{used_by}
 use Rattle.sifc_tokens.proofs.Calls.{used-offs, used-words, loaded-call}
 use Rattle.sifc_tokens.proofs.call.lex_tokens.Goals as goal
 

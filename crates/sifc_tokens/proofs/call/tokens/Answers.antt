@@ -1,5 +1,4 @@
-use borrow.Author.Rules.{rules}
-use mathlib.Core.Path.{◌≡◌, ◌∙◌, sym}
+use mathlib.Core.Path.{◌∙◌, sym}
 use Rattle.sifc_tokens.proofs.Calls.{call-fine, call-refused}
 use Rattle.sifc_tokens.proofs.call.tokens.Goals as goal
 

@@ -1,9 +1,9 @@
-use Prim.Native.Nat.{ℕ, ◌<◌, ◌≤◌, ◌+◌}
+use Prim.Native.Nat.{◌<◌, ◌≤◌, ◌+◌}
 use native.Mathlib.Omega.{arith}
-use mathlib.Core.Path.{◌≡◌, ap, ◌∙◌, sym, subst}
+use mathlib.Core.Path.{ap, ◌∙◌, sym, subst}
 use lib.ListN.{length}
 use Rattle.sifc_tokens.specs.declared.place.Place.{Place}
-use Rattle.sifc_tokens.specs.Place.{walked_to, place}
+use Rattle.sifc_tokens.specs.Place.{place}
 use Rattle.sifc_tokens.proofs.PlaceLaws.{walked_none, walked_line, place_inside, place-even, place-ragged}
 use Rattle.sifc_tokens.proofs.place.place_at.Goals as goal
 

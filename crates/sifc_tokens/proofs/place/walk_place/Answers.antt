@@ -1,8 +1,6 @@
-use Prim.Native.Nat.{ℕ, ◌-◌, ◌≤◌, ◌^◌, ◌<◌}
 use native.Mathlib.Omega.{arith}
-use borrow.Author.Rules.{rules}
-use mathlib.Core.Path.{◌≡◌, ap, ◌∙◌, sym, subst}
-use lib.ListN.{length, get_or}
+use mathlib.Core.Path.{◌≡◌, ap, ◌∙◌, sym}
+use lib.ListN.{get_or}
 use Rattle.sifc_tokens.specs.declared.place.Place.{Place}
 use Rattle.sifc_tokens.specs.Place.{walked_to, next_place}
 use Rattle.sifc_tokens.proofs.PlaceLaws.{walked_more, walked_line, walked-pos}

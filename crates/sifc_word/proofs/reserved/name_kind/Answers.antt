@@ -1,6 +1,4 @@
-use borrow.Author.Rules.{rules}
 use mathlib.Core.Path.{refl, sym, ◌∙◌}
-use lib.ListN.{drop}
 use Rattle.sifc_word.specs.Base.{if◌then◌otherwise◌}
 use Rattle.sifc_word.specs.Reserved.{reserved_words, kind_among, name_kind}
 use Rattle.sifc_word.proofs.reserved.name_kind.Goals as goal

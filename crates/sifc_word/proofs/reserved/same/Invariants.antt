@@ -1,11 +1,7 @@
-use Prim.Native.Nat.{◌+◌, ◌-◌, ◌≤◌}
-use mathlib.Core.Path.{◌≡◌, sym, ◌∙◌, refl}
-use native.Mathlib.Omega.{arith}
-use borrow.Author.Rules.{rules}
-use native.Mathlib.Numerals.{add-one}
+use Prim.Native.Nat.{◌-◌, ◌≤◌}
+use mathlib.Core.Path.{◌≡◌}
 use lib.ListN.{length, drop}
 use Rattle.sifc_word.specs.Base.{same}
-use Rattle.sifc_word.specs.BaseLaws.{same-lengths, same-at-yes, same-at-no, same-at-end}
 use Rattle.sifc_word.proofs.reserved.same.Given as goal
 
 abbrev pub invariant-loop-i : goal.invariant-loop-i

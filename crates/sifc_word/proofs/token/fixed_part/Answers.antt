@@ -1,6 +1,5 @@
-use borrow.Author.Rules.{rules}
 use Prim.Native.Nat.{ℕ, ◌<◌}
-use mathlib.Core.Path.{◌≡◌, refl, ap, ap₂, ◌∙◌, sym}
+use mathlib.Core.Path.{◌≡◌, ap, ap₂, ◌∙◌, sym}
 use mathlib.Core.List.{List, [], ◌∷◌}
 use mathlib.Core.Bool.{Bool}
 use native.Mathlib.Omega.{arith}
