@@ -1,5 +1,5 @@
 -- The two words of a listed error say its record; and the reading call on records agrees with the call on words.
-use Rattle.std.specs.Prelude.{ℕ, ◌+◌, ◌-◌, ◌*◌, ◌/◌, ◌%◌, ◌≤◌, ◌<◌, Bool, ◌⊎◌, ◌≡◌, eqb, length}
+use Rattle.std.specs.Prelude.{ℕ, ◌+◌, ◌*◌, ◌/◌, ◌%◌, ◌≤◌, ◌<◌, Bool, ◌⊎◌, ◌≡◌, eqb, length}
 use mathlib.Core.List.{List, [], ◌∷◌, map, reverse, reverse_aux}
 use Rattle.std.proofs.Math.Bool.{true, false}
 use Rattle.std.proofs.Common.{inl, inr, sym, ap, ap₂, ◌∙◌, subst, arith, ltb-false, eqb-true, eq-eqb, ne_eqb}
@@ -22,7 +22,7 @@ use Rattle.sifc_def.specs.declared.Err.{Err}
 use Rattle.sifc_def.specs.declared.Why.{Why}
 use Rattle.sifc_def.specs.declared.Why.TheVariants.{InvalidIdent, InvalidTkn, InvalidTknMsg, InvalidAssign, InvalidForStmt, InvalidIfStmt, TknMismatch, FnParmCntExceeded, WrongFnParmCnt, UndeclSym, UnassignedVar, ExpectedIdent}
 use Rattle.sifc_def.specs.declared.Reading.{Reading}
-use Rattle.sifc_def.specs.declared.Reading.TheVariants.{Read, Refused}
+use Rattle.sifc_def.specs.declared.Reading.TheVariants.{Refused}
 use Rattle.sifc_def.specs.Error.{ty_of, carried, carried_too, place_at, parse_err, err_place, err_reason}
 use Rattle.sifc_def.specs.State.{Ctx, Out, done, fail, refuse, tok_at}
 use Rattle.sifc_def.specs.Walk.{End, walk}

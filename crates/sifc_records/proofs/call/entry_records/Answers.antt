@@ -1,4 +1,3 @@
-use borrow.Author.Rules.{rules}
 use Rattle.sifc_records.proofs.Calls.{passed, uneven, not-passed}
 use Rattle.sifc_records.proofs.call.entry_records.Goals as goal
 

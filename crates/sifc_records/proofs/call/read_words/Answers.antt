@@ -1,4 +1,3 @@
-use borrow.Author.Rules.{rules}
 use Rattle.sifc_records.proofs.Calls.{entered, read-on, read-not}
 use Rattle.sifc_records.proofs.call.read_words.Goals as goal
 
