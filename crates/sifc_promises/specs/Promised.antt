@@ -6,7 +6,7 @@ use prog.Wired.{Code, Wired}
 use types.Logic.{Logic}
 use contract.Running.{Running}
 use contract.Lifetimes.{Lfts}
-use contract.Notation.{Connectives, connectives}
+use contract.Notation.{connectives}
 use denote.Triple.Entry.{Args, Res}
 use denote.Triple.Clauses.{Ended, AtExit}
 use denote.Triple.Spec.{Meets, exits}
