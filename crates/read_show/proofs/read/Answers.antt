@@ -1,5 +1,4 @@
 use mathlib.Core.Path.{sym, ◌∙◌}
-use borrow.Author.Rules.{rules}
 use Rattle.read_show.specs.Listing.{listed-long, listed-short}
 use Rattle.read_show.proofs.read.Goals as goal
 
