@@ -14,7 +14,7 @@ MOVED = {
     "sifc_lex": ["LexCases", "LexLaws", "LexTrip", "Unicode"],
     "sifc_tokens": ["PlaceLaws", "TokensLaws"],
     "sifc_def": (
-        "Case Cases Corners ExprLaws FuelLaws GroveLaws OutcomeLaws ReadLaws StepLaws StmtLaws TokLaws TreeLaws Typed WalkLaws Round "
+        "Cases Corners ExprLaws FuelLaws GroveLaws OutcomeLaws ReadLaws StepLaws StmtLaws TokLaws TreeLaws WalkLaws Round "
         "Canon.Bytes Canon.Calls Canon.Demand3 Canon.Demand3Cases Canon.Kinded Canon.Kinds Canon.Laws Canon.Lexed Canon.Operators "
         "Canon.Print Canon.Rooms Canon.Same Canon.Trees Canon.Words"
     ).split(),

@@ -102,7 +102,7 @@ fn print_answer<W: Write>(
 }
 
 // Reads a script of at most 4,096 bytes into the lent arrays.
-fn read(
+pub fn read(
     script: &[u8],
     offs: &mut [u32],
     words: &mut [u32],

@@ -3,7 +3,7 @@
 use Rattle.std.specs.Prelude.{◌≡◌, refl, List, [], ◌∷◌, ◌++◌, map, true, false, replicate}
 use Rattle.sifc_err.specs.declared.Refusal.TheVariants.{LongScript, NotAscii, TooDeep}
 use Rattle.sifc_def.specs.Ascii.{ascii}
-use Rattle.sifc_def.proofs.Case.{Case, listed, no, ok, early, ran, said}
+use Rattle.sifc_def.specs.Case.{Case, listed, no, ok, early, ran, said}
 use Rattle.sifc_def.proofs.Corners.{ample, many}
 
 pub limits : List Case

@@ -3,7 +3,7 @@
 use Rattle.std.specs.Prelude.{◌≡◌, refl, List, [], ◌∷◌, map}
 use Rattle.sifc_err.specs.declared.Refusal.TheVariants.{Flagged, TextFull}
 use Rattle.sifc_def.specs.declared.Texting.TheVariants.{Wrote, Refused}
-use Rattle.sifc_def.proofs.Case.{Case, writes, ran, said}
+use Rattle.sifc_def.specs.Case.{Case, writes, ran, said}
 
 pub texts : List Case
 texts =

@@ -8,7 +8,7 @@ use Rattle.sifc_def.specs.declared.Early.TheVariants.{Never, By}
 use Rattle.sifc_def.specs.declared.Texting.TheVariants.{Wrote}
 use Rattle.sifc_def.specs.Ast.{Program, Block, IfStmt, ExprStmt, VarDecl, ItemList, Table, PrimaryExpr}
 use Rattle.sifc_def.specs.State.{node}
-use Rattle.sifc_def.proofs.Case.{Case, reads, writes, ends, listed, answers, refuses, ran, said}
+use Rattle.sifc_def.specs.Case.{Case, reads, writes, ends, listed, answers, refuses, ran, said}
 
 pub table : List Case
 table =

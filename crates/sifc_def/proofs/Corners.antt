@@ -9,7 +9,7 @@ use Rattle.sifc_def.specs.declared.Early.TheVariants.{Never, By}
 use Rattle.sifc_def.specs.Ast.{Program, ExprStmt, VarDecl, FnCallExpr, BinaryExpr, PrimaryExpr}
 use Rattle.sifc_def.specs.State.{node}
 use Rattle.sifc_def.specs.Ascii.{ascii}
-use Rattle.sifc_def.proofs.Case.{Case, reads, says, answers, listed, Short, no, ok, early, ran, said}
+use Rattle.sifc_def.specs.Case.{Case, reads, says, answers, listed, Short, no, ok, early, ran, said}
 
 -- with room enough
 abbrev pub ample : List ℕ → Short → Case

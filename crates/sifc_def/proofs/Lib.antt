@@ -1,4 +1,3 @@
-pub mod Case
 pub mod Cases
 pub mod Corners
 pub mod ExprLaws
@@ -10,7 +9,6 @@ pub mod StepLaws
 pub mod StmtLaws
 pub mod TokLaws
 pub mod TreeLaws
-pub mod Typed
 pub mod WalkLaws
 pub mod Round
 pub mod Canon

@@ -12,7 +12,7 @@ use Rattle.sifc_def.specs.declared.What.TheVariants.{Placeholder, Function, Vari
 use Rattle.sifc_def.specs.State.{Node, node, Sym, Ctx, St, Out, done, fail, refuse, M, go_on, W, name_of, word_at, without}
 use Rattle.sifc_def.specs.Symbols.{is_sym, find_at, find, put_at}
 use Rattle.sifc_def.specs.Label.{Lab, label}
-use Rattle.sifc_def.proofs.Typed.{is_some, wants}
+use Rattle.sifc_def.specs.Typed.{is_some, wants}
 pub mod Steps
 pub mod Levels
 pub mod Statements

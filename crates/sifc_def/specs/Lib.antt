@@ -11,3 +11,5 @@ pub mod Tree
 pub mod Text
 pub mod Read
 pub mod Canon
+pub mod Typed
+pub mod Case

@@ -50,13 +50,13 @@ use Rattle.sif_c.proofs.sif_value.Met as sif-value-met
 
 module _ {M : Type 1} where
   -- The tokens call: answer and both arrays at exit are `tokens_call` of the script and the arrays at entry.
-  pub tokens : Promised M tokens-call.ended tokens-symbol.routine λ κs at r end.
+  pub tokens : Promised M tokens-call.ended tokens-symbol.code tokens-symbol.name λ κs at r end.
       tokens_called (answer_of r) end.1.0.now end.1.1.0.now
       ≡ tokens_call at.0.now at.1.0.now at.1.1.0.now
   tokens = tokens-met.met
 
   -- The reading call: answer and the seven arrays at exit are `reading` of the script and the arrays at entry. Demand 3 takes a call that ran with this very promise.
-  pub reading : Promised M reading-call.ended reading-symbol.routine λ κs at r end.
+  pub reading : Promised M reading-call.ended reading-symbol.code reading-symbol.name λ κs at r end.
       let a = at.1 in
       let b = a.1.1.1 in
       let e = end.1 in
@@ -69,7 +69,7 @@ module _ {M : Type 1} where
 
   -- The reading call over a slice of error records: answer, the seven arrays and every record at exit are `reading_records` of the script, the arrays and the records
   -- at entry.
-  pub reading-records : Promised M records-call.ended records-symbol.routine λ κs at r end.
+  pub reading-records : Promised M records-call.ended records-symbol.code records-symbol.name λ κs at r end.
       let a = at.1 in
       let b = a.1.1.1 in
       let e = end.1 in
@@ -84,7 +84,7 @@ module _ {M : Type 1} where
 
   -- The text call: answer, the seven arrays and the buffer at exit are `text_call` of the script, the arrays and the buffer at entry. Demand 3 takes a call that ran
   -- with this very promise.
-  pub text : Promised M text-call.ended text-symbol.routine λ κs at r end.
+  pub text : Promised M text-call.ended text-symbol.code text-symbol.name λ κs at r end.
       let a = at.1 in
       let b = a.1.1.1 in
       let e = end.1 in
@@ -98,7 +98,7 @@ module _ {M : Type 1} where
   text = text-met.met
 
   -- The tokens call that hosts link: the same in numbers.
-  pub sif-tokens : Promised M sif-tokens-call.ended sif-tokens-symbol.routine λ κs at r end.
+  pub sif-tokens : Promised M sif-tokens-call.ended sif-tokens-symbol.code sif-tokens-symbol.name λ κs at r end.
       let n = end.1.1.1 in
       tokens_called (answer n.0.now r n.1.0.now n.1.1.0.now) end.1.0.now end.1.1.0.now
       ≡ tokens_call at.0.now at.1.0.now at.1.1.0.now
@@ -106,7 +106,7 @@ module _ {M : Type 1} where
 
   -- The reading call that hosts link: the numbers are tokens, nodes, errors, flag; line, column, reason number, offset and value of the error that ended the reading;
   -- and, with the result, the refusal's number, kind and offset.
-  pub sif-reading : Promised M sif-reading-call.ended sif-reading-symbol.routine λ κs at r end.
+  pub sif-reading : Promised M sif-reading-call.ended sif-reading-symbol.code sif-reading-symbol.name λ κs at r end.
       let a = at.1 in
       let b = a.1.1.1 in
       let e = end.1 in
@@ -125,7 +125,7 @@ module _ {M : Type 1} where
   sif-reading = sif-reading-met.met
 
   -- The text call that hosts link: the numbers are the count and, with the result, the refusal's number, kind and offset.
-  pub sif-text : Promised M sif-text-call.ended sif-text-symbol.routine λ κs at r end.
+  pub sif-text : Promised M sif-text-call.ended sif-text-symbol.code sif-text-symbol.name λ κs at r end.
       let a = at.1 in
       let b = a.1.1.1 in
       let e = end.1 in
@@ -141,21 +141,21 @@ module _ {M : Type 1} where
   sif-text = sif-text-met.met
 
   -- The deepest script of a length, which is the first argument: answer and buffer at exit are `deepest_call` of the length and the buffer at entry.
-  pub deepest : Promised M deepest-call.ended deepest-symbol.routine λ κs at r end.
+  pub deepest : Promised M deepest-call.ended deepest-symbol.code deepest-symbol.name λ κs at r end.
       deepest_called r end.1.0.now ≡ deepest_call at.0 at.1.0.now
   deepest = deepest-met.met
 
   -- The same for hosts: the numbers are the depth and, as the result, the refusal's number.
-  pub sif-deepest : Promised M sif-deepest-call.ended sif-deepest-symbol.routine λ κs at r end.
+  pub sif-deepest : Promised M sif-deepest-call.ended sif-deepest-symbol.code sif-deepest-symbol.name λ κs at r end.
       deepest_told (deepest_answer end.1.1.0.now r) end.1.0.now ≡ told_deepest (deepest_call at.0 at.1.0.now)
   sif-deepest = sif-deepest-met.met
 
   -- The value of a number literal: the answer is `value_of` of its bytes.
-  pub value : Promised M value-call.ended value-symbol.routine λ κs at r end. r ≡ value_of at.0.now
+  pub value : Promised M value-call.ended value-symbol.code value-symbol.name λ κs at r end. r ≡ value_of at.0.now
   value = value-met.met
 
   -- The same for hosts: the refusal's number as the result, and the value.
-  pub sif-value : Promised M sif-value-call.ended sif-value-symbol.routine λ κs at r end. told_in r end.1.0.now ≡ told_value (value_of at.0.now)
+  pub sif-value : Promised M sif-value-call.ended sif-value-symbol.code sif-value-symbol.name λ κs at r end. told_in r end.1.0.now ≡ told_value (value_of at.0.now)
   sif-value = sif-value-met.met
 
 -- Demand 3, of any eight calls that ran: two scripts, their readings and text calls, and the readings and text calls of their canonical texts.

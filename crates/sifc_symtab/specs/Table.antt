@@ -15,7 +15,7 @@ use Rattle.sifc_symtab.specs.declared.symtab.Stored.TheVariants.{At, Full}
 use Rattle.sifc_symtab.specs.Toks.{toks_of}
 use Rattle.sifc_symtab.specs.Chains.{Chains}
 
--- The name of token i: the definition's nameAt, of a script and the two token arrays.
+-- The name of token i: the definition's name_at, of a script and the two token arrays.
 abbrev pub name_in : List ℕ → List ℕ → List ℕ → ℕ → List ℕ
 name_in script offs words i = name_of (word_in script (token_at (toks_of offs words) i))
 

@@ -25,7 +25,7 @@ use Rattle.sifc_def.specs.declared.Texting.TheVariants.{Wrote, Refused}
 use Rattle.sifc_def.specs.State.{Node}
 use Rattle.sifc_def.specs.Error.{err_place, err_reason}
 use Rattle.sifc_def.specs.Read.{Arrays, rooms_of, cleared_arrays, entry, Found, Outcome, found, refused, ctx_of, read, head_word, Called, called, summary, filled, answered, Written, written, text_found, texted, text_call}
-use Rattle.sifc_def.proofs.Typed.{Stmts, OkProgram, SaidSs}
+use Rattle.sifc_def.specs.Typed.{Stmts, OkProgram, SaidSs}
 use Rattle.sifc_def.proofs.Canon.Bytes as canon
 use Rattle.sifc_def.proofs.Canon.Calls.{Reads}
 use Rattle.sifc_def.proofs.Canon.Demand3.{Shows, shows-text, found-same, Typed, typed}

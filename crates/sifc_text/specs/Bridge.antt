@@ -13,7 +13,7 @@ use Rattle.sifc_word.specs.Reserved.{is_std_lib_fn}
 use Rattle.sifc_def.specs.State.{Node, W, name_of}
 use Rattle.sifc_def.specs.Ast.{Program, IfStmt, ElifStmt, ForStmt, ReturnStmt, ExprStmt, VarDecl, FnDecl, FnParams, IdentPair, ItemList, TableItem, Table, TableAccess, Array, ArrayItems, ArrayAccess, ArrayMutExpr, FnCallExpr, VarAssignExpr, BinaryExpr, UnaryExpr}
 use Rattle.sifc_def.specs.Label.{Lab, has_token, label, labels}
-use Rattle.sifc_def.proofs.Typed.{Expr, prim, un, bin, call, dot, idx, set, mut, Exprs, nil, more, many, Items, no_item, item, many_items, Stmt, var_none, var_expr, var_array, var_table, func, block, cond, loop, ret, ret_expr, expr_stmt, Stmts, stop, next, counted, Branches, no_branch, elif_of, else_of, many_branches, bare, said, prim_lab, global_at, block_lab, renc, rencs, renc_names, renc_items, renc_array, renc_s, renc_ss, renc_bs, renc_program, Said, Saids, SaidNames, SaidItems, SaidS, SaidSs, SaidBs}
+use Rattle.sifc_def.specs.Typed.{Expr, prim, un, bin, call, dot, idx, set, mut, Exprs, nil, more, many, Items, no_item, item, many_items, Stmt, var_none, var_expr, var_array, var_table, func, block, cond, loop, ret, ret_expr, expr_stmt, Stmts, stop, next, counted, Branches, no_branch, elif_of, else_of, many_branches, bare, said, prim_lab, global_at, block_lab, renc, rencs, renc_names, renc_items, renc_array, renc_s, renc_ss, renc_bs, renc_program, Said, Saids, SaidNames, SaidItems, SaidS, SaidSs, SaidBs}
 use Rattle.sifc_def.proofs.Canon.Bytes.{Fine}
 use Rattle.sifc_put.specs.Place.{Inp, Nothing, Then, Along, Over, Told}
 use Rattle.sifc_put.specs.Spans.{Single, Spans, SpansAll, SpansItem, SpansItems, SpansArray, SpansTable, SpansNames, SpansPair, SpansS, SpansSs, SpansBs, SpansBlock, SpansProgram}

@@ -9,7 +9,7 @@ use lib.ListN.{length, get_or}
 use Rattle.sifc_word.specs.Base.{if◌then◌otherwise◌, member}
 use Rattle.sifc_def.specs.State.{W}
 use Rattle.sifc_def.specs.Expr.{looseness}
-use Rattle.sifc_def.proofs.Typed.{Expr, prim, un, bin, call, dot, idx, set, mut, Exprs, nil, more, many, rp, rb, eq, comma, height, wrap, between, pr, prs}
+use Rattle.sifc_def.specs.Typed.{Expr, prim, un, bin, call, dot, idx, set, mut, Exprs, nil, more, many, rp, rb, eq, comma, height, wrap, between, pr, prs}
 use Rattle.sifc_put.specs.Place.{Inp, Then, Along}
 use Rattle.sifc_put.specs.Post.{Lang, fixed, token_l, leaf_l, seq, commas, height_at}
 use Rattle.sifc_put.specs.Bytes.{worded, spaced, bytes_of, puts-wrap, puts-E, puts-Es, spaced-puts}

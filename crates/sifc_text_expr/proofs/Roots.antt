@@ -7,7 +7,7 @@ use mathlib.Core.Bool.{Bool, true, false}
 use lib.Dec.{leb, ltb, leb-suc-suc}
 use borrow.Author.Tests.{lt-ltb, le-ltb}
 use Rattle.sifc_word.specs.Base.{if◌then◌otherwise◌, member}
-use Rattle.sifc_def.proofs.Typed.{Expr, prim, un, bin, call, dot, idx, set, mut, Exprs, nil, more, height}
+use Rattle.sifc_def.specs.Typed.{Expr, prim, un, bin, call, dot, idx, set, mut, Exprs, nil, more, height}
 use Rattle.sifc_def.specs.Expr.{looseness}
 use Rattle.sifc_put.specs.Place.{Inp, Node}
 use Rattle.sifc_put.specs.Post.{height_at, Readable}

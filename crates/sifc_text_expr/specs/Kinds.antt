@@ -3,7 +3,7 @@ use Rattle.std.specs.Prelude.{ℕ, [], ◌∷◌, ◌++◌, eqb, ltb}
 use Rattle.sifc_word.specs.Base.{if◌then◌otherwise◌}
 use Rattle.sifc_def.specs.Ast.{TableAccess}
 use Rattle.sifc_def.specs.State.{W}
-use Rattle.sifc_def.proofs.Typed.{Expr, height, wrap, pr}
+use Rattle.sifc_def.specs.Typed.{Expr, height, wrap, pr}
 use Rattle.sifc_put.specs.Place.{Inp, Then}
 use Rattle.sifc_put.specs.Post.{Lang, list_l}
 use Rattle.sifc_put.specs.Bytes.{worded, bytes_of}

@@ -9,7 +9,7 @@ use borrow.Author.Tests.{ne_eqb}
 use Rattle.sifc_word.specs.Base.{if◌then◌otherwise◌}
 use Rattle.sifc_def.specs.State.{W}
 use Rattle.sifc_def.specs.Ast.{ReturnStmt, ExprStmt, VarDecl}
-use Rattle.sifc_def.proofs.Typed.{Expr, prim, un, bin, call, dot, idx, set, mut, Exprs, nil, more, many, Items, no_item, item, many_items, lb, rb, eq, semi, arrow, dlb, drb, var_word, return_word, pr, prs, pr_items, pr_names, between_items, between_names, comma}
+use Rattle.sifc_def.specs.Typed.{Expr, prim, un, bin, call, dot, idx, set, mut, Exprs, nil, more, many, Items, no_item, item, many_items, lb, rb, eq, semi, arrow, dlb, drb, var_word, return_word, pr, prs, pr_items, pr_names, between_items, between_names, comma}
 use Rattle.sifc_put.specs.Place.{Inp, Node, Carries, Along}
 use Rattle.sifc_put.specs.Post.{Lang, fixed, seq, commas}
 use Rattle.sifc_put.specs.Bytes.{worded, spaced, spaced-append, Puts, puts-E, puts-Es, puts-I, bytes_of, spaced-puts}

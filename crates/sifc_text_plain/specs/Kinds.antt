@@ -2,7 +2,7 @@
 use Rattle.std.specs.Prelude.{ℕ, List, ◌∷◌, ◌++◌}
 use Rattle.sifc_def.specs.State.{W}
 use Rattle.sifc_def.specs.Ast.{VarDecl, ReturnStmt, ExprStmt}
-use Rattle.sifc_def.proofs.Typed.{Expr, Exprs, Items, pr, prs, pr_items, lb, rb, eq, comma, semi, arrow, dlb, drb, var_word, return_word}
+use Rattle.sifc_def.specs.Typed.{Expr, Exprs, Items, pr, prs, pr_items, lb, rb, eq, comma, semi, arrow, dlb, drb, var_word, return_word}
 use Rattle.sifc_put.specs.Place.{Inp, Nothing, Over, Told}
 use Rattle.sifc_put.specs.Post.{Lang, list_l, leaf_l}
 use Rattle.sifc_put.specs.Bytes.{worded, bytes_of}

@@ -7,7 +7,7 @@ use lib.ListN.{length}
 use Rattle.sifc_lex.proofs.LexTrip.{bytes}
 use Rattle.sifc_def.specs.State.{W}
 use Rattle.sifc_def.specs.Text.{line}
-use Rattle.sifc_def.proofs.Typed.{Expr, Stmt, var_none, var_expr, var_array, var_table, func, block, cond, loop, ret, ret_expr, expr_stmt, Stmts, stop, next, counted, Branches, no_branch, elif_of, else_of, many_branches, lp, rp, comma, lbrace, rbrace, fn_word, if_word, elif_word, else_word, for_word, in_word, pr, pr_names, pr_s, pr_ss, pr_bs}
+use Rattle.sifc_def.specs.Typed.{Expr, Stmt, var_none, var_expr, var_array, var_table, func, block, cond, loop, ret, ret_expr, expr_stmt, Stmts, stop, next, counted, Branches, no_branch, elif_of, else_of, many_branches, lp, rp, comma, lbrace, rbrace, fn_word, if_word, elif_word, else_word, for_word, in_word, pr, pr_names, pr_s, pr_ss, pr_bs}
 use Rattle.sifc_def.proofs.Canon.Bytes.{texts, printed, items_of_all, printed-more}
 use Rattle.sifc_def.proofs.Canon.Words.{decl_words}
 use Rattle.sifc_put.specs.Place.{Inp, Carries, Along}

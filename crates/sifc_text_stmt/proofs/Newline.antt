@@ -7,7 +7,7 @@ use lib.ListN.{length, take, drop, set, length-append}
 use lib.Seq.{set_at, length-take-le}
 use Rattle.sifc_def.specs.State.{W}
 use Rattle.sifc_def.specs.Text.{line}
-use Rattle.sifc_def.proofs.Typed.{Stmt, var_none, var_expr, var_array, var_table, func, block, cond, loop, ret, ret_expr, expr_stmt, semi, pr_s}
+use Rattle.sifc_def.specs.Typed.{Stmt, var_none, var_expr, var_array, var_table, func, block, cond, loop, ret, ret_expr, expr_stmt, semi, pr_s}
 use Rattle.sifc_def.proofs.Canon.Bytes.{texts}
 use Rattle.sifc_put.specs.declared.write.Put.{Put}
 use Rattle.sifc_put.specs.declared.write.Put.TheVariants.{Done, Full}

@@ -3,7 +3,7 @@ use Rattle.std.specs.Prelude.{ℕ, List, [], ◌∷◌, ◌++◌}
 use Rattle.sifc_def.specs.State.{W}
 use Rattle.sifc_def.specs.Ast.{ElifStmt}
 use Rattle.sifc_def.specs.Text.{line}
-use Rattle.sifc_def.proofs.Typed.{Expr, Stmt, Stmts, pr, pr_s, pr_ss, lbrace, rbrace, elif_word, else_word}
+use Rattle.sifc_def.specs.Typed.{Expr, Stmt, Stmts, pr, pr_s, pr_ss, lbrace, rbrace, elif_word, else_word}
 use Rattle.sifc_def.proofs.Canon.Bytes.{texts, printed}
 use Rattle.sifc_def.proofs.Canon.Words.{decl_words}
 use Rattle.sifc_put.specs.Place.{Inp, Then, Over}

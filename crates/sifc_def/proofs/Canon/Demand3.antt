@@ -13,7 +13,7 @@ use Rattle.sifc_def.specs.Label.{Lab, label, labels}
 use Rattle.sifc_def.specs.Walk.{End, walk}
 use Rattle.sifc_def.specs.Text.{text}
 use Rattle.sifc_def.specs.Read.{depth_limit, Arrays, Rooms, rooms_of, Found, Outcome, found, refused, ctx_of, read, reading, text_found, text_call}
-use Rattle.sifc_def.proofs.Typed.{Stmts, renc_program, OkProgram, SaidSs}
+use Rattle.sifc_def.specs.Typed.{Stmts, renc_program, OkProgram, SaidSs}
 use Rattle.sifc_def.proofs.Round.{of_size, Res}
 use Rattle.sifc_def.proofs.Round.Program.{ReadAs, program-read}
 use Rattle.sifc_def.proofs.Round.Sound.{Win}

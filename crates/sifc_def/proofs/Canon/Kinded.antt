@@ -10,7 +10,7 @@ use Rattle.sifc_word.specs.Kind.{Lt, Gt, Bang, Plus, Minus, Star, Slash, Percent
 use Rattle.sifc_def.specs.declared.What.{What}
 use Rattle.sifc_def.specs.State.{W, Sym}
 use Rattle.sifc_def.specs.Expr.{looseness, is_unary, is_literal}
-use Rattle.sifc_def.proofs.Typed.{Expr, prim, un, bin, call, dot, idx, set, mut, Exprs, nil, more, Items, no_item, item, Stmt, var_none, var_expr, var_array, var_table, func, block, cond, loop, ret, ret_expr, expr_stmt, Stmts, stop, next, Branches, no_branch, elif_of, else_of, fine, Ok, Oks, OkItems, OkNames, seen, OkS, OkSs, OkBs, Said, Saids, SaidNames, SaidItems, SaidS, SaidSs, SaidBs}
+use Rattle.sifc_def.specs.Typed.{Expr, prim, un, bin, call, dot, idx, set, mut, Exprs, nil, more, Items, no_item, item, Stmt, var_none, var_expr, var_array, var_table, func, block, cond, loop, ret, ret_expr, expr_stmt, Stmts, stop, next, Branches, no_branch, elif_of, else_of, fine, Ok, Oks, OkItems, OkNames, seen, OkS, OkSs, OkBs, Said, Saids, SaidNames, SaidItems, SaidS, SaidSs, SaidBs}
 
 -- ── kinds ──
 

@@ -3,7 +3,7 @@ use Rattle.std.specs.Prelude.{ℕ, suc, T, ltb}
 use mathlib.Core.List.{List, [], ◌∷◌, ◌++◌, reverse, reverse_aux}
 use Rattle.sifc_def.specs.State.{W}
 use Rattle.sifc_def.specs.Label.{Lab}
-use Rattle.sifc_def.proofs.Typed.{Expr, prim, un, bin, call, dot, idx, set, mut, Exprs, nil, more, Items, no_item, item, Stmt, var_none, var_expr, var_array, var_table, func, block, cond, loop, ret, ret_expr, expr_stmt, Stmts, stop, next, Branches, no_branch, elif_of, else_of, renc, rencs, renc_names, renc_items, renc_array, renc_s, renc_ss, renc_bs, renc_program}
+use Rattle.sifc_def.specs.Typed.{Expr, prim, un, bin, call, dot, idx, set, mut, Exprs, nil, more, Items, no_item, item, Stmt, var_none, var_expr, var_array, var_table, func, block, cond, loop, ret, ret_expr, expr_stmt, Stmts, stop, next, Branches, no_branch, elif_of, else_of, renc, rencs, renc_names, renc_items, renc_array, renc_s, renc_ss, renc_bs, renc_program}
 
 -- every kind is below 32
 unfoldable pub Small : List Lab → Type 0

@@ -12,7 +12,7 @@ use Rattle.sifc_def.specs.State.{W, token_at, word_in}
 use Rattle.sifc_lex.specs.Lex.{ascii as is_ascii}
 use Rattle.sifc_def.specs.Label.{Lab, lab}
 use Rattle.sifc_def.specs.Text.{text}
-use Rattle.sifc_def.proofs.Typed.{Stmts, pr_program, renc_program, OkProgram, SaidSs, eof_word}
+use Rattle.sifc_def.specs.Typed.{Stmts, pr_program, renc_program, OkProgram, SaidSs, eof_word}
 use Rattle.sifc_def.proofs.Canon.Bytes.{printed, joined, eof, Fine, AllFine, EachFine, Lined, print-lexed, print-ends, print-ascii, print-lined}
 use Rattle.sifc_def.proofs.Canon.Words.{Tells, decl_words, text-printed}
 use Rattle.sifc_def.proofs.Canon.Operators.{good-tells}

@@ -8,7 +8,7 @@ use Rattle.sifc_lex.specs.Lex.{token, lex}
 use Rattle.sifc_lex.proofs.LexLaws.{Run, last, more, lex-runs}
 use Rattle.sifc_lex.proofs.LexTrip.{Good, spell, AllWords, lex-all-words}
 use Rattle.sifc_def.specs.State.{W, token_at, word_in}
-use Rattle.sifc_def.proofs.Typed.{Expr, prim, un, bin, call, dot, idx, set, mut, Exprs, nil, more as another, Items, no_item, item, Stmt, var_none, var_expr, var_array, var_table, func, block, cond, loop, ret, ret_expr, expr_stmt, Stmts, stop, next, Branches, no_branch, elif_of, else_of, Said, Saids, SaidNames, SaidItems, SaidS, SaidSs, SaidBs}
+use Rattle.sifc_def.specs.Typed.{Expr, prim, un, bin, call, dot, idx, set, mut, Exprs, nil, more as another, Items, no_item, item, Stmt, var_none, var_expr, var_array, var_table, func, block, cond, loop, ret, ret_expr, expr_stmt, Stmts, stop, next, Branches, no_branch, elif_of, else_of, Said, Saids, SaidNames, SaidItems, SaidS, SaidSs, SaidBs}
 use Rattle.sifc_def.proofs.Canon.Bytes.{Plain, Fine}
 
 -- ── a token of a script ──

@@ -9,7 +9,7 @@ use Rattle.sifc_lex.specs.Lex.{step}
 use Rattle.sifc_lex.proofs.LexTrip.{Good, sep}
 use Rattle.sifc_def.specs.State.{W}
 use Rattle.sifc_lex.specs.Lex.{ascii as is_ascii}
-use Rattle.sifc_def.proofs.Typed.{Expr, prim, un, bin, call, dot, idx, set, mut, Exprs, nil, more, Items, no_item, item, Stmt, var_none, var_expr, var_array, var_table, func, block, cond, loop, ret, ret_expr, expr_stmt, Stmts, stop, next, Branches, no_branch, elif_of, else_of, word, lp, rp, lb, rb, eq, period, comma, semi, arrow, dlb, drb, lbrace, rbrace, var_word, fn_word, return_word, if_word, elif_word, else_word, for_word, in_word, height, wrap, between, between_names, between_items, pr, prs, pr_names, pr_items, pr_s, pr_ss, pr_bs, Said, Saids, SaidNames, SaidItems, SaidS, SaidSs, SaidBs}
+use Rattle.sifc_def.specs.Typed.{Expr, prim, un, bin, call, dot, idx, set, mut, Exprs, nil, more, Items, no_item, item, Stmt, var_none, var_expr, var_array, var_table, func, block, cond, loop, ret, ret_expr, expr_stmt, Stmts, stop, next, Branches, no_branch, elif_of, else_of, word, lp, rp, lb, rb, eq, period, comma, semi, arrow, dlb, drb, lbrace, rbrace, var_word, fn_word, return_word, if_word, elif_word, else_word, for_word, in_word, height, wrap, between, between_names, between_items, pr, prs, pr_names, pr_items, pr_s, pr_ss, pr_bs, Said, Saids, SaidNames, SaidItems, SaidS, SaidSs, SaidBs}
 use Rattle.sifc_def.proofs.Canon.Bytes.{Plain, Fine, AllFine, EachFine, joined}
 use Rattle.sifc_def.proofs.Canon.Words.{decl_words}
 

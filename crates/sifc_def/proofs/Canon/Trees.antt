@@ -9,7 +9,7 @@ use Rattle.sifc_def.specs.State.{W, name_of}
 use Rattle.sifc_def.specs.Label.{Lab, lab}
 use Rattle.sifc_def.specs.Tree.{Tree, tree, Forest, leaf, grow, many as width, gather, dec}
 use Rattle.sifc_def.proofs.TreeLaws.{onto}
-use Rattle.sifc_def.proofs.Typed.{Expr, prim, un, bin, call, dot, idx, set, mut, Exprs, nil, more, Items, no_item, item, Stmt, var_none, var_expr, var_array, var_table, func, block, cond, loop, ret, ret_expr, expr_stmt, Stmts, stop, next, Branches, no_branch, elif_of, else_of, many, many_items, counted, many_branches, bare, said, prim_lab, renc, rencs, renc_names, renc_items, renc_array, global_at, block_lab, renc_s, renc_ss, renc_bs, renc_program}
+use Rattle.sifc_def.specs.Typed.{Expr, prim, un, bin, call, dot, idx, set, mut, Exprs, nil, more, Items, no_item, item, Stmt, var_none, var_expr, var_array, var_table, func, block, cond, loop, ret, ret_expr, expr_stmt, Stmts, stop, next, Branches, no_branch, elif_of, else_of, many, many_items, counted, many_branches, bare, said, prim_lab, renc, rencs, renc_names, renc_items, renc_array, global_at, block_lab, renc_s, renc_ss, renc_bs, renc_program}
 
 -- ── the tree of a typed tree ──
 

@@ -12,7 +12,7 @@ use Rattle.sifc_def.specs.declared.What.{What}
 use Rattle.sifc_def.specs.State.{W, Sym}
 use Rattle.sifc_def.specs.Expr.{looseness}
 use Rattle.sifc_def.specs.Text.{Words, Piece, op_strength, strength_of, paren, commas, row, or_else, binary, unary, after, closed, valued, branched, words_of, piece, pieces, lines, text}
-use Rattle.sifc_def.proofs.Typed.{Expr, prim, un, bin, call, dot, idx, set, mut, Exprs, nil, more, Items, no_item, item, Stmt, var_none, var_expr, var_array, var_table, func, block, cond, loop, ret, ret_expr, expr_stmt, Stmts, stop, next, Branches, no_branch, elif_of, else_of, lp, rp, lb, rb, eq, period, comma, semi, arrow, dlb, drb, lbrace, rbrace, var_word, fn_word, return_word, if_word, elif_word, else_word, for_word, in_word, height, wrap, between, between_names, between_items, pr, prs, pr_names, pr_items, pr_s, pr_ss, pr_bs, renc_program, ends, Ok, Oks, OkItems, OkS, OkSs, OkBs, env_s, seen, Said, Saids, SaidItems, SaidS, SaidSs, SaidBs}
+use Rattle.sifc_def.specs.Typed.{Expr, prim, un, bin, call, dot, idx, set, mut, Exprs, nil, more, Items, no_item, item, Stmt, var_none, var_expr, var_array, var_table, func, block, cond, loop, ret, ret_expr, expr_stmt, Stmts, stop, next, Branches, no_branch, elif_of, else_of, lp, rp, lb, rb, eq, period, comma, semi, arrow, dlb, drb, lbrace, rbrace, var_word, fn_word, return_word, if_word, elif_word, else_word, for_word, in_word, height, wrap, between, between_names, between_items, pr, prs, pr_names, pr_items, pr_s, pr_ss, pr_bs, renc_program, ends, Ok, Oks, OkItems, OkS, OkSs, OkBs, env_s, seen, Said, Saids, SaidItems, SaidS, SaidSs, SaidBs}
 use Rattle.sifc_lex.proofs.LexTrip
 use Rattle.sifc_def.proofs.Canon.Bytes
 use Rattle.sifc_def.proofs.Canon.Bytes.{texts, printed, printed-more}

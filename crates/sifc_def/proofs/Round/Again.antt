@@ -5,7 +5,7 @@ use Rattle.sifc_word.specs.Kind.{LexPanic}
 use Rattle.sifc_def.specs.State.{Ctx, St, Out, done, W, word_in, tok_at, word_at}
 use Rattle.sifc_def.specs.Label.{Lab}
 use Rattle.sifc_def.specs.Walk.{End, walk}
-use Rattle.sifc_def.proofs.Typed.{Stmts, pr_program, renc_program, OkProgram}
+use Rattle.sifc_def.specs.Typed.{Stmts, pr_program, renc_program, OkProgram}
 use Rattle.sifc_def.proofs.Round.{Res, labelled}
 use Rattle.sifc_def.proofs.Round.Program.{ReadAs, program-read}
 use Rattle.sifc_def.proofs.Round.Sound.{Win}

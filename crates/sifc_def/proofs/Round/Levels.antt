@@ -17,7 +17,7 @@ use Rattle.sifc_def.specs.Symbols.{find, retrieve}
 use Rattle.sifc_def.specs.Label.{has_token, scope_of, text_of}
 use Rattle.sifc_def.specs.Walk.{walkers}
 use Rattle.sifc_def.specs.Expr.{Rec, looseness, is_unary, is_literal, fuel, operators, levels, literal, known, check_name, ident_expr, assign_expr, unary_expr, group_expr, primary_expr, postfix, fn_call_expr}
-use Rattle.sifc_def.proofs.Typed.{Expr, prim, un, bin, lp, rp, rb, height, wrap, pr, said, prim_lab, renc, ends, is_some, seen, fine, Ok}
+use Rattle.sifc_def.specs.Typed.{Expr, prim, un, bin, lp, rp, rb, height, wrap, pr, said, prim_lab, renc, ends, is_some, seen, fine, Ok}
 use Rattle.sifc_def.proofs.Round.{true_of, not_eqb, and_l, and_r, or_l, or_r, or_case, All, in-cases, of_size, Res, and_then, yes-then, no-else, is_some-erase, looks, Made, made_none, made_then, made-push}
 use Rattle.sifc_def.proofs.Round.Steps.{first, Ahead, Got, now, kind-now, test, later, sees-length, stepped, pushed, consume-eq, expect-eq, push_ok, loose-end, loose-not, unary-end, wrap-length, pr-length}
 pub mod Suffixes

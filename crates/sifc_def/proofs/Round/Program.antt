@@ -15,7 +15,7 @@ use Rattle.sifc_def.specs.Label.{Lab, has_token, scope_of, text_of}
 use Rattle.sifc_def.specs.Expr.{fuel}
 use Rattle.sifc_def.specs.Stmt.{decl}
 use Rattle.sifc_def.specs.Walk.{End, end, start, walkers, settled, top_decl, end_read, program, walk}
-use Rattle.sifc_def.proofs.Typed.{Stmt, Stmts, stop, next, counted, eof_word, pr_s, pr_ss, pr_program, bare, renc_s, renc_ss, renc_program, env_s, OkS, OkSs, OkProgram}
+use Rattle.sifc_def.specs.Typed.{Stmt, Stmts, stop, next, counted, eof_word, pr_s, pr_ss, pr_program, bare, renc_s, renc_ss, renc_program, env_s, OkS, OkSs, OkProgram}
 use Rattle.sifc_def.proofs.Round.{Res, and_then, yes-then, no-else, res-map, Fairs, labelled, Made, made_none, made_then, made-push}
 use Rattle.sifc_def.proofs.Round.Steps.{first, Ahead, Got, test, sees-length, push_ok}
 use Rattle.sifc_def.proofs.Round.Statements.Blocks.{decl_starters, start-decl, member-test, Follow, follow-decls, pr_ss-length}

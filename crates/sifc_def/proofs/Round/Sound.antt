@@ -20,7 +20,7 @@ use Rattle.sifc_def.specs.declared.Err.{Err}
 use Rattle.sifc_def.specs.declared.Why.{Why}
 use Rattle.sifc_def.specs.State.{arrive, panic_at, raise, add_error, throw, throw_past}
 use Rattle.sifc_def.specs.Expr.{Rec, looseness, is_unary, is_literal, fuel, operators, levels, literal, known, check_name, ident_expr, unary_expr, group_expr, at_expr, primary_expr}
-use Rattle.sifc_def.proofs.Typed.{Expr, prim, un, bin, call, dot, idx, set, mut, renc, ends, is_some, seen, fine, Ok, Said}
+use Rattle.sifc_def.specs.Typed.{Expr, prim, un, bin, call, dot, idx, set, mut, renc, ends, is_some, seen, fine, Ok, Said}
 use Rattle.sifc_def.proofs.Round.{and_in, or_l, or_r, is_some-erase, Stands, looks, labelled, Made, made_none, made_then, made-push, Newest, newest, top_of}
 pub mod Suffixes
 pub mod Parts

@@ -20,7 +20,7 @@ use Rattle.sifc_def.specs.Label.{Lab, has_token, scope_of, text_of}
 use Rattle.sifc_def.specs.Walk.{walkers}
 use Rattle.sifc_def.specs.Expr.{Rec, looseness, fuel}
 use Rattle.sifc_def.specs.Stmt.{bind, ident_node, declare_var, array_nodes, comma_list, array_decl, table_item, item_list, table_decl}
-use Rattle.sifc_def.proofs.Typed.{Expr, prim, un, bin, call, dot, idx, set, mut, Exprs, nil, more, many, Items, no_item, item, many_items, lb, rb, comma, semi, arrow, dlb, drb, lbrace, between, between_items, pr, prs, pr_items, bare, said, renc, rencs, renc_items, renc_array, global_at, ends, endss, seen, Ok, Oks, OkItems, bound, declared, stored}
+use Rattle.sifc_def.specs.Typed.{Expr, prim, un, bin, call, dot, idx, set, mut, Exprs, nil, more, many, Items, no_item, item, many_items, lb, rb, comma, semi, arrow, dlb, drb, lbrace, between, between_items, pr, prs, pr_items, bare, said, renc, rencs, renc_items, renc_array, global_at, ends, endss, seen, Ok, Oks, OkItems, bound, declared, stored}
 use Rattle.sifc_def.proofs.Round.{true_of, not_eqb, at-kind, Res, and_then, yes-then, no-else, res-map, erased, In, in-stored, ident-name, made_none, made_then, made-push}
 use Rattle.sifc_def.proofs.Round.Steps.{Ahead, Got, now, test, later, stand, sees-length, stepped, pushed, expect-eq, ident-eq, optional-yes, optional-no, push_ok, store_ok, pr-length, between-length}
 use Rattle.sifc_def.proofs.Round.Levels.{Stop}

@@ -14,7 +14,7 @@ use Rattle.sifc_def.specs.State.{Node, node, Sym, Ctx, St, Out, done, refuse, go
 use Rattle.sifc_def.specs.Symbols.{put_at, store}
 use Rattle.sifc_def.specs.Expr.{looseness, is_unary, fuel}
 use Rattle.sifc_def.specs.Label.{Lab}
-use Rattle.sifc_def.proofs.Typed.{Expr, prim, un, bin, call, dot, idx, set, mut, Exprs, nil, more, word, rp, rb, eq, height, wrap, between, pr, prs}
+use Rattle.sifc_def.specs.Typed.{Expr, prim, un, bin, call, dot, idx, set, mut, Exprs, nil, more, word, rp, rb, eq, height, wrap, between, pr, prs}
 use Rattle.sifc_def.proofs.Round.{Res, of_size, at-kind, In, Made}
 
 -- the first word, Eof where there is none

@@ -20,7 +20,7 @@ use Rattle.sifc_def.specs.Symbols.{find, retrieve, set_check}
 use Rattle.sifc_def.specs.Label.{Lab, lab, has_token, scope_of, text_of}
 use Rattle.sifc_def.specs.Walk.{walkers}
 use Rattle.sifc_def.specs.Expr.{looseness, is_unary, fuel, levels, assign_var, assign_token, assign_array, assign_to, separator, param_list, single, call_counted, call_declared, call_name, is_named, call_named, assign_expr, call_part, dot as dot_part, index as index_part, postfix}
-use Rattle.sifc_def.proofs.Typed.{Expr, prim, un, bin, call, dot, idx, set, mut, Exprs, nil, more, many, lp, rp, lb, rb, eq, period, height, wrap, between, pr, prs, bare, prim_lab, renc, rencs, ends, endss, wants, seen, fine, callable, Ok, Oks}
+use Rattle.sifc_def.specs.Typed.{Expr, prim, un, bin, call, dot, idx, set, mut, Exprs, nil, more, many, lp, rp, lb, rb, eq, period, height, wrap, between, pr, prs, bare, prim_lab, renc, rencs, ends, endss, wants, seen, fine, callable, Ok, Oks}
 use Rattle.sifc_def.proofs.Round.{true_of, not_eqb, not-leb, at-kind, and_l, and_r, or_case, All, in-cases, of_size, Res, and_then, yes-then, no-else, res-map, erase, wants-erase, In, looks, find-fair, ident-name, map-append, labelled, made_none, made_then, made-push, taken_out, Newest, newest, top_of}
 use Rattle.sifc_def.proofs.Round.Steps.{first, Ahead, Got, now, test, later, stand, sees-length, stepped, pushed, consume-eq, expect-eq, push_ok, loose-le, between-length, pr-length}
 use Rattle.sifc_def.proofs.Round.Levels.{singles, starters, Calm, Stop, stop-rb, single-read, made-single, look, After, Has, fine-kind, after-single, to-call, descend, Level, Unary, Assign, Both, postfix-none, prim-unary, assign-low, un-unary, bin-level, bin-cps, by_call, both-low, both_high}

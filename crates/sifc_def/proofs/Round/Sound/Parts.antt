@@ -23,7 +23,7 @@ use Rattle.sifc_def.specs.Walk.{walkers}
 use Rattle.sifc_def.specs.Expr.{Rec, fuel, separator, param_list}
 use Rattle.sifc_def.specs.State.{match_ident, or_throw}
 use Rattle.sifc_def.specs.Stmt.{bind, ident_node, param, declare_var, array_nodes, comma_list, array_decl, table_item, item_list, table_decl, initial}
-use Rattle.sifc_def.proofs.Typed.{Expr, Exprs, nil, more, many, Items, no_item, item, many_items, Stmt, var_expr, var_array, var_table, bare, said, renc, rencs, renc_names, renc_items, renc_array, global_at, renc_s, seen, Ok, Oks, OkItems, OkNames, bound, declared, stored, env_s, OkS, Said, Saids, SaidNames, SaidItems, SaidS}
+use Rattle.sifc_def.specs.Typed.{Expr, Exprs, nil, more, many, Items, no_item, item, many_items, Stmt, var_expr, var_array, var_table, bare, said, renc, rencs, renc_names, renc_items, renc_array, global_at, renc_s, seen, Ok, Oks, OkItems, OkNames, bound, declared, stored, env_s, OkS, Said, Saids, SaidNames, SaidItems, SaidS}
 use Rattle.sifc_def.proofs.Round.{erased, In, Stands, in-stored, ident-name, Made, made_none, made_then, made-push}
 use Rattle.sifc_def.proofs.Round.Statements.{ends-true, other-not}
 use Rattle.sifc_def.proofs.Round.Statements.Blocks.{prim_node}

@@ -17,7 +17,7 @@ use Rattle.sifc_def.specs.Label.{Lab, has_token, scope_of, text_of}
 use Rattle.sifc_def.specs.Expr.{fuel}
 use Rattle.sifc_def.specs.Stmt.{decl}
 use Rattle.sifc_def.specs.Walk.{End, end, start, walkers, give_up, settled, top_decl, end_read, program, walk}
-use Rattle.sifc_def.proofs.Typed.{Stmts, stop, next, counted, bare, renc_s, renc_ss, renc_program, env_s, OkSs, OkProgram, SaidSs}
+use Rattle.sifc_def.specs.Typed.{Stmts, stop, next, counted, bare, renc_s, renc_ss, renc_program, env_s, OkSs, OkProgram, SaidSs}
 use Rattle.sifc_def.proofs.Round.{Fairs, Stands, labelled, Made, made_none, made_then, made-push}
 use Rattle.sifc_def.proofs.Round.Program.{walk-eq}
 use Rattle.sifc_def.proofs.Round.Sound.{Win, win-then, win-map, win-any, win-if, win-when, pushed, push-sound}

@@ -23,7 +23,7 @@ use Rattle.sifc_def.specs.Expr.{Rec, fuel, param_list}
 use Rattle.sifc_def.specs.declared.Err.{Err}
 use Rattle.sifc_def.specs.State.{err}
 use Rattle.sifc_def.specs.Stmt.{bind, with_return, ident_node, param, ident_pair, declare_var, end_if, initial, var_decl, fn_decl, elif_stmt, else_block, branches, if_stmt, for_stmt, ret_stmt, expr_stmt as expr_part, stmt, decl, decls, block as block_part}
-use Rattle.sifc_def.proofs.Typed.{Expr, Stmt, var_none, var_expr, var_array, var_table, func, block, cond, loop, ret, ret_expr, expr_stmt, Stmts, stop, next, Branches, no_branch, elif_of, else_of, counted, many_branches, bare, said, prim_lab, block_lab, renc, renc_array, global_at, renc_s, renc_ss, renc_bs, seen, Ok, is_return, returns, returns_last, bound, declared, inside, env_s, env_ss, env_bs, OkS, OkSs, OkBs, Said, SaidS, SaidSs, SaidBs}
+use Rattle.sifc_def.specs.Typed.{Expr, Stmt, var_none, var_expr, var_array, var_table, func, block, cond, loop, ret, ret_expr, expr_stmt, Stmts, stop, next, Branches, no_branch, elif_of, else_of, counted, many_branches, bare, said, prim_lab, block_lab, renc, renc_array, global_at, renc_s, renc_ss, renc_bs, seen, Ok, is_return, returns, returns_last, bound, declared, inside, env_s, env_ss, env_bs, OkS, OkSs, OkBs, Said, SaidS, SaidSs, SaidBs}
 use Rattle.sifc_def.proofs.Round.{and_l, and_r, erased, Stands, Made, made_none, made_then, made-push, top_of}
 use Rattle.sifc_def.proofs.Round.Statements.Blocks.{prim_node, loads-prims, block_labs, in-level, levelled}
 use Rattle.sifc_def.proofs.Round.Sound.{Win, win-then, win-map, win-if, win-when, made_at, made-from, pushed, Kept, throw-sound, consume-sound, expect-sound, push-sound, top-kind}

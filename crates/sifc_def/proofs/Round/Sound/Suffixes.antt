@@ -20,7 +20,7 @@ use Rattle.sifc_def.specs.Label.{Lab, lab, has_token, scope_of, text_of}
 use Rattle.sifc_def.specs.Walk.{walkers}
 use Rattle.sifc_def.specs.State.{add_error_w_pos}
 use Rattle.sifc_def.specs.Expr.{Rec, fuel, levels, assign_var, assign_token, assign_array, assign_nothing, assign_to, separator, param_list, single, call_counted, call_declared, call_name, is_named, call_named, assign_expr, primary_expr, call_part, dot as dot_part, index as index_part, postfix, fn_call_expr}
-use Rattle.sifc_def.proofs.Typed.{Expr, call, dot, idx, set, mut, Exprs, nil, more, many, bare, prim_lab, renc, rencs, ends, endss, wants, seen, fine, callable, Ok, Oks, Said, Saids}
+use Rattle.sifc_def.specs.Typed.{Expr, call, dot, idx, set, mut, Exprs, nil, more, many, bare, prim_lab, renc, rencs, ends, endss, wants, seen, fine, callable, Ok, Oks, Said, Saids}
 use Rattle.sifc_def.proofs.Round.{true_of, false_of, and_l, and_r, and_in, or_l, or_r, wants-erase, Stands, looks, find-fair, ident-name, map-append, labelled, Made, made_none, made_then, made-push, taken_out, Newest, newest, top_of, erase}
 use Rattle.sifc_def.proofs.Round.Sound.{Win, win-then, win-map, win-any, win-if, made_at, pushed, checked, Kept, raise-sound, throw-sound, throw_past-sound, panic-sound, consume-sound, expect-sound, push-sound, Spelt, IsSingle, is-single, IsIndexed, is-indexed, Reads, Sound, levels_sound, SoundRec, unary-sound, primary-sound}
 

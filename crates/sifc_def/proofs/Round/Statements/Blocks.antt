@@ -18,7 +18,7 @@ use Rattle.sifc_def.specs.Label.{Lab, has_token, scope_of, text_of}
 use Rattle.sifc_def.specs.Walk.{walkers}
 use Rattle.sifc_def.specs.Expr.{Rec, fuel}
 use Rattle.sifc_def.specs.Stmt.{bind, with_return, ret_stmt, expr_stmt as expr_part, stmt, decl, decls, block as block_part}
-use Rattle.sifc_def.proofs.Typed.{Expr, Items, no_item, item, Stmt, var_none, var_expr, var_array, var_table, func, block, cond, loop, ret, ret_expr, expr_stmt, Stmts, stop, next, Branches, no_branch, elif_of, else_of, counted, many_branches, rp, rb, comma, semi, drb, lbrace, rbrace, return_word, between_names, between_items, pr, pr_names, pr_items, pr_s, pr_ss, pr_bs, bare, block_lab, renc, renc_s, renc_ss, is_return, returns, returns_last, bound, env_s, env_ss, OkS, OkSs}
+use Rattle.sifc_def.specs.Typed.{Expr, Items, no_item, item, Stmt, var_none, var_expr, var_array, var_table, func, block, cond, loop, ret, ret_expr, expr_stmt, Stmts, stop, next, Branches, no_branch, elif_of, else_of, counted, many_branches, rp, rb, comma, semi, drb, lbrace, rbrace, return_word, between_names, between_items, pr, pr_names, pr_items, pr_s, pr_ss, pr_bs, bare, block_lab, renc, renc_s, renc_ss, is_return, returns, returns_last, bound, env_s, env_ss, OkS, OkSs}
 use Rattle.sifc_def.proofs.Round.{true_of, at-kind, or_r, of_size, Res, and_then, yes-then, no-else, res-map, In, labelled, Made, made_none, made_then, made-push, Newest, newest, top_of}
 use Rattle.sifc_def.proofs.Round.Steps.{first, Ahead, Got, test, later, stand, sees-length, stepped, consume-eq, expect-eq, push_ok, pr-length, prs-length}
 use Rattle.sifc_def.proofs.Round.Levels.{starters}

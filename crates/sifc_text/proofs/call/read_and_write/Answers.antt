@@ -1,4 +1,3 @@
-use borrow.Author.Rules.{rules}
 use mathlib.Core.Path.{◌∙◌}
 use Rattle.sifc_lent.specs.Parts.{arrays}
 use Rattle.sifc_lent.proofs.EntryLaws.{entered-is}

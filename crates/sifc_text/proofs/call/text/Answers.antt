@@ -1,4 +1,3 @@
-use borrow.Author.Rules.{rules}
 use Rattle.sifc_text.proofs.Calls.{entry-fine, text-on, text-not}
 use Rattle.sifc_text.proofs.call.text.Goals as goal
 

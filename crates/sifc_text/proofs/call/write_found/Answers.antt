@@ -1,4 +1,3 @@
-use borrow.Author.Rules.{rules}
 use mathlib.Core.Path.{sym}
 use lib.Seq.{length-take-le}
 use Rattle.sifc_text.proofs.Calls.{in-offs, in_words, in-nodes, in-loads, used, emptied, spot, flagged, wrote, full}

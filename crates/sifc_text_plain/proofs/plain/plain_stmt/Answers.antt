@@ -1,7 +1,7 @@
 use Prim.Native.Nat.{◌-◌}
 use native.Mathlib.Omega.{arith}
 use native.Mathlib.Nat.{le_refl}
-use Rattle.sifc_def.proofs.Typed.{semi, return_word}
+use Rattle.sifc_def.specs.Typed.{semi, return_word}
 use Rattle.sifc_put.specs.Place.{inp}
 use Rattle.sifc_put.specs.Post.{fixed, seq}
 use Rattle.sifc_put.specs.Bytes.{worded}

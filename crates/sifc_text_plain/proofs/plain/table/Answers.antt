@@ -1,6 +1,6 @@
 use Prim.Native.Nat.{◌-◌}
 use native.Mathlib.Omega.{arith}
-use Rattle.sifc_def.proofs.Typed.{dlb, drb}
+use Rattle.sifc_def.specs.Typed.{dlb, drb}
 use Rattle.sifc_put.specs.Place.{inp}
 use Rattle.sifc_put.specs.Post.{seq}
 use Rattle.sifc_put.specs.Bytes.{worded}

@@ -2,7 +2,7 @@ use Prim.Native.Nat.{◌-◌}
 use native.Mathlib.Omega.{arith}
 use native.Mathlib.Nat.{le_refl}
 use mathlib.Core.Path.{◌∙◌}
-use Rattle.sifc_def.proofs.Typed.{semi, eq, var_word}
+use Rattle.sifc_def.specs.Typed.{semi, eq, var_word}
 use Rattle.sifc_put.specs.Place.{inp}
 use Rattle.sifc_put.specs.Post.{seq}
 use Rattle.sifc_put.specs.Bytes.{worded}

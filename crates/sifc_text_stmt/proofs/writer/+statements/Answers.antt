@@ -3,7 +3,7 @@ use borrow.Author.Rules.{rules}
 use native.Mathlib.Omega.{arith}
 use native.Mathlib.Nat.{le_refl}
 use mathlib.Core.Path.{◌≡◌, ◌∙◌}
-use Rattle.sifc_def.proofs.Typed.{lp, rp, lbrace, rbrace, fn_word, if_word, elif_word, else_word, for_word, in_word}
+use Rattle.sifc_def.specs.Typed.{lp, rp, lbrace, rbrace, fn_word, if_word, elif_word, else_word, for_word, in_word}
 use Rattle.sifc_put.specs.Place.{inp}
 use Rattle.sifc_put.specs.Post.{seq, leaf_l}
 use Rattle.sifc_put.specs.Bytes.{worded}

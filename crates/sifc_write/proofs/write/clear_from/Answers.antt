@@ -1,10 +1,8 @@
-use borrow.Author.Rules.{rules}
-use Prim.Native.Nat.{ℕ, ◌+◌, ◌-◌, ◌≤◌, ◌<◌}
+use Prim.Native.Nat.{ℕ, ◌<◌}
 use native.Mathlib.Omega.{arith}
 use mathlib.Core.Path.{◌≡◌, ap, ◌∙◌}
 use mathlib.Core.List.{List}
 use lib.ListN.{length, set}
-use Rattle.sifc_tokens.specs.Loaded.{cleared}
 use Rattle.sifc_tokens.proofs.Clear.{length-cleared, cleared-none, cleared_more, cleared-all}
 use Rattle.sifc_write.proofs.write.clear_from.Goals as goal
 

@@ -1,11 +1,6 @@
-use borrow.Author.Rules.{rules}
-use Prim.Native.Nat.{◌+◌, ◌-◌, ◌≤◌}
-use native.Mathlib.Omega.{arith}
-use mathlib.Core.Path.{◌≡◌, ap, ◌∙◌}
-use mathlib.Core.List.{List, ◌++◌}
-use lib.ListN.{length, get_or, set, take, replicate}
-use Prim.Native.Nat.{ℕ}
-use Rattle.sifc_write.proofs.Moved.{moved, moved_none, length_moved, moved_more, moved_all}
+use Prim.Native.Nat.{◌-◌, ◌≤◌}
+use mathlib.Core.Path.{◌≡◌}
+use Rattle.sifc_write.proofs.Moved.{moved}
 use Rattle.sifc_write.proofs.write.shift.Given as goal
 
 abbrev pub invariant-loop-i : goal.invariant-loop-i

@@ -1,4 +1,3 @@
-use borrow.Author.Rules.{rules}
 use native.Mathlib.Omega.{arith}
 use Rattle.sifc_put.specs.Place.{inp}
 use Rattle.sifc_text_stmt.specs.Kinds.{program_l}

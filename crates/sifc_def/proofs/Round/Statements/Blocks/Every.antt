@@ -24,7 +24,7 @@ use Rattle.sifc_def.specs.Expr.{fuel, separator, param_list}
 use Rattle.sifc_def.specs.declared.Err.{Err}
 use Rattle.sifc_def.specs.State.{err}
 use Rattle.sifc_def.specs.Stmt.{ident_node, param, ident_pair, end_if, initial, var_decl, fn_decl, elif_stmt, else_block, branches, if_stmt, for_stmt, stmt, decl}
-use Rattle.sifc_def.proofs.Typed.{Expr, Exprs, Items, Stmt, var_none, var_expr, var_array, var_table, func, block, cond, loop, ret, ret_expr, expr_stmt, Stmts, stop, next, Branches, no_branch, elif_of, else_of, many_branches, many_items, lp, rp, lb, rb, eq, comma, semi, dlb, drb, lbrace, rbrace, var_word, if_word, for_word, in_word, between_names, pr, prs, pr_names, pr_items, pr_s, pr_ss, pr_bs, bare, said, prim_lab, renc, renc_names, renc_items, renc_array, global_at, renc_s, renc_bs, seen, Ok, Oks, OkItems, OkNames, bound, declared, stored, inside, env_s, env_ss, env_bs, OkS, OkSs, OkBs}
+use Rattle.sifc_def.specs.Typed.{Expr, Exprs, Items, Stmt, var_none, var_expr, var_array, var_table, func, block, cond, loop, ret, ret_expr, expr_stmt, Stmts, stop, next, Branches, no_branch, elif_of, else_of, many_branches, many_items, lp, rp, lb, rb, eq, comma, semi, dlb, drb, lbrace, rbrace, var_word, if_word, for_word, in_word, between_names, pr, prs, pr_names, pr_items, pr_s, pr_ss, pr_bs, bare, said, prim_lab, renc, renc_names, renc_items, renc_array, global_at, renc_s, renc_bs, seen, Ok, Oks, OkItems, OkNames, bound, declared, stored, inside, env_s, env_ss, env_bs, OkS, OkSs, OkBs}
 use Rattle.sifc_def.proofs.Round.{not-leb, at-kind, Res, and_then, yes-then, no-else, res-map, erased, Made, made_none, made_then, made-push}
 use Rattle.sifc_def.proofs.Round.Steps.{first, Ahead, Got, now, test, later, sees-length, stepped, pushed, listed, consume-eq, expect-eq, ident-eq, push_ok, list-ok}
 use Rattle.sifc_def.proofs.Round.Levels.{starters, made-single}
