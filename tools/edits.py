@@ -54,7 +54,8 @@ class Function:
         self.short = name.split("::")[-1]
         head, self.body = re.split(r"\{$", text, maxsplit=1, flags=re.M)
         self.promises = "ensures" in head
-        self.answers = re.search(r"\)\s*->", head) is not None
+        # (what prints answers whether the writer failed, and no more than that)
+        self.answers = re.search(r"\)\s*->(?!\s*io::Result<\(\)>)", head) is not None
 
 
 def without_comments(text):

@@ -1,7 +1,4 @@
 use native.Mathlib.Omega.{arith}
-use Prim.Native.Nat.{◌≤◌, ◌-◌}
-use borrow.Author.Rules.{rules}
-use lib.ListN.{length}
 use Rattle.sif_show.specs.EntryLaws.{entry-within}
 use Rattle.read_replay.proofs.replay_all.Goals as goal
 
