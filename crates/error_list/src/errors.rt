@@ -1,5 +1,5 @@
 // The errors of a script, out of error records that one function owns.
-ghost use Rattle.std.specs.Prelude.{◌≡◌, IfOk};
+ghost use Rattle.std.specs.Prelude.{◌≡◌};
 ghost use Rattle.sifc_lent.specs.Parts.{arrays};
 ghost use Rattle.sifc_records.specs.Records.{reading_records, blank_records, errors_of, call_of};
 ghost use Rattle.sifc_def.specs.Read.{called};
@@ -74,6 +74,14 @@ fn listed(said: Reading) -> usize
     }
 }
 
+// The first n error records, a line each.
+fn print_errors<W: Write>(out: &mut W, errors: &[ParseErr], n: usize) -> io::Result<()> {
+    for error in errors.iter().take(n) {
+        print_error(out, *error)?;
+    }
+    Ok(())
+}
+
 // Reads a script and prints its errors, a line each. It owns 1,024 error records and lends them. Where
 // the writer fails, the arrays are those of the reading all the same.
 pub fn show_errors<W: Write>(
@@ -86,9 +94,8 @@ pub fn show_errors<W: Write>(
     symbols: &mut [u32],
     places: &mut [u32],
     reasons: &mut [u32],
-) -> io::Result<Reading>
-    ensures answer { IfOk result (λ said. called said (arrays offs.new words.new heads.new loads.new symbols.new places.new reasons.new) ≡ call_of (reading_records script.now (arrays offs.old words.old heads.old loads.old symbols.old places.old reasons.old) (blank_records 1024))) }
-    ensures memory { arrays offs.new words.new heads.new loads.new symbols.new places.new reasons.new ≡ (reading_records script.now (arrays offs.old words.old heads.old loads.old symbols.old places.old reasons.old) (blank_records 1024)).arrays }
+) -> (Reading, io::Result<()>)
+    ensures { called result.0 (arrays offs.new words.new heads.new loads.new symbols.new places.new reasons.new) ≡ call_of (reading_records script.now (arrays offs.old words.old heads.old loads.old symbols.old places.old reasons.old) (blank_records 1024)) }
 {
     let e = blank();
     let mut errors = [e; 1024];
@@ -104,8 +111,6 @@ pub fn show_errors<W: Write>(
         &mut errors,
     );
     let n = listed(said);
-    for i in 0..n {
-        print_error(out, errors[i])?;
-    }
-    Ok(said)
+    let printed = print_errors(out, &errors, n);
+    (said, printed)
 }

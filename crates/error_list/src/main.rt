@@ -44,7 +44,7 @@ fn answer<W: Write>(out: &mut W, script: &[u8]) -> io::Result<()> {
     let mut places = [0u32; 1024];
     let mut reasons = [0u32; 1024];
     kinds::print_kinds(out, script)?;
-    let said = errors::show_errors(
+    let (said, printed) = errors::show_errors(
         out,
         script,
         &mut offs,
@@ -54,7 +54,8 @@ fn answer<W: Write>(out: &mut W, script: &[u8]) -> io::Result<()> {
         &mut symbols,
         &mut places,
         &mut reasons,
-    )?;
+    );
+    printed?;
     print_answer(out, said)
 }
 

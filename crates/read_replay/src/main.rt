@@ -27,7 +27,7 @@ fn answer<W: Write>(out: &mut W, script: &[u8]) -> io::Result<()> {
     let mut symbols = [0u32; 8192];
     let mut places = [0u32; 1024];
     let mut reasons = [0u32; 1024];
-    let said = read_show::list(
+    let (said, printed) = read_show::list(
         out,
         script,
         &mut offs,
@@ -37,7 +37,8 @@ fn answer<W: Write>(out: &mut W, script: &[u8]) -> io::Result<()> {
         &mut symbols,
         &mut places,
         &mut reasons,
-    )?;
+    );
+    printed?;
     read_show::print_rest(out, said, &reasons)
 }
 

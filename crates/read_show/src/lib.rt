@@ -1,7 +1,7 @@
 // What the programs print of readings.
 #![tactic(auto)]
 
-ghost use Rattle.std.specs.Prelude.{◌≡◌, IfOk};
+ghost use Rattle.std.specs.Prelude.{◌≡◌};
 ghost use Rattle.sifc_def.specs.Read.{called};
 ghost use Rattle.sifc_lent.specs.Parts.{arrays};
 ghost use Rattle.read_show.specs.Listing.{listed};
@@ -102,7 +102,7 @@ fn print_answer<W: Write>(
 }
 
 // Reads a script of at most 4,096 bytes into the lent arrays.
-pub fn read(
+fn read(
     script: &[u8],
     offs: &mut [u32],
     words: &mut [u32],
@@ -125,7 +125,7 @@ pub fn read(
 
 // Lists a script: the counts and the flag; the first words of the nodes; their second words; and for
 // each error a line with its line, column and reason number. A refusal is one line. Answers what the
-// reading answered. Where the writer fails, the arrays are those of the reading all the same.
+// reading answered, and beside it whether the writer failed.
 pub fn list<W: Write>(
     out: &mut W,
     script: &[u8],
@@ -136,18 +136,15 @@ pub fn list<W: Write>(
     symbols: &mut [u32],
     places: &mut [u32],
     reasons: &mut [u32],
-) -> io::Result<Reading>
-    ensures answer { IfOk result (λ said. called said (arrays offs.new words.new heads.new loads.new
+) -> (Reading, io::Result<()>)
+    ensures { called result.0 (arrays offs.new words.new heads.new loads.new
         symbols.new places.new reasons.new)
         ≡ listed script.now (arrays offs.old words.old heads.old
-        loads.old symbols.old places.old reasons.old)) }
-    ensures memory { arrays offs.new words.new heads.new loads.new symbols.new places.new reasons.new
-        ≡ (listed script.now (arrays offs.old words.old heads.old
-        loads.old symbols.old places.old reasons.old)).arrays }
+        loads.old symbols.old places.old reasons.old) }
 {
     let said = read(script, offs, words, heads, loads, symbols, places, reasons);
-    print_answer(out, said, heads, loads, places, reasons)?;
-    Ok(said)
+    let printed = print_answer(out, said, heads, loads, places, reasons);
+    (said, printed)
 }
 
 // Line, column and reason number of the error that ended a reading; the offset of the token that it

@@ -16,7 +16,7 @@ fn main(rt: HostRuntime) -> io::Result<()> {
     let mut reasons = [0u32; 1024];
     rt.stdin().take(4097).read_to_end(&mut script)?;
     let mut out = BufWriter::new(rt.alloc(), rt.stdout())?;
-    read_show::list(
+    let (_, printed) = read_show::list(
         &mut out,
         script.as_slice(),
         &mut offs,
@@ -26,6 +26,7 @@ fn main(rt: HostRuntime) -> io::Result<()> {
         &mut symbols,
         &mut places,
         &mut reasons,
-    )?;
+    );
+    printed?;
     out.flush()
 }
