@@ -82,8 +82,8 @@ fn print_errors<W: Write>(out: &mut W, errors: &[ParseErr], n: usize) -> io::Res
     Ok(())
 }
 
-// Reads a script and prints its errors, a line each. It owns 1,024 error records and lends them. Where
-// the writer fails, the arrays are those of the reading all the same.
+// Reads a script and prints its errors, a line each. It owns 1,024 error records and lends them. Answers
+// what was read, and beside it whether the writer failed.
 pub fn show_errors<W: Write>(
     out: &mut W,
     script: &[u8],
