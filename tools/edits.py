@@ -54,8 +54,9 @@ class Function:
         self.short = name.split("::")[-1]
         head, self.body = re.split(r"\{$", text, maxsplit=1, flags=re.M)
         self.promises = "ensures" in head
-        # (what prints answers whether the writer failed, and no more than that)
-        self.answers = re.search(r"\)\s*->(?!\s*io::Result<\(\)>)", head) is not None
+        # (what prints to a writer that it is lent answers whether the writer failed, and no more than that)
+        prints = re.search(r"\bout: &mut W\b", head) and re.search(r"\)\s*->\s*io::Result<\(\)>\s*$", head)
+        self.answers = re.search(r"\)\s*->", head) is not None and not prints
 
 
 def without_comments(text):
