@@ -1,11 +1,12 @@
 -- What clearing leaves of an array, and the tests of entry.
 use Prim.Native.Nat.{ℕ, ◌+◌, ◌-◌, ◌/◌, ◌%◌, ◌≤◌, ◌<◌}
 use mathlib.Core.Path.{◌≡◌, refl, sym, ap, ap₂, ◌∙◌}
-use mathlib.Core.List.{List, [], ◌++◌, map}
+use mathlib.Core.List.{List, [], ◌++◌, map, append-nil}
 use mathlib.Core.Bool.{Bool, true, false}
 use native.Mathlib.Omega.{arith}
 use lib.ListN.{length, take, drop, get_or, replicate, length-append, length-drop, length-map}
-use lib.Seq.{length-take-le, take_at}
+use lib.Seq.{length-take-le, take_at, drop-length}
+use borrow.Rule.Slice.PartMut.{put_mid, Post-is}
 use Rattle.sifc_err.specs.declared.Refusal.{Refusal}
 use Rattle.sifc_err.specs.declared.Refusal.TheVariants.{Uneven}
 use Rattle.sifc_tokens.specs.declared.call.Checked.{Checked}
@@ -19,6 +20,12 @@ use Rattle.sifc_def.specs.Read.{Arrays, cleared_arrays, even, entry}
 use Rattle.sifc_symtab.specs.Toks.{toks_of, toks-at}
 use Rattle.sifc_lent.specs.Parts.{arrays}
 use Rattle.sifc_lent.proofs.PartLaws.{same-arrays}
+
+-- what is left of a list whose end is filled
+pub fill_tail : {X : Type 0} (n : ℕ) (xs ys : List X) (v : X) → n ≤ length xs → ys ≡ replicate (length (take (length xs - n) (drop n xs))) v → put_mid n (length xs - n) xs ys ≡ take n xs ++ replicate (length xs - n) v
+fill_tail {X} n xs ys v h e =
+    let m : length (take (length xs - n) (drop n xs)) ≡ length xs - n = length-take-le (length xs - n) (drop n xs) (omega (arith, length-drop n xs)) in
+    ap (λ (z : List X). take n xs ++ z) (ap₂ (λ (a b : List X). a ++ b) (e ∙ ap (λ (k : ℕ). replicate k v) m) (Post-is n (length xs) xs h ∙ drop-length xs) ∙ append-nil (replicate (length xs - n) v))
 
 pub front_kept : (a a' : List ℕ) (n : ℕ) → n ≤ length a → a' ≡ take n a ++ replicate (length a - n) 0 → a' ≡ padded (take n a) (length a)
 unfolding padded

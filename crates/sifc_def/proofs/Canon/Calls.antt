@@ -1,5 +1,5 @@
 -- What a call's answer says of what was read, and the other way round: entry, the token room, the walk.
-use Rattle.std.specs.Prelude.{ℕ, suc, ◌-◌, ◌≤◌, ◌≡◌, refl, Bool, not, ◌⊎◌, ltb, length, replicate}
+use Rattle.std.specs.Prelude.{ℕ, suc, ◌-◌, ◌≤◌, ◌≡◌, refl, Bool, not, ◌⊎◌, ltb, length, replicate, Err, Ok}
 use Rattle.std.proofs.Math.Path.{sym, ap, subst}
 use Rattle.std.proofs.Common.{◌∙◌, inl, inr, arith, nltb→le}
 use mathlib.Core.List.{List, [], ◌∷◌, reverse}
@@ -12,10 +12,7 @@ use Rattle.sifc_err.specs.declared.Refusal.{Refusal}
 use Rattle.sifc_err.specs.declared.Refusal.TheVariants.{LongScript, NotAscii, Uneven, TokensFull, SourceFault, TooDeep, NodesFull, SymbolsFull, ErrorsFull, Flagged, TextFull}
 use Rattle.sifc_word.specs.Base.{if◌then◌otherwise◌, member, span}
 use Rattle.sifc_lex.specs.Lex.{ascii as is_ascii, lex, ending}
-use Rattle.sifc_def.specs.declared.Reading.{Reading}
-use Rattle.sifc_def.specs.declared.Reading.TheVariants.{Read, Refused}
-use Rattle.sifc_def.specs.declared.Texting.{Texting}
-use Rattle.sifc_def.specs.declared.Texting.TheVariants.{Wrote, Refused as NoText}
+use Rattle.sifc_def.specs.Answer.{Reading, Texting}
 use Rattle.sifc_def.specs.State.{St, Out, done, fail, refuse}
 use Rattle.sifc_def.specs.Walk.{End, walk}
 use Rattle.sifc_tokens.specs.declared.call.Checked.{Checked}
@@ -31,7 +28,7 @@ use Rattle.sifc_def.proofs.Canon.Rooms.{for_room, Alike, same_out, left_out, rig
 
 -- a reading, by what entry says and by what is read
 by_entry : List ℕ → Arrays → Checked → Outcome → Called Reading
-by_entry s a x o = elim x [ check.Refused r ↦ called (Refused r) a | Fine ↦ answered s a o ]
+by_entry s a x o = elim x [ check.Refused r ↦ called (Err r) a | Fine ↦ answered s a o ]
 
 -- The reading call is that.
 reading-is : (s : List ℕ) (a : Arrays) → reading s a ≡ by_entry s a (entry s a) (read (rooms_of a) s)
@@ -40,7 +37,7 @@ reading-is s a = refl
 
 -- a text call, likewise
 by_entry_text : List ℕ → Arrays → List ℕ → Checked → Outcome → Written
-by_entry_text s a t x o = elim x [ check.Refused r ↦ written (NoText r) a t | Fine ↦ texted s a t o ]
+by_entry_text s a t x o = elim x [ check.Refused r ↦ written (Err r) a t | Fine ↦ texted s a t o ]
 
 -- The text call is that.
 text-is : (s : List ℕ) (a : Arrays) (t : List ℕ) → text_call s a t ≡ by_entry_text s a t (entry s a) (read (rooms_of a) s)
@@ -218,7 +215,7 @@ pub record Reads (s : List ℕ) (a : Arrays) (f : Found) : Type 0 where
   pub found_it : read (rooms_of a) s ≡ found f
 
 -- what a reading answers and leaves, then
-pub reads-reading : (s : List ℕ) (a : Arrays) (f : Found) → Reads s a f → reading s a ≡ called (Read (summary (ctx_of (rooms_of a) s) f)) (filled (ctx_of (rooms_of a) s) f a)
+pub reads-reading : (s : List ℕ) (a : Arrays) (f : Found) → Reads s a f → reading s a ≡ called (Ok (summary (ctx_of (rooms_of a) s) f)) (filled (ctx_of (rooms_of a) s) f a)
 unfolding by_entry answered
 reads-reading s a f h = reading-is s a ∙ ap (λ (x : Checked). by_entry s a x (read (rooms_of a) s)) h.entered ∙ ap (answered s a) h.found_it
 
@@ -266,8 +263,8 @@ chosen false false x y z t e n w k = w
 texted-writes : (s : List ℕ) (a : Arrays) (t : List ℕ) (f : Found) → f.flag ≡ false → FitsText (texted s a t (found f)).answer → Writes (texted s a t (found f)) (text_found s f)
 unfolding texted FitsText size_or_depth member padded
 texted-writes s a t f d k =
-    chosen f.flag (ltb (length t) (length (text_found s f))) (written (NoText Flagged) (cleared_arrays a) (zeroed t)) (written (NoText TextFull) (cleared_arrays a) (zeroed t))
-    (written (Wrote (length (text_found s f))) (filled (ctx_of (rooms_of a) s) f a) (padded (text_found s f) (length t))) (text_found s f) d (λ u. u)
+    chosen f.flag (ltb (length t) (length (text_found s f))) (written (Err Flagged) (cleared_arrays a) (zeroed t)) (written (Err TextFull) (cleared_arrays a) (zeroed t))
+    (written (Ok (length (text_found s f))) (filled (ctx_of (rooms_of a) s) f a) (padded (text_found s f) (length t))) (text_found s f) d (λ u. u)
     (record { count = refl; bytes = take-append_seam (text_found s f) (replicate (length t - length (text_found s f)) 0) }) k
 
 -- A text call of an ASCII script, read with the flag down, that meets no refusal for size or depth writes the text of what is found.
