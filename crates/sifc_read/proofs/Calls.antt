@@ -1,5 +1,6 @@
 -- The reading call behind the tests of entry, out of what lexing and the walk gave.
-use Prim.Native.Nat.{ℕ, ◌-◌, ◌≤◌, ◌<◌}
+use Rattle.std.specs.Prelude.{Err}
+use Prim.Native.Nat.{ℕ, ◌≤◌, ◌<◌}
 use mathlib.Core.Path.{◌≡◌, refl, sym, ap, ◌∙◌, subst}
 use mathlib.Core.List.{List, []}
 use mathlib.Core.Bool.{Bool, true, false}
@@ -20,9 +21,8 @@ use Rattle.sifc_lex.specs.Lex.{lex, ending, end_at}
 use Rattle.sifc_tokens.specs.Tokens.{offs_of, words_of, padded, zeroed, LexCall, lex_called, lex_call}
 use Rattle.sifc_tokens.specs.Loaded.{Used}
 use Rattle.sifc_tokens.proofs.TokensLaws.{zeroed-used}
-use Rattle.sifc_def.specs.declared.Reading.{Reading}
-use Rattle.sifc_def.specs.declared.Reading.TheVariants as reading
-use Rattle.sifc_def.specs.Read.{Arrays, rooms_of, cleared_arrays, even, entry, refused, fault_of, read, Called, called, answered, reading as reading_of}
+use Rattle.sifc_def.specs.Answer.{Reading}
+use Rattle.sifc_def.specs.Read.{Arrays, rooms_of, cleared_arrays, entry, refused, fault_of, read, Called, called, answered, reading as reading_of}
 use Rattle.sifc_step.specs.declared.walk.Walked.{Walked}
 use Rattle.sifc_step.specs.Abs.{Tokens, inp, mem}
 use Rattle.sifc_step.specs.Book.{Walks}
@@ -131,17 +131,17 @@ read-over : (s : List ℕ) (a : Arrays) → length a.offs < length (lex s) → r
 unfolding read
 read-over s a h = rw (lt-ltb (length a.offs) (length (lex s)) h, read) refl
 
-pub full : (s o w h l y p r : List ℕ) {o' w' : List ℕ} {b : Arrays} → Over s o w o' w' → b ≡ cleared_arrays (arrays o' w' h l y p r) → called (reading.Refused TokensFull) b ≡ answered s (arrays o w h l y p r) (read (rooms_of (arrays o w h l y p r)) s)
+pub full : (s o w h l y p r : List ℕ) {o' w' : List ℕ} {b : Arrays} → Over s o w o' w' → b ≡ cleared_arrays (arrays o' w' h l y p r) → called (Err TokensFull) b ≡ answered s (arrays o w h l y p r) (read (rooms_of (arrays o w h l y p r)) s)
 unfolding answered
 full s o w h l y p r {o'} {w'} d e =
-    ap (called (reading.Refused TokensFull)) (e ∙ same-arrays (zeroed-again o o' d.offs) (zeroed-again w w' d.words) refl refl refl refl refl)
+    ap (called (Err TokensFull)) (e ∙ same-arrays (zeroed-again o o' d.offs) (zeroed-again w w' d.words) refl refl refl refl refl)
     ∙ ap (answered s (arrays o w h l y p r)) (sym (read-over s (arrays o w h l y p r) d.over))
 
 -- ── entry ──
 
 module _ (s : List ℕ) (a : Arrays) where
   abbrev read_by : Checked → Called Reading
-  read_by k = elim k [ check.Refused r ↦ called (reading.Refused r) a | Fine ↦ answered s a (read (rooms_of a) s) ]
+  read_by k = elim k [ check.Refused r ↦ called (Err r) a | Fine ↦ answered s a (read (rooms_of a) s) ]
 
   reading-by : read_by (entry s a) ≡ reading_of s a
   unfolding reading_of
@@ -151,5 +151,5 @@ module _ (s o w h l y p r : List ℕ) {k : Checked} (e : k ≡ entry s (arrays o
   pub read-on : {x : Called Reading} → k ≡ Fine → x ≡ answered s (arrays o w h l y p r) (read (rooms_of (arrays o w h l y p r)) s) → x ≡ reading_of s (arrays o w h l y p r)
   read-on f g = g ∙ sym (ap (read_by s (arrays o w h l y p r)) (sym (e ∙ entry-same s o w h l y p r) ∙ f)) ∙ reading-by s (arrays o w h l y p r)
 
-  pub read-not : {f : Refusal} → k ≡ check.Refused f → called (reading.Refused f) (arrays o w h l y p r) ≡ reading_of s (arrays o w h l y p r)
+  pub read-not : {f : Refusal} → k ≡ check.Refused f → called (Err f) (arrays o w h l y p r) ≡ reading_of s (arrays o w h l y p r)
   read-not g = sym (ap (read_by s (arrays o w h l y p r)) (sym (e ∙ entry-same s o w h l y p r) ∙ g)) ∙ reading-by s (arrays o w h l y p r)

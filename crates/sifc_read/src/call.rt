@@ -4,7 +4,7 @@ ghost use Rattle.sifc_def.specs.Read.{fault_of, rooms_of, read, called, answered
 ghost use Rattle.sifc_lent.specs.Parts.{arrays, Entered};
 
 use crate::finish::finish;
-use sifc_def::Reading;
+use sifc_def::Summary;
 use sifc_err::{Ending, Refusal};
 use sifc_lent::{clear_all, entry_tests};
 use sifc_lex::LexAnswer;
@@ -17,9 +17,7 @@ fn fault_of(ending: Ending) -> u32
     ensures { result ≡ fault_of ending }
 {
     match ending {
-        Ending::TrueEnd => 0,
-        Ending::UnknownChar => 0,
-        Ending::UnterminatedString => 0,
+        Ending::TrueEnd | Ending::UnknownChar | Ending::UnterminatedString => 0,
         Ending::Panic(kind) => kind,
     }
 }
@@ -34,14 +32,14 @@ pub fn after_entry(
     symbols: &mut [u32],
     places: &mut [u32],
     reasons: &mut [u32],
-) -> Reading
+) -> Result<Summary, Refusal>
     requires { Entered script.now (arrays offs.old words.old heads.old loads.old symbols.old places.old reasons.old) }
     ensures { called result (arrays offs.new words.new heads.new loads.new symbols.new places.new reasons.new) ≡ answered script.now (arrays offs.old words.old heads.old loads.old symbols.old places.old reasons.old) (read (rooms_of (arrays offs.old words.old heads.old loads.old symbols.old places.old reasons.old)) script.now) }
 {
     let lexed = lex_tokens(script, offs, words);
     let LexAnswer::Ended(n, ending, _) = lexed else {
         clear_all(offs, words, heads, loads, symbols, places, reasons, 0);
-        return Reading::Refused(Refusal::TokensFull);
+        return Err(Refusal::TokensFull);
     };
     let lim = Limits {
         errors: places.len(),
@@ -70,12 +68,12 @@ pub fn reading(
     symbols: &mut [u32],
     places: &mut [u32],
     reasons: &mut [u32],
-) -> Reading
+) -> Result<Summary, Refusal>
     ensures { called result (arrays offs.new words.new heads.new loads.new symbols.new places.new reasons.new) ≡ reading_of script.now (arrays offs.old words.old heads.old loads.old symbols.old places.old reasons.old) }
 {
     let checked = entry_tests(script, offs, words, heads, loads, places, reasons);
     match checked {
         Checked::Fine => after_entry(script, offs, words, heads, loads, symbols, places, reasons),
-        Checked::Refused(refusal) => Reading::Refused(refusal),
+        Checked::Refused(refusal) => Err(refusal),
     }
 }

@@ -1,4 +1,3 @@
-use borrow.Author.Rules.{rules}
 use Rattle.sifc_lent.proofs.EntryLaws.{entered}
 use Rattle.sifc_read.proofs.Calls.{read-on, read-not}
 use Rattle.sifc_read.proofs.call.reading.Goals as goal
