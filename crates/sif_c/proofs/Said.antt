@@ -7,8 +7,7 @@ use Rattle.sifc_err.specs.Refusal.{number_of, kind_of, offset_of}
 use Rattle.sifc_tokens.specs.declared.call.TokensAnswer.{TokensAnswer}
 use Rattle.sifc_tokens.specs.declared.call.TokensAnswer.TheVariants.{Count, Refused}
 use Rattle.sifc_tokens.specs.Tokens.{answer_of, TokensCall, tokens_called}
-use Rattle.sifc_def.specs.declared.Reading.{Reading}
-use Rattle.sifc_def.specs.declared.Texting.{Texting}
+use Rattle.sifc_def.specs.Answer.{Reading, Texting}
 use Rattle.sifc_def.specs.Read.{Arrays, Called, called, read_numbers, TextNumbers, text_numbers, Written, written}
 use Rattle.sifc_told.specs.Hosts.{answer, ReadAnswer, told_of, told, text_told, told_text}
 

@@ -2,8 +2,10 @@
 // writer, and a write that fails is the answer.
 #![tactic(auto)]
 
+mod buffers;
 mod entries;
 
+pub use buffers::Buffers;
 pub use entries::{Entry, Scripts, after_newline, entry_at};
 use sifc_err::Refusal;
 use sifc_tokens::TokensAnswer;

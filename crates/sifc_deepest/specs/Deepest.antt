@@ -1,6 +1,6 @@
 -- Document 02, ask 14: the deepest script of a length. "For a length of n bytes, 1 to 255, give a script with the greatest number of counted calls active (as in
 -- TooDeep), and that number." That the number is the greatest is shown in Depth.antt.
-use Rattle.std.specs.Prelude.{ℕ, ◌+◌, ◌*◌, List, eqb, ltb, length, replicate, Option, Some, None}
+use Rattle.std.specs.Prelude.{ℕ, ◌≡◌, ◌+◌, ◌*◌, List, eqb, ltb, length, replicate, Option, Some, None}
 use Rattle.sifc_word.specs.Base.{if◌then◌otherwise◌}
 use Rattle.sifc_tokens.specs.Tokens.{padded}
 
@@ -62,3 +62,7 @@ deepest_told n b = record { answer = n; script = b }
 
 unfoldable pub told_deepest : DeepestCall → DeepestTold
 told_deepest c = deepest_told (deepest_numbers c.answer) c.script
+
+-- what the call for hosts promises: what it says and leaves, of the length and the lent buffer
+abbrev pub DeepestSaid : ℕ → List ℕ → DeepestNumbers → List ℕ → Type 0
+DeepestSaid n lent said left = deepest_told said left ≡ told_deepest (deepest_call n lent)

@@ -1,4 +1,5 @@
 -- What the proofs of the call on words and of the tests of entry cite.
+use Rattle.std.specs.Prelude.{Err}
 use Prim.Native.Nat.{ℕ}
 use mathlib.Core.Path.{◌≡◌, refl, sym, ap, ap₂, ◌∙◌}
 use mathlib.Core.List.{List, []}
@@ -11,8 +12,7 @@ use Rattle.sifc_tokens.specs.declared.call.Checked.{Checked}
 use Rattle.sifc_tokens.specs.declared.call.Checked.TheVariants.{Fine}
 use Rattle.sifc_tokens.specs.declared.call.Checked.TheVariants as check
 use Rattle.sifc_word.specs.Base.{if◌then◌otherwise◌}
-use Rattle.sifc_def.specs.declared.Reading.{Reading}
-use Rattle.sifc_def.specs.declared.Reading.TheVariants.{Refused}
+use Rattle.sifc_def.specs.Answer.{Reading}
 use Rattle.sifc_def.specs.Read.{Arrays, called, rooms_of, entry, even, read, answered}
 use Rattle.sifc_lent.specs.Parts.{arrays, Entered}
 use Rattle.sifc_lent.proofs.EntryLaws as words
@@ -47,7 +47,7 @@ entry-same s o w h l y p r n = refl
 
 -- by the tests of entry
 abbrev pub read_by : List ℕ → Arrays → ℕ → Checked → Kept
-read_by s a n k = elim k [ check.Refused r ↦ kept (told (Refused r) 0 0 n) a | Fine ↦ kept_of (answered s a (read (rooms_of a) s)) ]
+read_by s a n k = elim k [ check.Refused r ↦ kept (told (Err r) 0 0 n) a | Fine ↦ kept_of (answered s a (read (rooms_of a) s)) ]
 
 -- it is the definition's
 pub read-by : (s : List ℕ) (a : Arrays) (n : ℕ) → read_by s a n (entry_records s a n) ≡ read_words s a n
@@ -64,5 +64,5 @@ module _ (s o w h l y p r : List ℕ) (n : ℕ) {k : Checked} (e : k ≡ entry_r
       ap (λ (z : Told). kept z b) g ∙ ap kept_of d ∙ sym (ap (read_by s (arrays o w h l y p r) n) (sym (e ∙ entry-same s o w h l y p r n) ∙ f)) ∙ read-by s (arrays o w h l y p r) n
 
   -- where they do not, nothing is touched
-  pub read-not : (f : Refusal) → k ≡ check.Refused f → kept (told (Refused f) 0 0 n) (arrays o w h l y p r) ≡ read_words s (arrays o w h l y p r) n
+  pub read-not : (f : Refusal) → k ≡ check.Refused f → kept (told (Err f) 0 0 n) (arrays o w h l y p r) ≡ read_words s (arrays o w h l y p r) n
   read-not f g = sym (ap (read_by s (arrays o w h l y p r) n) (sym (e ∙ entry-same s o w h l y p r n) ∙ g)) ∙ read-by s (arrays o w h l y p r) n

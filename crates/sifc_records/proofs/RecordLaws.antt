@@ -1,5 +1,5 @@
 -- The two words of a listed error say its record; and the reading call on records agrees with the call on words.
-use Rattle.std.specs.Prelude.{ℕ, ◌+◌, ◌*◌, ◌/◌, ◌%◌, ◌≤◌, ◌<◌, Bool, ◌⊎◌, ◌≡◌, eqb, length}
+use Rattle.std.specs.Prelude.{ℕ, ◌+◌, ◌*◌, ◌/◌, ◌%◌, ◌≤◌, ◌<◌, Bool, ◌⊎◌, ◌≡◌, eqb, length, Err}
 use mathlib.Core.List.{List, [], ◌∷◌, map, reverse, reverse_aux}
 use Rattle.std.proofs.Math.Bool.{true, false}
 use Rattle.std.proofs.Common.{inl, inr, sym, ap, ap₂, ◌∙◌, subst, arith, ltb-false, eqb-true, eq-eqb, ne_eqb}
@@ -18,11 +18,10 @@ use Rattle.sifc_word.specs.Base.{if◌then◌otherwise◌}
 use Rattle.sifc_lex.specs.Lex.{lex}
 use Rattle.sifc_lex.proofs.LexLaws.{lex-count}
 use Rattle.sifc_tokens.specs.Place.{place_of}
-use Rattle.sifc_def.specs.declared.Err.{Err}
+use Rattle.sifc_def.specs.declared.Err.{Err as WalkErr}
 use Rattle.sifc_def.specs.declared.Why.{Why}
 use Rattle.sifc_def.specs.declared.Why.TheVariants.{InvalidIdent, InvalidTkn, InvalidTknMsg, InvalidAssign, InvalidForStmt, InvalidIfStmt, TknMismatch, FnParmCntExceeded, WrongFnParmCnt, UndeclSym, UnassignedVar, ExpectedIdent}
-use Rattle.sifc_def.specs.declared.Reading.{Reading}
-use Rattle.sifc_def.specs.declared.Reading.TheVariants.{Refused}
+use Rattle.sifc_def.specs.Answer.{Reading}
 use Rattle.sifc_def.specs.Error.{ty_of, carried, carried_too, place_at, parse_err, err_place, err_reason}
 use Rattle.sifc_def.specs.State.{Ctx, Out, done, fail, refuse, tok_at}
 use Rattle.sifc_def.specs.Walk.{End, walk}
@@ -85,7 +84,7 @@ ty-bare c (UnassignedVar i) = refl
 ty-bare c (ExpectedIdent i) = refl
 
 -- The two words of an error are its record's.
-pub record-back : (c : Ctx) (e : Err) → length c.script ≤ 65535 → carried e.why < 65536 → Spoken e.why → record_of c.toks (err_place c e) (err_reason c e) ≡ parse_err c e
+pub record-back : (c : Ctx) (e : WalkErr) → length c.script ≤ 65535 → carried e.why < 65536 → Spoken e.why → record_of c.toks (err_place c e) (err_reason c e) ≡ parse_err c e
 unfolding err_place parse_err place_at
 record-back c e s h p =
     let q : Place = place_of c.script (tok_at c e.place).off in
@@ -98,17 +97,17 @@ record-back c e s h p =
 -- ── all errors of a reading ──
 
 -- so it is of each listed error
-abbrev Sound : Ctx → Err → Type 0
+abbrev Sound : Ctx → WalkErr → Type 0
 Sound c e = record_of c.toks (err_place c e) (err_reason c e) ≡ parse_err c e
 
 -- So the words of all errors are their records'.
-pub records-back : (c : Ctx) (es : List Err) → Each (Sound c) es → records_in c.toks (map (err_place c) es) (map (err_reason c) es) ≡ map (parse_err c) es
+pub records-back : (c : Ctx) (es : List WalkErr) → Each (Sound c) es → records_in c.toks (map (err_place c) es) (map (err_reason c) es) ≡ map (parse_err c) es
 unfolding records_in Each
 records-back c [] h = refl
 records-back c (e ∷ es) h = ap₂ (λ (x : ParseErr) (xs : List ParseErr). x ∷ xs) h.0 (records-back c es h.1)
 
 -- it holds of errors that stand at one of the tokens and whose messages are not 0
-each-sound : (c : Ctx) (es : List Err) → length c.script ≤ 65535 → length c.toks ≤ 65536 → Each (FairErr (length c.toks)) es → Each (λ (e : Err). Spoken e.why) es → Each (Sound c) es
+each-sound : (c : Ctx) (es : List WalkErr) → length c.script ≤ 65535 → length c.toks ≤ 65536 → Each (FairErr (length c.toks)) es → Each (λ (e : WalkErr). Spoken e.why) es → Each (Sound c) es
 unfolding Each
 each-sound c [] s t f p = tt
 each-sound c (e ∷ es) s t f p = (record-back c e s (small f.0.first) p.0, each-sound c es s t f.1 p.1)
@@ -179,7 +178,7 @@ entry-by s a n = refl
 abbrev pub records_by : List ℕ → Arrays → List ParseErr → Checked → Recorded
 records_by s a rs k =
     elim k [
-      | check.Refused r ↦ recorded (Refused r) a rs
+      | check.Refused r ↦ recorded (Err r) a rs
       | Fine ↦ recorded (answered s a (read (rooms_of a) s)).answer (answered s a (read (rooms_of a) s)).arrays (records_of (ctx_of (rooms_of a) s) (length rs) (read (rooms_of a) s))
     ]
 
@@ -197,12 +196,12 @@ pub records-agree : (s : List ℕ) (a : Arrays) (rs : List ParseErr) → length 
 unfolding reading if◌then◌otherwise◌
 records-agree s a rs l = ap call_of (records-even s a rs l) ∙ go (entry s a)
   where
-    go : (k : Checked) → call_of (records_by s a rs (entry_by k true)) ≡ elim k as (λ z. Called Reading) [ check.Refused r ↦ called (Refused r) a | Fine ↦ answered s a (read (rooms_of a) s) ]
+    go : (k : Checked) → call_of (records_by s a rs (entry_by k true)) ≡ elim k as (λ z. Called Reading) [ check.Refused r ↦ called (Err r) a | Fine ↦ answered s a (read (rooms_of a) s) ]
     go (check.Refused f) = refl
     go Fine = refl
 
 -- Where there are not, and the call on words would pass its tests of entry, it is refusal 3 and nothing is touched.
-pub records-uneven : (s : List ℕ) (a : Arrays) (rs : List ParseErr) → entry s a ≡ Fine → (length a.places ≡ length rs → ⊥) → reading_records s a rs ≡ recorded (Refused Uneven) a rs
+pub records-uneven : (s : List ℕ) (a : Arrays) (rs : List ParseErr) → entry s a ≡ Fine → (length a.places ≡ length rs → ⊥) → reading_records s a rs ≡ recorded (Err Uneven) a rs
 unfolding if◌then◌otherwise◌
 records-uneven s a rs e l = sym (records-by s a rs) ∙ ap (records_by s a rs) (sym (entry-by s a (length rs)) ∙ ap₂ entry_by e (ne_eqb (length a.places) (length rs) l))
 

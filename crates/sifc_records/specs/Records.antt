@@ -1,13 +1,12 @@
 -- The reading call over a lent slice of error records, on top of the call on words (Read.antt of sifc_def). "Errors go to a lent slice of error records."
-use Rattle.std.specs.Prelude.{ℕ, ◌-◌, List, ◌++◌, map, eqb, length, replicate}
+use Rattle.std.specs.Prelude.{ℕ, ◌-◌, List, ◌++◌, map, eqb, length, replicate, Err, Ok}
 use Rattle.sifc_err.specs.declared.Refusal.TheVariants.{Uneven}
 use Rattle.sifc_err.specs.declared.parse_err.ParseErr.{ParseErr}
 use Rattle.sifc_tokens.specs.declared.call.Checked.{Checked}
 use Rattle.sifc_tokens.specs.declared.call.Checked.TheVariants.{Fine}
 use Rattle.sifc_tokens.specs.declared.call.Checked.TheVariants as check
 use Rattle.sifc_word.specs.Base.{if◌then◌otherwise◌}
-use Rattle.sifc_def.specs.declared.Reading.{Reading}
-use Rattle.sifc_def.specs.declared.Reading.TheVariants.{Read, Refused}
+use Rattle.sifc_def.specs.Answer.{Reading}
 use Rattle.sifc_def.specs.State.{Ctx}
 use Rattle.sifc_def.specs.Error.{parse_err}
 use Rattle.sifc_def.specs.Read.{Arrays, rooms_of, ctx_of, Outcome, found, refused, entry, read, Called, called, answered}
@@ -47,7 +46,7 @@ recorded x a rs = record { answer = x; arrays = a; records = rs }
 unfoldable pub reading_records : List ℕ → Arrays → List ParseErr → Recorded
 reading_records s a rs =
     elim (entry_records s a (length rs)) [
-      | check.Refused r ↦ recorded (Refused r) a rs
+      | check.Refused r ↦ recorded (Err r) a rs
       | Fine ↦ recorded (answered s a (read (rooms_of a) s)).answer (answered s a (read (rooms_of a) s)).arrays (records_of (ctx_of (rooms_of a) s) (length rs) (read (rooms_of a) s))
     ]
 
@@ -57,5 +56,5 @@ call_of x = called x.answer x.arrays
 
 -- how many errors an answer counts
 abbrev pub errors_of : Reading → ℕ
-errors_of (Read m) = m.errors
-errors_of (Refused r) = 0
+errors_of (Ok m) = m.errors
+errors_of (Err r) = 0

@@ -1,5 +1,5 @@
 -- Number values: document 02, ask 1. A literal is digits over a power of ten in whole numbers, and its value is that fraction, rounded to the nearest f64, ties to even.
-use Rattle.std.specs.Prelude.{ℕ, suc, ◌+◌, ◌-◌, ◌*◌, ◌^◌, Bool, true, false, ◌&&◌, List, [], ◌∷◌, ◌++◌, length, take, drop, pos, ◌==◌, nat_lt, Float, Option, Some, None}
+use Rattle.std.specs.Prelude.{◌≡◌, ℕ, suc, ◌+◌, ◌-◌, ◌*◌, ◌^◌, Bool, true, false, ◌&&◌, List, [], ◌∷◌, ◌++◌, length, take, drop, pos, ◌==◌, nat_lt, Float, Option, Some, None}
 use Rattle.std.specs.Float.{fin, binary64}
 use Rattle.std.specs.Float.Ieee.{round}
 use Rattle.sifc_word.specs.Base.{if◌then◌otherwise◌, span}
@@ -52,3 +52,7 @@ told n x = record { number = n; value = x }
 unfoldable pub told_value : Option Float → Told
 told_value (Some x) = told 0 x
 told_value None = told 12 (fin false 0 (pos 0))
+
+-- what the call for hosts promises: what it says of a literal
+abbrev pub ValueSaid : List ℕ → Told → Type 0
+ValueSaid s said = said ≡ told_value (value_of s)

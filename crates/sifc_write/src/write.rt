@@ -5,7 +5,6 @@ ghost use Rattle.sifc_put.specs.Post.{SpotOf};
 ghost use Rattle.sifc_text_stmt.specs.Kinds.{program_l};
 ghost use Rattle.sifc_write.specs.Front.{Fronts};
 
-use sifc_def::Texting;
 use sifc_err::Refusal;
 use sifc_put::Put;
 use sifc_text_stmt::program;
@@ -45,7 +44,7 @@ pub fn write_tree(
     heads: &[u32],
     loads: &[u32],
     text: &mut [u8],
-) -> Texting
+) -> Result<usize, Refusal>
     requires { SpotOf (program_l (inp script.now offs.now words.now heads.now loads.now)) text.old (length heads.now) (length text.old) }
     ensures { Fronts (program_l (inp script.now offs.now words.now heads.now loads.now)) text.old (length heads.now) result text.new }
 {
@@ -53,8 +52,8 @@ pub fn write_tree(
     let written = program(script, offs, words, heads, loads, text, heads.len(), room);
     let Put::Done(_, a) = written else {
         clear_from(text, 0);
-        return Texting::Refused(Refusal::TextFull);
+        return Err(Refusal::TextFull);
     };
     shift(text, a);
-    Texting::Wrote(room - a)
+    Ok(room - a)
 }
