@@ -1,5 +1,5 @@
 // The kinds of a script's tokens, by stepping a lexing view.
-use sifc_view::token_from;
+use sifc_view::Lexer;
 use std::io;
 use std::io::Write;
 
@@ -10,10 +10,9 @@ const MOST: usize = 4097;
 
 // The kinds on one line, with a space between; an Eof or a lexing panic is the last.
 pub fn print_kinds<W: Write>(out: &mut W, script: &[u8]) -> io::Result<()> {
-    let mut off = 0;
+    let mut lexer = Lexer::new(script);
     for n in 0..MOST {
-        let lexed = token_from(script, off);
-        let kind = lexed.token.kind;
+        let kind = lexer.lex().kind;
         if 0 < n {
             write!(out, " ")?;
         }
@@ -21,7 +20,6 @@ pub fn print_kinds<W: Write>(out: &mut W, script: &[u8]) -> io::Result<()> {
         if EOF <= kind {
             break;
         }
-        off = lexed.next;
     }
     writeln!(out)
 }

@@ -8,7 +8,6 @@ ghost use Rattle.sifc_lent.specs.Parts.{arrays};
 ghost use Rattle.sifc_told.specs.Hosts.{answer, early_numbers, read_answer, text_answer, TokensSaid, ReadingSaid, TextSaid};
 
 pub use deepest::sif_deepest;
-use sifc_tokens::TokensAnswer;
 use sifc_told::{told, told_text};
 pub use value::sif_value;
 
@@ -24,15 +23,14 @@ pub fn sif_tokens(
 ) -> u32
     ensures { TokensSaid script.now offs.old words.old (answer count.new result kind.new offset.new) offs.new words.new }
 {
-    let said = sifc_tokens::tokens(script, offs, words);
-    match said {
-        TokensAnswer::Count(n) => {
+    match sifc_tokens::tokens(script, offs, words) {
+        Ok(n) => {
             *count = n as u32;
             *kind = 0;
             *offset = 0;
             0
         }
-        TokensAnswer::Refused(refusal) => {
+        Err(refusal) => {
             *count = 0;
             *kind = refusal.kind();
             *offset = refusal.offset() as u32;

@@ -3,6 +3,7 @@
 ghost use Rattle.std.specs.Prelude.{◌≡◌, ◌+◌, ◌-◌, ◌≤◌, ◌<◌, length};
 ghost use Rattle.std.specs.Iterator.{at_most};
 ghost use Rattle.sif_show.specs.Entries.{number_at, entry_at};
+ghost use Rattle.sif_show.specs.Scripts.{Given};
 
 // A number that was read, and the index after its digits.
 #[derive(Clone, Copy)]
@@ -72,13 +73,18 @@ pub struct Scripts<'a> {
 }
 
 impl<'a> Scripts<'a> {
-    pub fn new(list: &'a [u8]) -> Self {
+    // At the list's start.
+    pub fn new(list: &'a [u8]) -> Self
+        ensures { (result.list ≡ list.entry) × (result.at ≡ 0) }
+    {
         Scripts { list, at: 0 }
     }
 }
 
 impl<'a> Iterator for Scripts<'a> {
     type Item = &'a [u8];
+
+    ghost next_gives = { λ s r t. Given s r t };
 
     ghost remaining = { λ s. at_most (length s.list.now - s.at) };
 

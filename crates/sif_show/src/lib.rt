@@ -8,7 +8,6 @@ mod entries;
 pub use buffers::Buffers;
 pub use entries::{Entry, Scripts, after_newline, entry_at};
 use sifc_err::Refusal;
-use sifc_tokens::TokensAnswer;
 use std::io;
 use std::io::Write;
 
@@ -44,7 +43,6 @@ fn print_plain<W: Write>(out: &mut W, text: &[u8]) -> io::Result<()> {
 fn print_token<W: Write>(
     out: &mut W,
     script: &[u8],
-    fixed: &[u8],
     off: u32,
     word: u32,
     layout: Layout,
@@ -54,7 +52,7 @@ fn print_token<W: Write>(
     let at = off as usize;
     let place = sifc_tokens::place_at(script, at);
     write!(out, "{kind}:{}:{}:", place.line, place.pos)?;
-    let text = sifc_word::spelling(script, fixed, kind, at, len);
+    let text = sifc_word::spelling(script, kind, at, len);
     match layout {
         Layout::Lines => {
             print_plain(out, text)?;
@@ -81,12 +79,11 @@ fn print_tokens<W: Write>(
     n: usize,
     layout: Layout,
 ) -> io::Result<()> {
-    let fixed = sifc_word::spellings();
     for (i, (off, word)) in offs.iter().zip(words).take(n).enumerate() {
         if 0 < i && layout == Layout::List {
             write!(out, " ")?;
         }
-        print_token(out, script, &fixed, *off, *word, layout)?;
+        print_token(out, script, *off, *word, layout)?;
     }
     Ok(())
 }
@@ -96,7 +93,7 @@ pub fn show<W: Write>(out: &mut W, script: &[u8], layout: Layout) -> io::Result<
     let mut offs = [0u32; 4097];
     let mut words = [0u32; 4097];
     match sifc_tokens::tokens(script, &mut offs, &mut words) {
-        TokensAnswer::Count(n) => print_tokens(out, script, &offs, &words, n, layout),
-        TokensAnswer::Refused(refusal) => print_refusal(out, refusal),
+        Ok(n) => print_tokens(out, script, &offs, &words, n, layout),
+        Err(refusal) => print_refusal(out, refusal),
     }
 }

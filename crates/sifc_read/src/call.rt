@@ -7,10 +7,9 @@ use crate::finish::finish;
 use sifc_def::Summary;
 use sifc_err::{Ending, Refusal};
 use sifc_lent::{clear_all, entry_tests};
-use sifc_lex::LexAnswer;
 use sifc_program::parse;
 use sifc_step::Limits;
-use sifc_tokens::{Checked, lex_tokens};
+use sifc_tokens::lex_tokens;
 
 // The kind of the lexing panic that ends the tokens, if one does.
 fn fault_of(ending: Ending) -> u32
@@ -37,14 +36,15 @@ pub fn after_entry(
     ensures { called result (arrays offs.new words.new heads.new loads.new symbols.new places.new reasons.new) ≡ answered script.now (arrays offs.old words.old heads.old loads.old symbols.old places.old reasons.old) (read (rooms_of (arrays offs.old words.old heads.old loads.old symbols.old places.old reasons.old)) script.now) }
 {
     let lexed = lex_tokens(script, offs, words);
-    let LexAnswer::Ended(n, ending, _) = lexed else {
+    let Ok(ended) = lexed else {
         clear_all(offs, words, heads, loads, symbols, places, reasons, 0);
         return Err(Refusal::TokensFull);
     };
     let lim = Limits {
         errors: places.len(),
-        fault: fault_of(ending),
+        fault: fault_of(ended.ending),
     };
+    let n = ended.count;
     let os = &offs[..n];
     let ws = &words[..n];
     let walked = parse(script, os, ws, symbols, heads, loads, places, reasons, lim);
@@ -71,9 +71,6 @@ pub fn reading(
 ) -> Result<Summary, Refusal>
     ensures { called result (arrays offs.new words.new heads.new loads.new symbols.new places.new reasons.new) ≡ reading_of script.now (arrays offs.old words.old heads.old loads.old symbols.old places.old reasons.old) }
 {
-    let checked = entry_tests(script, offs, words, heads, loads, places, reasons);
-    match checked {
-        Checked::Fine => after_entry(script, offs, words, heads, loads, symbols, places, reasons),
-        Checked::Refused(refusal) => Err(refusal),
-    }
+    entry_tests(script, offs, words, heads, loads, places, reasons)?;
+    after_entry(script, offs, words, heads, loads, symbols, places, reasons)
 }
