@@ -64,11 +64,9 @@ pub fn sif_reading(
     kind: &mut u32,
     offset: &mut usize,
 ) -> u32
-    ensures {
-        ReadingSaid script.now (arrays offs.old words.old heads.old loads.old symbols.old places.old reasons.old)
-            (read_answer tokens.new nodes.new errors.new flag.new (early_numbers early_line.new early_pos.new early_number.new early_offset.new early_value.new) result kind.new offset.new)
-            (arrays offs.new words.new heads.new loads.new symbols.new places.new reasons.new)
-    }
+    ensures { ReadingSaid script.now (arrays offs.old words.old heads.old loads.old symbols.old places.old reasons.old)
+        (read_answer tokens.new nodes.new errors.new flag.new (early_numbers early_line.new early_pos.new early_number.new early_offset.new early_value.new) result kind.new offset.new)
+        (arrays offs.new words.new heads.new loads.new symbols.new places.new reasons.new) }
 {
     let numbers = told(sifc_read::reading(
         script, offs, words, heads, loads, symbols, places, reasons,
@@ -104,11 +102,9 @@ pub fn sif_text(
     kind: &mut u32,
     offset: &mut usize,
 ) -> u32
-    ensures {
-        TextSaid script.now (arrays offs.old words.old heads.old loads.old symbols.old places.old reasons.old) text.old
-            (text_answer count.new result kind.new offset.new)
-            (arrays offs.new words.new heads.new loads.new symbols.new places.new reasons.new) text.new
-    }
+    ensures { TextSaid script.now (arrays offs.old words.old heads.old loads.old symbols.old places.old reasons.old) text.old
+        (text_answer count.new result kind.new offset.new)
+        (arrays offs.new words.new heads.new loads.new symbols.new places.new reasons.new) text.new }
 {
     let written = told_text(sifc_text::text(
         script, offs, words, heads, loads, symbols, places, reasons, text,

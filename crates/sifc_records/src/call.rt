@@ -77,9 +77,7 @@ pub fn read_words(
 {
     let checked = entry_records(script, offs, words, heads, loads, places, reasons, records);
     match checked {
-        Ok(()) => told_of(after_entry(
-            script, offs, words, heads, loads, symbols, places, reasons,
-        )),
+        Ok(()) => told_of(after_entry(script, offs, words, heads, loads, symbols, places, reasons)),
         Err(refusal) => Told {
             reading: Err(refusal),
             tokens: 0,
