@@ -38,11 +38,8 @@ pub fn fill(
     ensures { errors.new ≡ filled_of (toks_of (take tokens offs.now) (take tokens words.now)) places.now reasons.now n from errors.old }
 {
     for i in 0..n {
-        push(
-            errors,
-            i,
-            record_at(offs, words, places, reasons, tokens, i),
-        );
+        let e = record_at(offs, words, places, reasons, tokens, i);
+        push(errors, i, e);
     }
     clear(errors, from);
 }

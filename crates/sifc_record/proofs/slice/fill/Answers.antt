@@ -17,8 +17,8 @@ loop-i-preserved c =
     let ts = toks_of (take c.args.tokens c.args.offs.now) (take c.args.tokens c.args.words.now) in (
       omega (arith, c.loop-i-test.true),
       subst (Turn (firsts ts c.args.places.now c.args.reasons.now) c.args.errors.now (c.loop-i.i + 1)) (sym c.push.ensures)
-          (turned (firsts ts c.args.places.now c.args.reasons.now) c.args.errors.now c.loop-i.invariant.1 c.record_at.result (omega (arith, c.loop-i-test.true, c.loop-i.auto.errors, c.requires.used, c.requires.room))
-          (firsts-more ts c.loop-i.i c.args.places.now c.args.reasons.now c.record_at.result (omega (arith, c.loop-i-test.true, c.requires.places)) (omega (arith, c.loop-i-test.true, c.requires.reasons)) c.record_at.ensures)),
+          (turned (firsts ts c.args.places.now c.args.reasons.now) c.args.errors.now c.loop-i.invariant.1 c.record_at-e.result (omega (arith, c.loop-i-test.true, c.loop-i.auto.errors, c.requires.used, c.requires.room))
+          (firsts-more ts c.loop-i.i c.args.places.now c.args.reasons.now c.record_at-e.result (omega (arith, c.loop-i-test.true, c.requires.places)) (omega (arith, c.loop-i-test.true, c.requires.reasons)) c.record_at-e.ensures)),
     )
 
 pub returns : goal.returns
