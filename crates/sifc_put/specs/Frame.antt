@@ -1,25 +1,25 @@
 -- A thing that is written from its last piece to its first: what is left of it, and what each call adds. The proofs of the writer go on by these steps alone.
-use Rattle.std.specs.Prelude.{ℕ, ◌-◌, ◌≤◌, ◌≡◌, refl, List, [], ◌++◌, length}
+use Rattle.std.specs.Prelude.{ℕ, ◌≤◌, ◌≡◌, refl, List, [], ◌++◌, length, Result, Ok, Err}
 use Rattle.std.proofs.Common.{arith, sym, ap, ◌∙◌, subst, append_assoc, append-nil}
-use Rattle.sifc_put.specs.declared.write.Put.{Put}
-use Rattle.sifc_put.specs.declared.write.Put.TheVariants.{Done, Full}
-use Rattle.sifc_put.specs.Post.{Placed, Wrote, Lang, SpotOf, WritesOf, fixed, token_l, leaf_l, seq}
-use Rattle.sifc_put.specs.Steps.{begin, gone, goes, stops, ends, renode, less}
+use Rattle.sifc_put.specs.declared.write.Full.{Full}
+use Rattle.sifc_put.specs.declared.write.Tree.{Tree}
+use Rattle.sifc_put.specs.declared.write.Writer.{Writer}
+use Rattle.sifc_put.specs.Place.{Inp, inp}
+use Rattle.sifc_put.specs.Post.{Placed, Wrote, Lang, Kind, inp_of, SpotOf, At, Goes, Writes, fixed, Pieces, one, seq, made}
+use Rattle.sifc_put.specs.Steps.{begin, gone, both, stops, ends, renode, still, further}
 
--- What is left: a thing of kind M before h; its bytes and what is done make up w.
-pub record Rest (M : Lang) (w : List ℕ) (lo : ℕ) (text₀ : List ℕ) (at : ℕ) (text : List ℕ) (h a : ℕ) : Type 0 where
+-- What is left: a thing of kind M before q's node; its bytes and what is done make up w.
+pub record Rest (M : Lang) (w : List ℕ) (lo : ℕ) (p q : Writer) : Type 0 where
   pub tree : M.T
   pub done : List ℕ
-  pub spans : M.S tree lo h
+  pub spans : M.S tree lo q.node
   pub split : w ≡ M.P tree ++ done
-  pub placed : Placed done text₀ h at h a text
+  pub placed : Placed done p.text.now q.node p.at q.node q.at q.text.now
 
--- Of any thing of kind L before hi, a thing of kind M is left.
-pub record Part (L M : Lang) (text₀ : List ℕ) (hi at : ℕ) (text : List ℕ) (h a : ℕ) : Type 0 where
-  pub kept : length text ≡ length text₀
-  pub low : h ≤ hi
-  pub room : a ≤ at
-  pub left : (x : L.T) (lo : ℕ) → L.S x lo hi → Rest M (L.P x) lo text₀ at text h a
+-- Of any thing of kind L before p's node, the pieces M are left.
+pub record Part (L : Kind) (M : Pieces) (p q : Writer) : Type 1 where
+  pub goes : Goes p q
+  pub left : (x : (L (inp_of p)).T) (lo : ℕ) → (L (inp_of p)).S x lo p.node → Rest (made M (inp_of p)) ((L (inp_of p)).P x) lo p q
 
 -- a thing as one of another kind, with the same bytes
 pub record Same (M N : Lang) (y : M.T) (lo h : ℕ) : Type 0 where
@@ -31,43 +31,31 @@ pub record Same (M N : Lang) (y : M.T) (lo h : ℕ) : Type 0 where
 abbrev pub Narrow : (M N : Lang) (h h' : ℕ) → Type 0
 Narrow M N h h' = (y : M.T) (lo : ℕ) → M.S y lo h → Same M N y lo h'
 
--- a thing as one of a first kind and then one of a last
-pub record Cut (M N K : Lang) (y : M.T) (lo h : ℕ) : Type 0 where
-  pub front : N.T
-  pub last : K.T
-  pub mid : ℕ
-  pub before : N.S front lo mid
-  pub here : K.S last mid h
-  pub text : M.P y ≡ N.P front ++ K.P last
+-- A kind is told by what is read.
+same-inp : {p q : Writer} → Goes p q → inp_of q ≡ inp_of p
+same-inp {p} {q} g = ap (λ (t : Tree). inp t.script.now t.offs.now t.words.now t.heads.now t.loads.now) g.tree
 
--- each M before h is an N and then a K
-abbrev pub Cuts : (M N K : Lang) (h : ℕ) → Type 0
-Cuts M N K h = (y : M.T) (lo : ℕ) → M.S y lo h → Cut M N K y lo h
+-- What a call does, told by what was read at first.
+does-at : (K : Kind) {p q s : Writer} {r : Result Unit Full} → Goes p q → Writes K q r s → (y : (K (inp_of p)).T) (lo : ℕ) → (K (inp_of p)).S y lo q.node → Wrote ((K (inp_of p)).P y) lo q r s
+does-at K {p} {q} {s} {r} g w = subst (λ (I : Inp). (y : (K I).T) (lo : ℕ) → (K I).S y lo q.node → Wrote ((K I).P y) lo q r s) (same-inp g) w.does
 
--- things of the kind do not end before they begin
-abbrev pub Low : Lang → Type 0
-Low K = (x : K.T) (lo hi : ℕ) → K.S x lo hi → lo ≤ hi
-
-module _ {L : Lang} where
+module _ {L : Kind} where
   -- at first the whole is left
-  pub opening : {text : List ℕ} {hi at : ℕ} → Part L L text hi at text hi at
-  opening =
+  pub opening : {p : Writer} → Part L (one L) p p
+  opening {p} =
       record {
-        kept = refl;
-        low = omega arith;
-        room = omega arith;
-        left = λ x lo s. record { tree = x; done = []; spans = s; split = sym (append-nil (L.P x)); placed = begin };
+        goes = still;
+        left = λ x lo s. record { tree = x; done = []; spans = s; split = sym (append-nil ((L (inp_of p)).P x)); placed = begin };
       }
 
-  -- what is left is known better, as after a test
-  pub narrowed : {M : Lang} (N : Lang) {text₀ text : List ℕ} {hi at h a : ℕ} (h' : ℕ) → Part L M text₀ hi at text h a → Narrow M N h h' → h' ≤ h → Part L N text₀ hi at text h' a
-  narrowed {M} N h' p f u =
+  -- what is left is known better, as after a test; the node may go down
+  pub narrowed : {M : Pieces} (N : Pieces) {p q : Writer} (h : ℕ) → Part L M p q → Narrow (made M (inp_of p)) (made N (inp_of p)) q.node h → h ≤ q.node → Part L N p (record q { node = h })
+  narrowed {M} N {p} {q} h t f u =
+      let g = t.goes in
       record {
-        kept = p.kept;
-        low = omega (arith, p.low);
-        room = p.room;
+        goes = record { tree = g.tree; buffer = g.buffer; long = g.long; node = omega (arith, g.node); at = g.at };
         left = λ x lo s.
-            let l = p.left x lo s in
+            let l = t.left x lo s in
             let n = f l.tree lo l.spans in
             record {
               tree = n.tree;
@@ -78,99 +66,75 @@ module _ {L : Lang} where
             };
       }
 
-  module _ {M : Lang} (N K : Lang) {text₀ text : List ℕ} {hi at h a : ℕ} (p : Part L M text₀ hi at text h a) (f : Cuts M N K h) where
+  module _ {p : Writer} (z : At L p) where
     -- what the next call, which writes a K, may assume
-    pub spot : SpotOf L text₀ hi at → SpotOf K text h a
-    spot z =
-        let l = p.left z.tree z.lo z.spans in
-        let c = f l.tree z.lo l.spans in
-        record { tree = c.last; lo = c.mid; spans = c.here; room = omega (arith, p.kept, p.room, z.room) }
+    pub spot : {N : Pieces} {K : Kind} {q : Writer} → Part L (seq N K) p q → At K q
+    spot {N} {K} {q} t =
+        let l = t.left z.tree z.lo z.spans in
+        subst (λ (I : Inp). SpotOf (K I) q.text.now q.node q.at) (sym (same-inp t.goes))
+        (record { tree = l.tree.1; lo = l.spans.mid; spans = l.spans.last; room = omega (arith, t.goes.long, t.goes.at, z.room) })
 
-    -- that call has no room
-    pub stop : {r : Put} {t : List ℕ} → WritesOf K text h a r t → r ≡ Full → WritesOf L text₀ hi at r t
-    stop q e =
-        record {
-          does = λ x lo s.
-              let l = p.left x lo s in
-              let c = f l.tree lo l.spans in
-              stops l.placed (N.P c.front) (q.does c.last c.mid c.here) e
-              (l.split ∙ ap (λ (y : List ℕ). y ++ l.done) c.text ∙ append_assoc (N.P c.front) (K.P c.last) l.done);
-        }
-
-    -- it goes no further than it may
-    pub stays : {r : Put} {t : List ℕ} {h₁ a₁ : ℕ} → SpotOf L text₀ hi at → Low K → WritesOf K text h a r t → r ≡ Done h₁ a₁ → h₁ ≤ h
-    stays z low q e =
-        let l = p.left z.tree z.lo z.spans in
-        let c = f l.tree z.lo l.spans in
-        omega (arith, (gone (q.does c.last c.mid c.here) e).node, low c.last c.mid h c.here)
+    -- its place is in its buffer
+    pub room : {M : Pieces} {q : Writer} → Part L M p q → q.at ≤ length q.text.now
+    room t = omega (arith, t.goes.long, t.goes.at, z.room)
 
     -- it is done, and an N is left
-    pub put : {r : Put} {t : List ℕ} {h₁ a₁ : ℕ} → SpotOf L text₀ hi at → Low K → WritesOf K text h a r t → length t ≡ length text → r ≡ Done h₁ a₁ → Part L N text₀ hi at t h₁ a₁
-    put {r} {t} {h₁} {a₁} z low q k e =
-        let l₀ = p.left z.tree z.lo z.spans in
-        let c₀ = f l₀.tree z.lo l₀.spans in
-        let g₀ = goes l₀.placed z.room (q.does c₀.last c₀.mid c₀.here) e in
+    pub put : {N : Pieces} {K : Kind} {q s : Writer} {r : Result Unit Full} → Part L (seq N K) p q → Writes K q r s → r ≡ Ok tt → Part L N p s
+    put {N} {K} {q} {s} {r} t w e =
         record {
-          kept = k ∙ p.kept;
-          low = omega (arith, g₀.node, low c₀.last c₀.mid h c₀.here, p.low);
-          room = less g₀;
-          left = λ x lo s.
-              let l = p.left x lo s in
-              let c = f l.tree lo l.spans in
-              let g = goes l.placed z.room (q.does c.last c.mid c.here) e in
+          goes = further t.goes w.goes;
+          left = λ x lo y.
+              let l = t.left x lo y in
+              let d = gone (does-at K t.goes w l.tree.1 l.spans.mid l.spans.last) e in
               record {
-                tree = c.front;
-                done = K.P c.last ++ l.done;
-                spans = subst (λ (y : ℕ). N.S c.front lo y) (sym g.node) c.before;
-                split = l.split ∙ ap (λ (y : List ℕ). y ++ l.done) c.text ∙ append_assoc (N.P c.front) (K.P c.last) l.done;
-                placed = renode g;
+                tree = l.tree.0;
+                done = (K (inp_of p)).P l.tree.1 ++ l.done;
+                spans = subst (λ (h : ℕ). (made N (inp_of p)).S l.tree.0 lo h) (sym d.node) l.spans.front;
+                split = l.split ∙ append_assoc ((made N (inp_of p)).P l.tree.0) ((K (inp_of p)).P l.tree.1) l.done;
+                placed = renode (both l.placed z.room d);
               };
         }
 
-  module _ {M : Lang} {text₀ text : List ℕ} {hi at h a : ℕ} (p : Part L M text₀ hi at text h a) where
     -- what a last call, which writes all that is left, may assume
-    pub here : SpotOf L text₀ hi at → SpotOf M text h a
-    here z = let l = p.left z.tree z.lo z.spans in record { tree = l.tree; lo = z.lo; spans = l.spans; room = omega (arith, p.kept, p.room, z.room) }
+    pub here : {M : Kind} {q : Writer} → Part L (one M) p q → At M q
+    here {M} {q} t =
+        let l = t.left z.tree z.lo z.spans in
+        subst (λ (I : Inp). SpotOf (M I) q.text.now q.node q.at) (sym (same-inp t.goes))
+        (record { tree = l.tree; lo = z.lo; spans = l.spans; room = room t })
 
     -- that call
-    pub end : {r : Put} {t : List ℕ} → at ≤ length text₀ → WritesOf M text h a r t → WritesOf L text₀ hi at r t
-    end room q = record { does = λ x lo s. let l = p.left x lo s in ends l.placed room (q.does l.tree lo l.spans) l.split }
-
-    -- nothing is left
-    pub empty : ((y : M.T) (lo : ℕ) → M.S y lo h → (lo ≡ h) × (M.P y ≡ [])) → WritesOf L text₀ hi at (Done h a) text
-    empty f =
+    pub end : {M : Kind} {q s : Writer} {r : Result Unit Full} → Part L (one M) p q → Writes M q r s → Writes L p r s
+    end {M} t w =
         record {
-          does = λ x lo s.
-              let l = p.left x lo s in
-              let n = f l.tree lo l.spans in
-              record {
-                by = subst (λ (y : List ℕ). Placed y text₀ lo at h a text) (sym (l.split ∙ ap (λ (y : List ℕ). y ++ l.done) n.1))
-                    (record { node = sym n.0; room = l.placed.room; same = l.placed.same });
-              };
+          goes = further t.goes w.goes;
+          does = λ x lo y. let l = t.left x lo y in ends l.placed z.room (does-at M t.goes w l.tree lo l.spans) l.split;
         }
 
--- ── kinds made of kinds ──
+  -- that call has no room
+  pub stop : {p q s : Writer} {N : Pieces} {K : Kind} {r : Result Unit Full} {f : Full} → Part L (seq N K) p q → Writes K q r s → r ≡ Err f → Writes L p (Err f) s
+  stop {p} {q} {s} {N} {K} {r} {f} t w e =
+      record {
+        goes = further t.goes w.goes;
+        does = λ x lo y.
+            let l = t.left x lo y in
+            stops l.placed ((made N (inp_of p)).P l.tree.0) (subst (λ (o : Result Unit Full). Wrote ((K (inp_of p)).P l.tree.1) l.spans.mid q o s) e (does-at K t.goes w l.tree.1 l.spans.mid l.spans.last))
+            (l.split ∙ append_assoc ((made N (inp_of p)).P l.tree.0) ((K (inp_of p)).P l.tree.1) l.done);
+      }
 
--- A thing and then another is cut between them.
-pub cut-seq : (M K : Lang) (h : ℕ) → Cuts (seq M K) M K h
-cut-seq M K h x lo s = record { front = x.0; last = x.1; mid = s.mid; before = s.front; here = s.last; text = refl }
-
--- Fixed bytes begin where they end.
-pub fixed-low : (b : List ℕ) → Low (fixed b)
-fixed-low b x lo hi s = omega (arith, s)
-
--- So does a node's token.
-pub token-low : (script offs words loads : List ℕ) (m : ℕ) → Low (token_l script offs words loads m)
-token-low script offs words loads m x lo hi s = omega (arith, s.0)
-
--- A node that is a token is one node.
-pub leaf-low : (script offs words loads : List ℕ) → Low (leaf_l script offs words loads)
-leaf-low script offs words loads x lo hi s = omega (arith, s.0)
-
--- A leaf is a node, and then its token alone.
-pub is-token : (script offs words loads : List ℕ) (hi : ℕ) → Narrow (leaf_l script offs words loads) (token_l script offs words loads hi) hi (hi - 1)
-is-token script offs words loads hi w lo s = record { tree = w; spans = s; text = refl }
+  -- nothing is left
+  pub empty : (M : Kind) {p q : Writer} → Part L (one M) p q → ((y : (M (inp_of p)).T) (lo : ℕ) → (M (inp_of p)).S y lo q.node → (lo ≡ q.node) × ((M (inp_of p)).P y ≡ [])) → Writes L p (Ok tt) q
+  empty M {p} {q} t f =
+      record {
+        goes = t.goes;
+        does = λ x lo y.
+            let l = t.left x lo y in
+            let n = f l.tree lo l.spans in
+            record {
+              by = subst (λ (b : List ℕ). Placed b p.text.now lo p.at q.node q.at q.text.now) (sym (l.split ∙ ap (λ (b : List ℕ). b ++ l.done) n.1))
+                  (record { node = sym n.0; room = l.placed.room; same = l.placed.same });
+            };
+      }
 
 -- Fixed bytes that are written are written as a thing.
-pub fixed-writes : {b text t : List ℕ} {h a : ℕ} {r : Put} → Wrote b text h a r t → WritesOf (fixed b) text h a r t
-fixed-writes {b} {text} {t} {h} {a} {r} q = record { does = λ x lo s. subst (λ (y : ℕ). Wrote b text y a r t) (sym s) q }
+pub fixed-writes : {b : List ℕ} {p q : Writer} {r : Result Unit Full} → Goes p q → Wrote b p.node p r q → Writes (fixed b) p r q
+fixed-writes {b} {p} {q} {r} g w = record { goes = g; does = λ x lo s. subst (λ (y : ℕ). Wrote b y p r q) (sym s) w }

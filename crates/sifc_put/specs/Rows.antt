@@ -1,11 +1,14 @@
 -- Rows of things, from the last to the first.
-use Rattle.std.specs.Prelude.{ℕ, ◌-◌, ◌≤◌, ◌≡◌, length}
+use Rattle.std.specs.Prelude.{ℕ, ◌-◌, ◌≡◌, length}
 use Rattle.std.proofs.Common.{arith, ◌∙◌, subst, length-append}
 use Rattle.std.proofs.Math.Path.{refl, sym, ap}
 use mathlib.Core.List.{List, [], ◌∷◌, ◌++◌, append_assoc, append-nil}
 use Rattle.sifc_put.specs.Place.{Along}
-use Rattle.sifc_put.specs.Post.{Lang, fixed, seq, comma, cat, commas, row_l, list_l}
-use Rattle.sifc_put.specs.Frame.{Cuts, Low}
+use Rattle.sifc_put.specs.Post.{Lang, Kind, inp_of, Writes, fixed, one, seq, made, comma, cat, commas, row_l, list_l}
+use Rattle.sifc_put.specs.Frame.{Narrow, Part, narrowed, empty}
+use Rattle.std.specs.Prelude.{Ok}
+use Rattle.sifc_put.specs.declared.write.Writer.{Writer}
+use Rattle.sifc_put.specs.Place.{Inp}
 
 -- a row as its front and its last thing
 pub record Last {A : Type 0} (S : A → ℕ → ℕ → Type 0) (xs : List A) (lo h : ℕ) : Type 0 where
@@ -50,18 +53,6 @@ module _ {A : Type 0} (P : A → List ℕ) where
       ∙ sym (append_assoc (P y ++ (44 ∷ 32 ∷ commas P (z ∷ zs))) (44 ∷ 32 ∷ []) (P x))
 
 module _ (K : Lang) where
-  -- A row of things does not end before it begins.
-  pub along-low : Low K → (xs : List K.T) (lo hi : ℕ) → Along K.S xs lo hi → lo ≤ hi
-  unfolding Along
-  along-low low [] lo hi s = omega (arith, s)
-  along-low low (x ∷ xs) lo hi s = omega (arith, low x lo s.mid s.front, along-low low xs s.mid hi s.last)
-
-  pub row_low : (n : ℕ) → Low K → Low (row_l K n)
-  row_low n low xs lo hi s = along-low low xs lo hi s.0
-
-  pub list-low : (n : ℕ) → Low K → Low (list_l K n)
-  list-low n low xs lo hi s = along-low low xs lo hi s.0
-
   -- the last of n things, by what it is made of
   last-many : (n : ℕ) (xs : List K.T) (lo h : ℕ) → (n ≡ 0 → ⊥) → Along K.S xs lo h → length xs ≡ n → Last K.S xs lo h
   last-many n [] lo h k s e = absurd (k (sym e))
@@ -71,40 +62,50 @@ module _ (K : Lang) where
   front-many : (n : ℕ) (xs front : List K.T) (x : K.T) → length xs ≡ n → xs ≡ front ++ (x ∷ []) → length front ≡ n - 1
   front-many n xs front x e f = let l = length-append front (x ∷ []) in let m = ap length f in omega arith
 
+module _ (K : Kind) where
   -- A row is cut before its last thing.
-  pub cut-row : (n h : ℕ) → (n ≡ 0 → ⊥) → Cuts (row_l K n) (row_l K (n - 1)) K h
-  cut-row n h k xs lo s =
-      let r = last-many n xs lo h k s.0 s.1 in
+  cut-row : (n h : ℕ) (I : Inp) → (n ≡ 0 → ⊥) → Narrow (row_l K n I) (made (seq (one (row_l K (n - 1))) K) I) h h
+  cut-row n h I k xs lo s =
+      let r = last-many (K I) n xs lo h k s.0 s.1 in
       record {
-        front = r.front;
-        last = r.last;
-        mid = r.mid;
-        before = (r.before, front-many n xs r.front r.last s.1 r.is);
-        here = r.here;
-        text = ap (cat K.P) r.is ∙ cat-last K.P r.front r.last;
+        tree = (r.front, r.last);
+        spans = record { mid = r.mid; front = (r.before, front-many (K I) n xs r.front r.last s.1 r.is); last = r.here };
+        text = ap (cat (K I).P) r.is ∙ cat-last (K I).P r.front r.last;
       }
 
   -- A list is cut before its last thing; what is left ends in a comma, if there is any.
-  pub cut_list : (n h : ℕ) → (n ≡ 0 → ⊥) → Cuts (list_l K n) (seq (list_l K (n - 1)) (fixed (comma (n - 1)))) K h
-  cut_list n h k xs lo s =
-      let r = last-many n xs lo h k s.0 s.1 in
-      let m = front-many n xs r.front r.last s.1 r.is in
+  cut_list : (n h : ℕ) (I : Inp) → (n ≡ 0 → ⊥) → Narrow (list_l K n I) (made (seq (seq (one (list_l K (n - 1))) (fixed (comma (n - 1)))) K) I) h h
+  cut_list n h I k xs lo s =
+      let r = last-many (K I) n xs lo h k s.0 s.1 in
+      let m = front-many (K I) n xs r.front r.last s.1 r.is in
       record {
-        front = (r.front, tt);
-        last = r.last;
-        mid = r.mid;
-        before = record { mid = r.mid; front = (r.before, m); last = refl };
-        here = r.here;
-        text = ap (commas K.P) r.is ∙ commas-last K.P r.front r.last ∙ ap (λ (i : ℕ). (commas K.P r.front ++ comma i) ++ K.P r.last) m;
+        tree = ((r.front, tt), r.last);
+        spans = record { mid = r.mid; front = record { mid = r.mid; front = (r.before, m); last = refl }; last = r.here };
+        text = ap (commas (K I).P) r.is ∙ commas-last (K I).P r.front r.last ∙ ap (λ (i : ℕ). (commas (K I).P r.front ++ comma i) ++ (K I).P r.last) m;
       }
 
-  -- No things are left.
-  pub no_row : (n h : ℕ) → n ≡ 0 → (xs : List K.T) (lo : ℕ) → Along K.S xs lo h × (length xs ≡ n) → (lo ≡ h) × (cat K.P xs ≡ [])
-  unfolding Along cat
-  no_row n h k [] lo s = (s.0, refl)
-  no_row n h k (x ∷ xs) lo s = absurd (omega (arith, s.1, k))
+  module _ {L : Kind} {p q : Writer} where
+    -- the last of a row is written next
+    pub next-row : (n : ℕ) → (n ≡ 0 → ⊥) → Part L (one (row_l K n)) p q → Part L (seq (one (row_l K (n - 1))) K) p q
+    next-row n k t = narrowed (seq (one (row_l K (n - 1))) K) q.node t (cut-row n q.node (inp_of p) k) (omega arith)
 
-  pub no-list : (n h : ℕ) → n ≡ 0 → (xs : List K.T) (lo : ℕ) → Along K.S xs lo h × (length xs ≡ n) → (lo ≡ h) × (commas K.P xs ≡ [])
-  unfolding Along commas
-  no-list n h k [] lo s = (s.0, refl)
-  no-list n h k (x ∷ xs) lo s = absurd (omega (arith, s.1, k))
+    -- the last of a list
+    pub next-list : (n : ℕ) → (n ≡ 0 → ⊥) → Part L (one (list_l K n)) p q → Part L (seq (seq (one (list_l K (n - 1))) (fixed (comma (n - 1)))) K) p q
+    next-list n k t = narrowed (seq (seq (one (list_l K (n - 1))) (fixed (comma (n - 1)))) K) q.node t (cut_list n q.node (inp_of p) k) (omega arith)
+
+    -- No things are left.
+    pub no_row : (n : ℕ) → n ≡ 0 → Part L (one (row_l K n)) p q → Writes L p (Ok tt) q
+    unfolding Along cat
+    no_row n e t = empty (row_l K n) t go
+      where
+        go : (xs : List (K (inp_of p)).T) (lo : ℕ) → Along (K (inp_of p)).S xs lo q.node × (length xs ≡ n) → (lo ≡ q.node) × (cat (K (inp_of p)).P xs ≡ [])
+        go [] lo s = (s.0, refl)
+        go (x ∷ xs) lo s = absurd (omega (arith, s.1, e))
+
+    pub no-list : (n : ℕ) → n ≡ 0 → Part L (one (list_l K n)) p q → Writes L p (Ok tt) q
+    unfolding Along commas
+    no-list n e t = empty (list_l K n) t go
+      where
+        go : (xs : List (K (inp_of p)).T) (lo : ℕ) → Along (K (inp_of p)).S xs lo q.node × (length xs ≡ n) → (lo ≡ q.node) × (commas (K (inp_of p)).P xs ≡ [])
+        go [] lo s = (s.0, refl)
+        go (x ∷ xs) lo s = absurd (omega (arith, s.1, e))
