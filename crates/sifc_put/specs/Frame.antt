@@ -1,6 +1,7 @@
 -- A thing that is written from its last piece to its first: what is left of it, and what each call adds. The proofs of the writer go on by these steps alone.
-use Rattle.std.specs.Prelude.{ℕ, ◌≤◌, ◌≡◌, refl, List, [], ◌++◌, length, Result, Ok, Err}
+use Rattle.std.specs.Prelude.{ℕ, ◌-◌, ◌≤◌, ◌≡◌, refl, List, [], ◌++◌, length, Result, Ok, Err, IsErr}
 use Rattle.std.proofs.Common.{arith, sym, ap, ◌∙◌, subst, append_assoc, append-nil}
+use borrow.Author.Tests.{clash}
 use Rattle.sifc_put.specs.declared.write.Full.{Full}
 use Rattle.sifc_put.specs.declared.write.Tree.{Tree}
 use Rattle.sifc_put.specs.declared.write.Writer.{Writer}
@@ -17,7 +18,7 @@ pub record Rest (M : Lang) (w : List ℕ) (lo : ℕ) (p q : Writer) : Type 0 whe
   pub placed : Placed done p.text.now q.node p.at q.node q.at q.text.now
 
 -- Of any thing of kind L before p's node, the pieces M are left.
-pub record Part (L : Kind) (M : Pieces) (p q : Writer) : Type 1 where
+pub record Part (L : Kind) (M : Pieces) (p q : Writer) : Type 0 where
   pub goes : Goes p q
   pub left : (x : (L (inp_of p)).T) (lo : ℕ) → (L (inp_of p)).S x lo p.node → Rest (made M (inp_of p)) ((L (inp_of p)).P x) lo p q
 
@@ -49,14 +50,14 @@ module _ {L : Kind} where
       }
 
   -- what is left is known better, as after a test; the node may go down
-  pub narrowed : {M : Pieces} (N : Pieces) {p q : Writer} (h : ℕ) → Part L M p q → Narrow (made M (inp_of p)) (made N (inp_of p)) q.node h → h ≤ q.node → Part L N p (record q { node = h })
+  pub narrowed : {M : Pieces} (N : Pieces) {p q : Writer} (h : ℕ) → Part L M p q → Narrow (made M (inp_of q)) (made N (inp_of q)) q.node h → h ≤ q.node → Part L N p (record q { node = h })
   narrowed {M} N {p} {q} h t f u =
       let g = t.goes in
       record {
         goes = record { tree = g.tree; buffer = g.buffer; long = g.long; node = omega (arith, g.node); at = g.at };
         left = λ x lo s.
             let l = t.left x lo s in
-            let n = f l.tree lo l.spans in
+            let n = subst (λ (I : Inp). Narrow (made M I) (made N I) q.node h) (same-inp g) f l.tree lo l.spans in
             record {
               tree = n.tree;
               done = l.done;
@@ -79,13 +80,13 @@ module _ {L : Kind} where
     room t = omega (arith, t.goes.long, t.goes.at, z.room)
 
     -- it is done, and an N is left
-    pub put : {N : Pieces} {K : Kind} {q s : Writer} {r : Result Unit Full} → Part L (seq N K) p q → Writes K q r s → r ≡ Ok tt → Part L N p s
-    put {N} {K} {q} {s} {r} t w e =
+    pub put : {N : Pieces} {K : Kind} {q s : Writer} {u : Unit} → Part L (seq N K) p q → Writes K q (Ok u) s → Part L N p s
+    put {N} {K} {q} {s} t w =
         record {
           goes = further t.goes w.goes;
           left = λ x lo y.
               let l = t.left x lo y in
-              let d = gone (does-at K t.goes w l.tree.1 l.spans.mid l.spans.last) e in
+              let d = (does-at K t.goes w l.tree.1 l.spans.mid l.spans.last).by in
               record {
                 tree = l.tree.0;
                 done = (K (inp_of p)).P l.tree.1 ++ l.done;
@@ -110,14 +111,15 @@ module _ {L : Kind} where
           does = λ x lo y. let l = t.left x lo y in ends l.placed z.room (does-at M t.goes w l.tree lo l.spans) l.split;
         }
 
-  -- that call has no room
-  pub stop : {p q s : Writer} {N : Pieces} {K : Kind} {r : Result Unit Full} {f : Full} → Part L (seq N K) p q → Writes K q r s → r ≡ Err f → Writes L p (Err f) s
-  stop {p} {q} {s} {N} {K} {r} {f} t w e =
+  -- that call has no room, and this is passed on
+  pub stop : {p q s : Writer} {N : Pieces} {K : Kind} {f : Full} {r : Result Unit Full} → Part L (seq N K) p q → Writes K q (Err f) s → IsErr r → Writes L p r s
+  stop {r = Ok u} t w e = absurd (clash e)
+  stop {p} {q} {s} {N} {K} {f} {r = Err g} t w e =
       record {
         goes = further t.goes w.goes;
         does = λ x lo y.
             let l = t.left x lo y in
-            stops l.placed ((made N (inp_of p)).P l.tree.0) (subst (λ (o : Result Unit Full). Wrote ((K (inp_of p)).P l.tree.1) l.spans.mid q o s) e (does-at K t.goes w l.tree.1 l.spans.mid l.spans.last))
+            stops l.placed ((made N (inp_of p)).P l.tree.0) (does-at K t.goes w l.tree.1 l.spans.mid l.spans.last)
             (l.split ∙ append_assoc ((made N (inp_of p)).P l.tree.0) ((K (inp_of p)).P l.tree.1) l.done);
       }
 
@@ -134,6 +136,14 @@ module _ {L : Kind} where
                   (record { node = sym n.0; room = l.placed.room; same = l.placed.same });
             };
       }
+
+-- at first the whole is left, and known better
+pub opened : (L : Kind) (N : Pieces) (p : Writer) → Narrow (L (inp_of p)) (made N (inp_of p)) p.node p.node → Part L N p p
+opened L N p f = narrowed N p.node opening f (omega arith)
+
+-- the same, of what stands below its node
+pub entered : (L : Kind) (N : Pieces) (p : Writer) → Narrow (L (inp_of p)) (made N (inp_of p)) p.node (p.node - 1) → Part L N p (record p { node = p.node - 1 })
+entered L N p f = narrowed N (p.node - 1) opening f (omega arith)
 
 -- Fixed bytes that are written are written as a thing.
 pub fixed-writes : {b : List ℕ} {p q : Writer} {r : Result Unit Full} → Goes p q → Wrote b p.node p r q → Writes (fixed b) p r q

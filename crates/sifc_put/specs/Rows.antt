@@ -87,11 +87,11 @@ module _ (K : Kind) where
   module _ {L : Kind} {p q : Writer} where
     -- the last of a row is written next
     pub next-row : (n : ℕ) → (n ≡ 0 → ⊥) → Part L (one (row_l K n)) p q → Part L (seq (one (row_l K (n - 1))) K) p q
-    next-row n k t = narrowed (seq (one (row_l K (n - 1))) K) q.node t (cut-row n q.node (inp_of p) k) (omega arith)
+    next-row n k t = narrowed (seq (one (row_l K (n - 1))) K) q.node t (cut-row n q.node (inp_of q) k) (omega arith)
 
     -- the last of a list
     pub next-list : (n : ℕ) → (n ≡ 0 → ⊥) → Part L (one (list_l K n)) p q → Part L (seq (seq (one (list_l K (n - 1))) (fixed (comma (n - 1)))) K) p q
-    next-list n k t = narrowed (seq (seq (one (list_l K (n - 1))) (fixed (comma (n - 1)))) K) q.node t (cut_list n q.node (inp_of p) k) (omega arith)
+    next-list n k t = narrowed (seq (seq (one (list_l K (n - 1))) (fixed (comma (n - 1)))) K) q.node t (cut_list n q.node (inp_of q) k) (omega arith)
 
     -- No things are left.
     pub no_row : (n : ℕ) → n ≡ 0 → Part L (one (row_l K n)) p q → Writes L p (Ok tt) q

@@ -42,7 +42,7 @@ both {w} {text} {t₁} {v} {t} {mid} {at} {n} {a} {lo} {m} {b} p h q =
 
 module _ {w : List ℕ} {mid : ℕ} {p q : Writer} (l : Placed w p.text.now mid p.at q.node q.at q.text.now) where
   -- a call that is not done: the whole has no room
-  pub stops : {v total : List ℕ} {lo lo' : ℕ} {s : Writer} {f : Full} (u : List ℕ) → Wrote v lo' q (Err f) s → total ≡ u ++ (v ++ w) → Wrote total lo p (Err f) s
+  pub stops : {v total : List ℕ} {lo lo' : ℕ} {s : Writer} {f : Full} {g : Full} (u : List ℕ) → Wrote v lo' q (Err f) s → total ≡ u ++ (v ++ w) → Wrote total lo p (Err g) s
   stops {v} {total} u d e =
       record {
         by = subst (λ (x : List ℕ). p.at < length x) (sym e)
