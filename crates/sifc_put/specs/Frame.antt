@@ -49,15 +49,15 @@ module _ {L : Kind} where
         left = λ x lo s. record { tree = x; done = []; spans = s; split = sym (append-nil ((L (inp_of p)).P x)); placed = begin };
       }
 
-  -- what is left is known better, as after a test; the node may go down
-  pub narrowed : {M : Pieces} (N : Pieces) {p q : Writer} (h : ℕ) → Part L M p q → Narrow (made M (inp_of q)) (made N (inp_of q)) q.node h → h ≤ q.node → Part L N p (record q { node = h })
+  -- what is left is known better; the node may go down
+  pub narrowed : {M : Pieces} (N : Pieces) {p q : Writer} (h : ℕ) → Part L M p q → Narrow (made M (inp_of p)) (made N (inp_of p)) q.node h → h ≤ q.node → Part L N p (record q { node = h })
   narrowed {M} N {p} {q} h t f u =
       let g = t.goes in
       record {
         goes = record { tree = g.tree; buffer = g.buffer; long = g.long; node = omega (arith, g.node); at = g.at };
         left = λ x lo s.
             let l = t.left x lo s in
-            let n = subst (λ (I : Inp). Narrow (made M I) (made N I) q.node h) (same-inp g) f l.tree lo l.spans in
+            let n = f l.tree lo l.spans in
             record {
               tree = n.tree;
               done = l.done;
@@ -66,6 +66,10 @@ module _ {L : Kind} where
               placed = record { node = refl; room = l.placed.room; same = l.placed.same };
             };
       }
+
+  -- the same, by what a test of q tells
+  pub tested : {M : Pieces} (N : Pieces) {p q : Writer} (h : ℕ) → Part L M p q → Narrow (made M (inp_of q)) (made N (inp_of q)) q.node h → h ≤ q.node → Part L N p (record q { node = h })
+  tested {M} N {p} {q} h t f u = narrowed N h t (subst (λ (I : Inp). Narrow (made M I) (made N I) q.node h) (same-inp t.goes) f) u
 
   module _ {p : Writer} (z : At L p) where
     -- what the next call, which writes a K, may assume

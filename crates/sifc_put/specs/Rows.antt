@@ -5,7 +5,7 @@ use Rattle.std.proofs.Math.Path.{refl, sym, ap}
 use mathlib.Core.List.{List, [], ◌∷◌, ◌++◌, append_assoc, append-nil}
 use Rattle.sifc_put.specs.Place.{Along}
 use Rattle.sifc_put.specs.Post.{Lang, Kind, inp_of, Writes, fixed, one, seq, made, comma, cat, commas, row_l, list_l}
-use Rattle.sifc_put.specs.Frame.{Narrow, Part, narrowed, empty}
+use Rattle.sifc_put.specs.Frame.{Narrow, Part, tested, empty}
 use Rattle.std.specs.Prelude.{Ok}
 use Rattle.sifc_put.specs.declared.write.Writer.{Writer}
 use Rattle.sifc_put.specs.Place.{Inp}
@@ -87,11 +87,11 @@ module _ (K : Kind) where
   module _ {L : Kind} {p q : Writer} where
     -- the last of a row is written next
     pub next-row : (n : ℕ) → (n ≡ 0 → ⊥) → Part L (one (row_l K n)) p q → Part L (seq (one (row_l K (n - 1))) K) p q
-    next-row n k t = narrowed (seq (one (row_l K (n - 1))) K) q.node t (cut-row n q.node (inp_of q) k) (omega arith)
+    next-row n k t = tested (seq (one (row_l K (n - 1))) K) q.node t (cut-row n q.node (inp_of q) k) (omega arith)
 
     -- the last of a list
     pub next-list : (n : ℕ) → (n ≡ 0 → ⊥) → Part L (one (list_l K n)) p q → Part L (seq (seq (one (list_l K (n - 1))) (fixed (comma (n - 1)))) K) p q
-    next-list n k t = narrowed (seq (seq (one (list_l K (n - 1))) (fixed (comma (n - 1)))) K) q.node t (cut_list n q.node (inp_of q) k) (omega arith)
+    next-list n k t = tested (seq (seq (one (list_l K (n - 1))) (fixed (comma (n - 1)))) K) q.node t (cut_list n q.node (inp_of q) k) (omega arith)
 
     -- No things are left.
     pub no_row : (n : ℕ) → n ≡ 0 → Part L (one (row_l K n)) p q → Writes L p (Ok tt) q
