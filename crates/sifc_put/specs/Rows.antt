@@ -1,5 +1,5 @@
 -- Rows of things, from the last to the first.
-use Rattle.std.specs.Prelude.{ℕ, ◌-◌, ◌≡◌, length}
+use Rattle.std.specs.Prelude.{ℕ, ◌+◌, ◌-◌, ◌≡◌, length}
 use Rattle.std.proofs.Common.{arith, ◌∙◌, subst, length-append}
 use Rattle.std.proofs.Math.Path.{refl, sym, ap}
 use mathlib.Core.List.{List, [], ◌∷◌, ◌++◌, append_assoc, append-nil}
@@ -85,9 +85,15 @@ module _ (K : Kind) where
       }
 
   module _ {L : Kind} {p q : Writer} where
-    -- the last of a row is written next
-    pub next-row : (n : ℕ) → (n ≡ 0 → ⊥) → Part L (one (row_l K n)) p q → Part L (seq (one (row_l K (n - 1))) K) p q
-    next-row n k t = tested (seq (one (row_l K (n - 1))) K) q.node t (cut-row n q.node (inp_of q) k) (omega arith)
+    -- A row of n things is one of m.
+    pub recounted : {n : ℕ} (m : ℕ) → m ≡ n → Part L (one (row_l K n)) p q → Part L (one (row_l K m)) p q
+    recounted {n} m e t = subst (λ (i : ℕ). Part L (one (row_l K i)) p q) (sym e) t
+
+    -- the last of a row is written next, and m are left
+    pub next-row : (n m : ℕ) → n ≡ m + 1 → Part L (one (row_l K n)) p q → Part L (seq (one (row_l K m)) K) p q
+    next-row n m e t =
+        subst (λ (i : ℕ). Part L (seq (one (row_l K i)) K) p q) (let i : n - 1 ≡ m = omega arith in i)
+        (tested (seq (one (row_l K (n - 1))) K) q.node t (cut-row n q.node (inp_of q) (λ z. omega (arith, z, e))) (omega arith))
 
     -- the last of a list
     pub next-list : (n : ℕ) → (n ≡ 0 → ⊥) → Part L (one (list_l K n)) p q → Part L (seq (seq (one (list_l K (n - 1))) (fixed (comma (n - 1)))) K) p q
