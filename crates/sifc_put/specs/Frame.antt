@@ -3,10 +3,9 @@ use Rattle.std.specs.Prelude.{ℕ, ◌-◌, ◌≤◌, ◌≡◌, refl, List, []
 use Rattle.std.proofs.Common.{arith, sym, ap, ◌∙◌, subst, append_assoc, append-nil}
 use borrow.Author.Tests.{clash}
 use Rattle.sifc_put.specs.declared.write.Full.{Full}
-use Rattle.sifc_put.specs.declared.write.Tree.{Tree}
 use Rattle.sifc_put.specs.declared.write.Writer.{Writer}
-use Rattle.sifc_put.specs.Place.{Inp, inp}
-use Rattle.sifc_put.specs.Post.{Placed, Wrote, Lang, Kind, inp_of, SpotOf, At, Goes, Writes, fixed, Pieces, one, seq, made}
+use Rattle.sifc_put.specs.Place.{Inp}
+use Rattle.sifc_put.specs.Post.{Placed, Wrote, Lang, Kind, inp_in, inp_of, SpotOf, At, Goes, Writes, fixed, Pieces, one, seq, made}
 use Rattle.sifc_put.specs.Steps.{begin, gone, both, stops, ends, renode, still, further}
 
 -- What is left: a thing of kind M before q's node; its bytes and what is done make up w.
@@ -34,7 +33,7 @@ Narrow M N h h' = (y : M.T) (lo : ℕ) → M.S y lo h → Same M N y lo h'
 
 -- A kind is told by what is read.
 same-inp : {p q : Writer} → Goes p q → inp_of q ≡ inp_of p
-same-inp {p} {q} g = ap (λ (t : Tree). inp t.script.now t.offs.now t.words.now t.heads.now t.loads.now) g.tree
+same-inp g = ap inp_in g.tree
 
 -- What a call does, told by what was read at first.
 does-at : (K : Kind) {p q s : Writer} {r : Result Unit Full} → Goes p q → Writes K q r s → (y : (K (inp_of p)).T) (lo : ℕ) → (K (inp_of p)).S y lo q.node → Wrote ((K (inp_of p)).P y) lo q r s

@@ -6,6 +6,7 @@ use Rattle.sifc_def.specs.Ast.{TableAccess, ArrayMutExpr, VarAssignExpr, BinaryE
 use Rattle.sifc_def.specs.Expr.{looseness}
 use Rattle.sifc_def.specs.State.{W}
 use Rattle.sifc_put.specs.declared.write.Full.{Full}
+use Rattle.sifc_put.specs.declared.write.Tree.{Tree}
 use Rattle.sifc_put.specs.declared.write.Writer.{Writer}
 use Rattle.sifc_put.specs.Place.{Inp, inp, Carries, Then, Along, token_of}
 use Rattle.sifc_put.specs.Bytes.{worded}
@@ -22,9 +23,12 @@ pub record Lang : Type 1 where
 abbrev pub Kind : Type 1
 Kind = Inp → Lang
 
--- what a writer reads
+-- what a tree lends, and what a writer reads
+abbrev pub inp_in : Tree → Inp
+inp_in t = inp t.script.now t.offs.now t.words.now t.heads.now t.loads.now
+
 abbrev pub inp_of : Writer → Inp
-inp_of w = inp w.tree.script.now w.tree.offs.now w.tree.words.now w.tree.heads.now w.tree.loads.now
+inp_of p = inp_in p.tree
 
 -- some thing of the kind ends before hi, and at is in the buffer
 pub record SpotOf (L : Lang) (text : List ℕ) (hi at : ℕ) : Type 0 where
