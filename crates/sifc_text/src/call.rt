@@ -8,6 +8,7 @@ ghost use Rattle.sifc_text.specs.Post.{Left, Texts};
 use sifc_def::{Reading, Summary, Texting};
 use sifc_err::Refusal;
 use sifc_lent::{clear_used, entry_tests};
+use sifc_put::Tree;
 use sifc_read::after_entry;
 use sifc_tokens::Checked;
 use sifc_write::{clear_from, write_tree};
@@ -39,12 +40,14 @@ fn write_found(
         clear_from(text, 0);
         return Texting::Refused(Refusal::Flagged);
     }
-    let os = &offs[..tokens];
-    let ws = &words[..tokens];
-    let hs = &heads[..nodes];
-    let ls = &loads[..nodes];
-    let put = write_tree(script, os, ws, hs, ls, text);
-    match put {
+    let tree = Tree {
+        script,
+        offs: &offs[..tokens],
+        words: &words[..tokens],
+        heads: &heads[..nodes],
+        loads: &loads[..nodes],
+    };
+    match write_tree(tree, text) {
         Texting::Wrote(n) => Texting::Wrote(n),
         Texting::Refused(refusal) => {
             clear_used(
