@@ -144,8 +144,12 @@ module _ {L : Kind} where
 pub opened : (L : Kind) (N : Pieces) (p : Writer) → Narrow (L (inp_of p)) (made N (inp_of p)) p.node p.node → Part L N p p
 opened L N p f = narrowed N p.node opening f (omega arith)
 
+-- p, below its node
+abbrev pub down : Writer → Writer
+down p = record p { node = p.node - 1 }
+
 -- the same, of what stands below its node
-pub entered : (L : Kind) (N : Pieces) (p : Writer) → Narrow (L (inp_of p)) (made N (inp_of p)) p.node (p.node - 1) → Part L N p (record p { node = p.node - 1 })
+pub entered : (L : Kind) (N : Pieces) (p : Writer) → Narrow (L (inp_of p)) (made N (inp_of p)) p.node (p.node - 1) → Part L N p (down p)
 entered L N p f = narrowed N (p.node - 1) opening f (omega arith)
 
 -- Fixed bytes that are written are written as a thing.

@@ -10,10 +10,11 @@ use Rattle.sifc_word.specs.Base.{if◌then◌otherwise◌, member}
 use Rattle.sifc_def.specs.Expr.{looseness}
 use Rattle.sifc_def.specs.Typed.{Expr, prim, un, bin, call, dot, idx, set, mut, Exprs, nil, more, many, rp, rb, eq, comma, height, wrap, between, pr, prs}
 use Rattle.sifc_put.specs.Place.{Inp, Along}
-use Rattle.sifc_put.specs.Post.{Kind, Pieces, one, seq, made, fixed, token_l, leaf_l, commas, height_at}
+use Rattle.sifc_put.specs.declared.write.Writer.{Writer}
+use Rattle.sifc_put.specs.Post.{Kind, inp_of, kind_of, children_of, height_of, Pieces, one, seq, made, fixed, token_l, leaf_l, commas, height_at}
 use Rattle.sifc_put.specs.Bytes.{worded, spaced, bytes_of, puts-wrap, puts-E, puts-Es, spaced-puts}
 use Rattle.sifc_put.specs.Spans.{Spans, SpansAll}
-use Rattle.sifc_put.specs.Frame.{Narrow}
+use Rattle.sifc_put.specs.Frame.{Narrow, Part, down, opened, entered, tested}
 use Rattle.sifc_text_expr.specs.Kinds.{expr_l, operand_l, exprs_l, subscript_l, linked_l}
 use Rattle.sifc_text_expr.proofs.Roots.{below_next, tight, loose, high}
 
@@ -87,12 +88,12 @@ module _ (I : Inp) where
   -- ── operands ──
 
   -- an operand that binds tighter stands bare
-  pub is-bare : (below hi k : ℕ) → k ≡ height_at I.words I.heads I.loads hi → k < below → Narrow (operand_l below I) (expr_l I) hi hi
+  is-bare : (below hi k : ℕ) → k ≡ height_at I.words I.heads I.loads hi → k < below → Narrow (operand_l below I) (expr_l I) hi hi
   unfolding wrap
   is-bare below hi k f u x lo s = record { tree = x; spans = s; text = ap (λ (b : Bool). bytes_of (wrap b (pr x))) (tight I below hi k f u x lo s) }
 
   -- one that does not stands in parentheses
-  pub is-closed : (below hi k : ℕ) → k ≡ height_at I.words I.heads I.loads hi → below ≤ k → Narrow (operand_l below I) (made closed_l I) hi hi
+  is-closed : (below hi k : ℕ) → k ≡ height_at I.words I.heads I.loads hi → below ≤ k → Narrow (operand_l below I) (made closed_l I) hi hi
   unfolding wrap spaced
   is-closed below hi k f u x lo s =
       record {
@@ -106,7 +107,7 @@ module _ (I : Inp) where
   -- ── operators ──
 
   -- two operands
-  pub is-two : (hi n : ℕ) → kind hi ≡ 22 → n ≡ height_at I.words I.heads I.loads hi → Narrow (expr_l I) (made (two_l hi n) I) hi (hi - 1)
+  is-two : (hi n : ℕ) → kind hi ≡ 22 → n ≡ height_at I.words I.heads I.loads hi → Narrow (expr_l I) (made (two_l hi n) I) hi (hi - 1)
   unfolding Spans pr spaced height
   is-two hi n k en (prim x) lo z = absurd (omega (arith, z.top.kinded, k))
   is-two hi n k en (un o e) lo z = absurd (omega (arith, z.top.kinded, k))
@@ -128,7 +129,7 @@ module _ (I : Inp) where
   is-two hi n k en (mut x i e) lo z = absurd (omega (arith, z.top.kinded, k))
 
   -- one operand
-  pub is_one : (hi : ℕ) → kind hi ≡ 23 → Narrow (expr_l I) (made (one_l hi (operand_l 1)) I) hi (hi - 1)
+  is_one : (hi : ℕ) → kind hi ≡ 23 → Narrow (expr_l I) (made (one_l hi (operand_l 1)) I) hi (hi - 1)
   unfolding Spans pr spaced
   is_one hi k (prim x) lo z = absurd (omega (arith, z.top.kinded, k))
   is_one hi k (un o e) lo z =
@@ -150,7 +151,7 @@ module _ (I : Inp) where
   one-height hi k = rw k refl
 
   -- an operand that is again one of `!` or `-`: it stands bare
-  pub is-chain : (hi : ℕ) → kind (hi - 1) ≡ 23 → Narrow (made (one_l hi (operand_l 1)) I) (made (one_l hi expr_l) I) (hi - 1) (hi - 1)
+  is-chain : (hi : ℕ) → kind (hi - 1) ≡ 23 → Narrow (made (one_l hi (operand_l 1)) I) (made (one_l hi expr_l) I) (hi - 1) (hi - 1)
   unfolding wrap
   is-chain hi k x lo z =
       let b = tight I 1 (hi - 1) 0 (one-height (hi - 1) k) (omega arith) x.1 z.mid z.last in
@@ -159,7 +160,7 @@ module _ (I : Inp) where
   -- ── the rest ──
 
   -- a single token
-  pub is-prim : (hi : ℕ) → kind hi ≡ 24 → Narrow (expr_l I) (leaf_l I) hi hi
+  is-prim : (hi : ℕ) → kind hi ≡ 24 → Narrow (expr_l I) (leaf_l I) hi hi
   unfolding Spans pr spaced
   is-prim hi k (prim x) lo z = record { tree = x; spans = (z.below, z.token); text = append-nil (worded x) }
   is-prim hi k (un o e) lo z = absurd (omega (arith, z.top.kinded, k))
@@ -171,7 +172,7 @@ module _ (I : Inp) where
   is-prim hi k (mut x i e) lo z = absurd (omega (arith, z.top.kinded, k))
 
   -- a call
-  pub is_call : (hi n : ℕ) → kind hi ≡ 20 → n ≡ get_or I.heads (hi - 1) 0 / 64 → Narrow (expr_l I) (made (call_l (n - 1)) I) hi (hi - 1)
+  is_call : (hi n : ℕ) → kind hi ≡ 20 → n ≡ get_or I.heads (hi - 1) 0 / 64 → Narrow (expr_l I) (made (call_l (n - 1)) I) hi (hi - 1)
   unfolding Spans pr spaced
   is_call hi n k en (prim x) lo z = absurd (omega (arith, z.top.kinded, k))
   is_call hi n k en (un o e) lo z = absurd (omega (arith, z.top.kinded, k))
@@ -214,7 +215,7 @@ module _ (I : Inp) where
   counts_target hi k (mut x i e) lo z = absurd (omega (arith, z.top.kinded, k))
 
   -- an element of an array
-  pub is-subscript : (hi : ℕ) → kind hi ≡ 18 → Narrow (expr_l I) (subscript_l I) hi (hi - 1)
+  is-subscript : (hi : ℕ) → kind hi ≡ 18 → Narrow (expr_l I) (subscript_l I) hi (hi - 1)
   unfolding Spans pr spaced
   is-subscript hi k (prim x) lo z = absurd (omega (arith, z.top.kinded, k))
   is-subscript hi k (un o e) lo z = absurd (omega (arith, z.top.kinded, k))
@@ -226,7 +227,7 @@ module _ (I : Inp) where
   is-subscript hi k (mut x i e) lo z = absurd (omega (arith, z.top.kinded, k))
 
   -- its pieces
-  pub is-index : (hi : ℕ) → Narrow (subscript_l I) (made index_l I) hi hi
+  is-index : (hi : ℕ) → Narrow (subscript_l I) (made index_l I) hi hi
   is-index hi x lo z =
       let s = z.front in
       record {
@@ -241,7 +242,7 @@ module _ (I : Inp) where
       }
 
   -- an assignment to an element
-  pub is-element : (hi : ℕ) → kind hi ≡ 19 → Narrow (expr_l I) (made element_l I) hi (hi - 1)
+  is-element : (hi : ℕ) → kind hi ≡ 19 → Narrow (expr_l I) (made element_l I) hi (hi - 1)
   unfolding Spans pr spaced
   is-element hi k (prim x) lo z = absurd (omega (arith, z.top.kinded, k))
   is-element hi k (un o e) lo z = absurd (omega (arith, z.top.kinded, k))
@@ -258,7 +259,7 @@ module _ (I : Inp) where
       }
 
   -- a table access
-  pub is-dot : (hi : ℕ) → kind hi ≡ 15 → Narrow (expr_l I) (linked_l 46 I) hi (hi - 1)
+  is-dot : (hi : ℕ) → kind hi ≡ 15 → Narrow (expr_l I) (linked_l 46 I) hi (hi - 1)
   unfolding Spans pr spaced
   is-dot hi k (prim x) lo z = absurd (omega (arith, z.top.kinded, k))
   is-dot hi k (un o e) lo z = absurd (omega (arith, z.top.kinded, k))
@@ -270,7 +271,7 @@ module _ (I : Inp) where
   is-dot hi k (mut x i e) lo z = absurd (omega (arith, z.top.kinded, k))
 
   -- what is none of the others is an assignment to a variable
-  pub is-set : (hi k : ℕ) → k ≡ kind hi → (k ≡ 22 → ⊥) → (k ≡ 24 → ⊥) → (k ≡ 23 → ⊥) → (k ≡ 20 → ⊥) → (k ≡ 18 → ⊥) → (k ≡ 19 → ⊥) → (k ≡ 15 → ⊥) → Narrow (expr_l I) (linked_l 61 I) hi (hi - 1)
+  is-set : (hi k : ℕ) → k ≡ kind hi → (k ≡ 22 → ⊥) → (k ≡ 24 → ⊥) → (k ≡ 23 → ⊥) → (k ≡ 20 → ⊥) → (k ≡ 18 → ⊥) → (k ≡ 19 → ⊥) → (k ≡ 15 → ⊥) → Narrow (expr_l I) (linked_l 61 I) hi (hi - 1)
   unfolding Spans pr spaced
   is-set hi k i two prim_ un_ call_ idx_ mut_ dot_ (prim x) lo z = absurd (prim_ (i ∙ z.top.kinded))
   is-set hi k i two prim_ un_ call_ idx_ mut_ dot_ (un o e) lo z = absurd (un_ (i ∙ z.top.kinded))
@@ -282,10 +283,58 @@ module _ (I : Inp) where
   is-set hi k i two prim_ un_ call_ idx_ mut_ dot_ (mut x g e) lo z = absurd (mut_ (i ∙ z.top.kinded))
 
   -- its pieces
-  pub is-joined : (hi s : ℕ) → Narrow (linked_l s I) (made (joined_l s) I) hi hi
+  is-joined : (hi s : ℕ) → Narrow (linked_l s I) (made (joined_l s) I) hi hi
   is-joined hi s x lo z =
       record {
         tree = ((x.0, tt), x.1);
         spans = record { mid = z.mid; front = record { mid = z.mid; front = (z.front.below, z.front.token); last = refl }; last = z.last };
         text = sym (append_assoc (worded x.0) (s ∷ 32 ∷ []) (bytes_of (pr x.1)));
       }
+
+-- ── what is left at first ──
+
+module _ (p : Writer) where
+  pub bare-part : {k : ℕ} (below : ℕ) → k ≡ height_of p → k < below → Part (operand_l below) (one expr_l) p p
+  bare-part {k} below e h = opened (operand_l below) (one expr_l) p (is-bare (inp_of p) below p.node k e h)
+
+  pub closed-part : {k : ℕ} (below : ℕ) → k ≡ height_of p → below ≤ k → Part (operand_l below) closed_l p p
+  closed-part {k} below e h = opened (operand_l below) closed_l p (is-closed (inp_of p) below p.node k e h)
+
+  pub prim-part : {k : ℕ} → k ≡ kind_of p → k ≡ 24 → Part expr_l (one leaf_l) p p
+  prim-part e h = opened expr_l (one leaf_l) p (is-prim (inp_of p) p.node (sym e ∙ h))
+
+  pub one-part : kind_of p ≡ 23 → Part expr_l (one_l p.node (operand_l 1)) p (down p)
+  one-part h = entered expr_l (one_l p.node (operand_l 1)) p (is_one (inp_of p) p.node h)
+
+  -- one whose operand is again one of `!` or `-`
+  pub chain-part : {k : ℕ} → kind_of p ≡ 23 → k ≡ kind_of (down p) → k ≡ 23 → Part expr_l (one_l p.node expr_l) p (down p)
+  chain-part h e i = tested (one_l p.node expr_l) (p.node - 1) (one-part h) (is-chain (inp_of p) p.node (sym e ∙ i)) (omega arith)
+
+  pub call-part : {n : ℕ} → kind_of p ≡ 20 → n ≡ children_of p → Part expr_l (call_l (n - 1)) p (down p)
+  call-part {n} h e = entered expr_l (call_l (n - 1)) p (is_call (inp_of p) p.node n h e)
+
+  pub subscript-part : {k : ℕ} → k ≡ kind_of p → k ≡ 18 → Part expr_l (one subscript_l) p (down p)
+  subscript-part e h = entered expr_l (one subscript_l) p (is-subscript (inp_of p) p.node (sym e ∙ h))
+
+  pub index-part : Part subscript_l index_l p p
+  index-part = opened subscript_l index_l p (is-index (inp_of p) p.node)
+
+  pub element-part : kind_of p ≡ 19 → Part expr_l element_l p (down p)
+  element-part h = entered expr_l element_l p (is-element (inp_of p) p.node h)
+
+  pub dot-part : {k : ℕ} → k ≡ kind_of p → k ≡ 15 → Part expr_l (one (linked_l 46)) p (down p)
+  dot-part e h = entered expr_l (one (linked_l 46)) p (is-dot (inp_of p) p.node (sym e ∙ h))
+
+  pub set-part : {k : ℕ} → k ≡ kind_of p → (k ≡ 22 → ⊥) → (k ≡ 24 → ⊥) → (k ≡ 23 → ⊥) → (k ≡ 20 → ⊥) → (k ≡ 18 → ⊥) → (k ≡ 19 → ⊥) → (k ≡ 15 → ⊥) → Part expr_l (one (linked_l 61)) p (down p)
+  set-part {k} e two prim_ un_ call_ idx_ mut_ dot_ = entered expr_l (one (linked_l 61)) p (is-set (inp_of p) p.node k e two prim_ un_ call_ idx_ mut_ dot_)
+
+  pub joined-part : (s : ℕ) → Part (linked_l s) (joined_l s) p p
+  joined-part s = opened (linked_l s) (joined_l s) p (is-joined (inp_of p) p.node s)
+
+-- An expression of which a part is left is an operator with two operands.
+pub two-part : {L : Kind} {p : Writer} (q : Writer) {k n : ℕ} → Part L (one expr_l) p q → k ≡ kind_of q → k ≡ 22 → n ≡ height_of q → Part L (two_l q.node n) p (down q)
+two-part q {k} {n} t e h i = tested (two_l q.node n) (q.node - 1) t (is-two (inp_of q) q.node n (sym e ∙ h) i) (omega arith)
+
+-- A left operand that stands bare is an expression.
+pub left-part : {L : Kind} {p : Writer} (q : Writer) {k n : ℕ} → Part L (one (operand_l (n + 1))) p q → k ≡ height_of q → k ≤ n → Part L (one expr_l) p q
+left-part q {k} {n} t e h = tested (one expr_l) q.node t (is-bare (inp_of q) (n + 1) q.node k e (omega arith)) (omega arith)

@@ -6,16 +6,17 @@ use mathlib.Core.List.{List, [], ◌∷◌, ◌++◌, append_assoc, append-nil}
 use lib.ListN.{length, get_or}
 use lib.Dec.{eqb}
 use borrow.Author.Tests.{ne_eqb}
+use Rattle.std.specs.Prelude.{Ok}
 use Rattle.sifc_word.specs.Base.{if◌then◌otherwise◌}
 use Rattle.sifc_def.specs.State.{W}
 use Rattle.sifc_def.specs.Ast.{ReturnStmt, ExprStmt, VarDecl}
 use Rattle.sifc_def.specs.Typed.{Expr, prim, un, bin, call, dot, idx, set, mut, Exprs, nil, more, many, Items, no_item, item, many_items, lb, rb, eq, semi, arrow, dlb, drb, var_word, return_word, pr, prs, pr_items, pr_names, between_items, between_names, comma}
 use Rattle.sifc_put.specs.Place.{Inp, Node, Carries, Along}
 use Rattle.sifc_put.specs.declared.write.Writer.{Writer}
-use Rattle.sifc_put.specs.Post.{Kind, Pieces, one, seq, made, fixed, token_l, leaf_l, commas, inp_of, InHeads}
+use Rattle.sifc_put.specs.Post.{Kind, kind_of, children_of, Pieces, one, seq, made, fixed, token_l, leaf_l, commas, inp_of, InHeads, Writes}
 use Rattle.sifc_put.specs.Bytes.{worded, spaced, spaced-append, Puts, puts-E, puts-Es, puts-I, bytes_of, spaced-puts}
 use Rattle.sifc_put.specs.Spans.{Single, Spans, SpansItems, SpansArray}
-use Rattle.sifc_put.specs.Frame.{Narrow}
+use Rattle.sifc_put.specs.Frame.{Narrow, Part, down, opening, opened, entered, narrowed, empty}
 use Rattle.sifc_text_expr.specs.Kinds.{expr_l, exprs_l}
 use Rattle.sifc_text_expr.proofs.Roots.{readable}
 use Rattle.sifc_text_expr.proofs.Forms.{listed, listed-many, listed-bytes, listed-along}
@@ -185,7 +186,7 @@ module _ (I : Inp) where
   -- ── pairs, items, tables and arrays ──
 
   -- the two names of a loop
-  pub is-pair : (hi : ℕ) → Narrow (pair_l I) (made two_l I) hi (hi - 1)
+  is-pair : (hi : ℕ) → Narrow (pair_l I) (made two_l I) hi (hi - 1)
   is-pair hi x lo s =
       record {
         tree = ((x.0, tt), x.1);
@@ -194,7 +195,7 @@ module _ (I : Inp) where
       }
 
   -- an item of a table
-  pub is-item : (hi : ℕ) → Narrow (item_l I) (made (keyed_l hi) I) hi (hi - 1)
+  is-item : (hi : ℕ) → Narrow (item_l I) (made (keyed_l hi) I) hi (hi - 1)
   is-item hi x lo s =
       record {
         tree = ((x.0, tt), x.1);
@@ -203,7 +204,7 @@ module _ (I : Inp) where
       }
 
   -- a table, by the count of its items
-  pub is-table : (hi n : ℕ) → n ≡ kids_at I (hi - 1) → Narrow (table_l I) (made (tabled_l n) I) hi (hi - 1 - 1)
+  is-table : (hi n : ℕ) → n ≡ kids_at I (hi - 1) → Narrow (table_l I) (made (tabled_l n) I) hi (hi - 1 - 1)
   unfolding spaced
   is-table hi n k is lo s =
       record {
@@ -217,13 +218,13 @@ module _ (I : Inp) where
       }
 
   -- an array without items
-  pub is-bare : (hi : ℕ) → kids_at I hi ≡ 0 → Narrow (array_l I) (made bare_l I) hi (hi - 1)
+  is-bare : (hi : ℕ) → kids_at I hi ≡ 0 → Narrow (array_l I) (made bare_l I) hi (hi - 1)
   unfolding SpansArray prs spaced
   is-bare hi k nil lo s = record { tree = (tt, tt); spans = record { mid = lo; front = refl; last = s.below }; text = refl }
   is-bare hi k (more e es) lo s = absurd (omega (arith, s.top.counted, k))
 
   -- an array with items, by their count
-  pub is-array : (hi n : ℕ) → (kids_at I hi ≡ 0 → ⊥) → n ≡ kids_at I (hi - 1) → Narrow (array_l I) (made (arrayed_l n) I) hi (hi - 1 - 1)
+  is-array : (hi n : ℕ) → (kids_at I hi ≡ 0 → ⊥) → n ≡ kids_at I (hi - 1) → Narrow (array_l I) (made (arrayed_l n) I) hi (hi - 1 - 1)
   unfolding SpansArray spaced many
   is-array hi n z k nil lo s = absurd (z s.top.counted)
   is-array hi n z k (more e es) lo s =
@@ -277,21 +278,21 @@ module _ (I : Inp) where
   value-root (a_table is) lo hi s = root-of s.top
 
   -- a value that is an array
-  pub is-array-value : (hi : ℕ) → kind_at I hi ≡ 16 → Narrow (value_l I) (array_l I) hi hi
+  is-array-value : (hi : ℕ) → kind_at I hi ≡ 16 → Narrow (value_l I) (array_l I) hi hi
   unfolding SpansValue pr_value
   is-array-value hi k (expression e) lo s = absurd (omega (arith, expr-kind e lo hi s (omega (arith, k)), k))
   is-array-value hi k (an_array es) lo s = record { tree = es; spans = s; text = refl }
   is-array-value hi k (a_table is) lo s = absurd (omega (arith, s.top.kinded, k))
 
   -- one that is a table
-  pub is-table-value : (hi : ℕ) → kind_at I hi ≡ 14 → Narrow (value_l I) (table_l I) hi hi
+  is-table-value : (hi : ℕ) → kind_at I hi ≡ 14 → Narrow (value_l I) (table_l I) hi hi
   unfolding SpansValue pr_value
   is-table-value hi k (expression e) lo s = absurd (omega (arith, expr-kind e lo hi s (omega (arith, k)), k))
   is-table-value hi k (an_array es) lo s = absurd (omega (arith, array_kind es lo hi s, k))
   is-table-value hi k (a_table is) lo s = record { tree = is; spans = s; text = refl }
 
   -- one that is neither
-  pub is-expr-value : (hi : ℕ) → (kind_at I hi ≡ 16 → ⊥) → (kind_at I hi ≡ 14 → ⊥) → Narrow (value_l I) (expr_l I) hi hi
+  is-expr-value : (hi : ℕ) → (kind_at I hi ≡ 16 → ⊥) → (kind_at I hi ≡ 14 → ⊥) → Narrow (value_l I) (expr_l I) hi hi
   unfolding SpansValue pr_value
   is-expr-value hi k j (expression e) lo s = record { tree = e; spans = s; text = refl }
   is-expr-value hi k j (an_array es) lo s = absurd (k (array_kind es lo hi s))
@@ -307,7 +308,7 @@ module _ (I : Inp) where
   value-semi (a_table is) = ap (λ (b : List ℕ). worded dlb ++ b) (spaced-after (puts-I is) (drb ∷ []) (semi ∷ []))
 
   -- A declaration ends in its `;`.
-  pub is-ended : (hi : ℕ) → Narrow (var_l I) (made (declared_l hi) I) hi (hi - 1)
+  is-ended : (hi : ℕ) → Narrow (var_l I) (made (declared_l hi) I) hi (hi - 1)
   unfolding SpansVar VarBefore var_bytes pr_var spaced
   is-ended hi (unset x) lo s =
       record {
@@ -325,13 +326,13 @@ module _ (I : Inp) where
       }
 
   -- one without a value
-  pub is-unset : (hi h : ℕ) → kids_at I hi ≡ 0 → Narrow (before_l hi I) (made (unset_l hi) I) h h
+  is-unset : (hi h : ℕ) → kids_at I hi ≡ 0 → Narrow (before_l hi I) (made (unset_l hi) I) h h
   unfolding VarBefore var_bytes
   is-unset hi h k (unset x) lo s = record { tree = (tt, x); spans = record { mid = lo; front = refl; last = (s.0, s.2) }; text = refl }
   is-unset hi h k (set_to x v) lo s = absurd (omega (arith, s.1, k))
 
   -- one with a value
-  pub is_set : (hi h : ℕ) → (kids_at I hi ≡ 0 → ⊥) → Narrow (before_l hi I) (made (set_l hi) I) h h
+  is_set : (hi h : ℕ) → (kids_at I hi ≡ 0 → ⊥) → Narrow (before_l hi I) (made (set_l hi) I) h h
   unfolding VarBefore var_bytes
   is_set hi h k (unset x) lo s = absurd (k s.1)
   is_set hi h k (set_to x v) lo s =
@@ -372,7 +373,7 @@ module _ (I : Inp) where
   plain-kind (evaluated e) lo hi s = omega (arith, s.top.kinded)
 
   -- one that declares a variable
-  pub is-var : (hi : ℕ) → kind_at I hi ≡ 8 → Narrow (plain_l I) (var_l I) hi hi
+  is-var : (hi : ℕ) → kind_at I hi ≡ 8 → Narrow (plain_l I) (var_l I) hi hi
   unfolding SpansPlain pr_plain
   is-var hi k (variable v) lo s = record { tree = v; spans = s; text = refl }
   is-var hi k returned lo s = absurd (omega (arith, s.top.kinded, k))
@@ -380,7 +381,7 @@ module _ (I : Inp) where
   is-var hi k (evaluated e) lo s = absurd (omega (arith, s.top.kinded, k))
 
   -- It ends in its `;`.
-  pub is_body : (hi : ℕ) → (kind_at I hi ≡ 8 → ⊥) → Narrow (plain_l I) (made (bodied_l hi) I) hi (hi - 1)
+  is_body : (hi : ℕ) → (kind_at I hi ≡ 8 → ⊥) → Narrow (plain_l I) (made (bodied_l hi) I) hi (hi - 1)
   unfolding SpansPlain pr_plain BodyAt body_bytes spaced
   is_body hi k (variable v) lo s = absurd (k (var-kind v lo hi s))
   is_body hi k returned lo s = record { tree = (nothing, tt); spans = record { mid = hi - 1; front = (s.below, s.top.counted); last = refl }; text = refl }
@@ -398,14 +399,14 @@ module _ (I : Inp) where
       }
 
   -- `return` alone
-  pub is-nothing : (hi h : ℕ) → kids_at I hi ≡ 0 → Narrow (body_l hi I) (word_l return_word I) h h
+  is-nothing : (hi h : ℕ) → kids_at I hi ≡ 0 → Narrow (body_l hi I) (word_l return_word I) h h
   unfolding BodyAt body_bytes
   is-nothing hi h k nothing lo s = record { tree = tt; spans = s.0; text = refl }
   is-nothing hi h k (result e) lo s = absurd (omega (arith, s.1, k))
   is-nothing hi h k (alone e) lo s = absurd (omega (arith, s.1, k))
 
   -- an expression, and what stands before it
-  pub is-led : (hi h : ℕ) → (kids_at I hi ≡ 0 → ⊥) → Narrow (body_l hi I) (made (led_l (kind_at I hi)) I) h h
+  is-led : (hi h : ℕ) → (kids_at I hi ≡ 0 → ⊥) → Narrow (body_l hi I) (made (led_l (kind_at I hi)) I) h h
   unfolding BodyAt body_bytes lead if◌then◌otherwise◌
   is-led hi h k nothing lo s = absurd (k s.1)
   is-led hi h k (result e) lo s =
@@ -414,15 +415,73 @@ module _ (I : Inp) where
       record { tree = (tt, e); spans = record { mid = lo; front = refl; last = s.0 }; text = ap (λ (i : ℕ). lead i ++ bytes_of (pr e)) (sym s.2) }
 
   -- a return's is its word
-  pub is-return : (hi h : ℕ) → kind_at I hi ≡ 6 → Narrow (fixed (lead (kind_at I hi)) I) (word_l return_word I) h h
+  is-return : (hi h : ℕ) → kind_at I hi ≡ 6 → Narrow (fixed (lead (kind_at I hi)) I) (word_l return_word I) h h
   unfolding lead if◌then◌otherwise◌
   is-return hi h k u lo s = record { tree = u; spans = s; text = ap lead k }
 
   -- any other's is nothing
-  pub no_lead : (hi h : ℕ) → (kind_at I hi ≡ 6 → ⊥) → (u : Unit {0}) (lo : ℕ) → lo ≡ h → (lo ≡ h) × (lead (kind_at I hi) ≡ [])
+  no_lead : (hi h : ℕ) → (kind_at I hi ≡ 6 → ⊥) → (u : Unit {0}) (lo : ℕ) → lo ≡ h → (lo ≡ h) × (lead (kind_at I hi) ≡ [])
   unfolding lead if◌then◌otherwise◌
   no_lead hi h k u lo s = (s, rw (ne_eqb (kind_at I hi) 6 k) refl)
 
 -- The node before a writer's can be read.
 pub head : (p : Writer) → Root (inp_of p) p.node → InHeads p
 head p r = record { some = r.some; in_heads = r.in_heads }
+
+-- ── what is left at first ──
+
+module _ (p : Writer) where
+  pub pair-part : Part pair_l two_l p (down p)
+  pair-part = entered pair_l two_l p (is-pair (inp_of p) p.node)
+
+  pub item-part : Part item_l (keyed_l p.node) p (down p)
+  item-part = entered item_l (keyed_l p.node) p (is-item (inp_of p) p.node)
+
+  pub table-part : {n : ℕ} → n ≡ children_of (down p) → Part table_l (tabled_l n) p (down (down p))
+  table-part {n} e = narrowed (tabled_l n) (p.node - 1 - 1) opening (is-table (inp_of p) p.node n e) (omega arith)
+
+  pub bare-part : {k : ℕ} → k ≡ children_of p → k ≡ 0 → Part array_l bare_l p (down p)
+  bare-part e z = entered array_l bare_l p (is-bare (inp_of p) p.node (sym e ∙ z))
+
+  pub array-part : {k n : ℕ} → k ≡ children_of p → (k ≡ 0 → ⊥) → n ≡ children_of (down p) → Part array_l (arrayed_l n) p (down (down p))
+  array-part {k} {n} e z f = narrowed (arrayed_l n) (p.node - 1 - 1) opening (is-array (inp_of p) p.node n (λ i. z (e ∙ i)) f) (omega arith)
+
+  pub array-value-part : {k : ℕ} → k ≡ kind_of p → k ≡ 16 → Part value_l (one array_l) p p
+  array-value-part e h = opened value_l (one array_l) p (is-array-value (inp_of p) p.node (sym e ∙ h))
+
+  pub table-value-part : {k : ℕ} → k ≡ kind_of p → k ≡ 14 → Part value_l (one table_l) p p
+  table-value-part e h = opened value_l (one table_l) p (is-table-value (inp_of p) p.node (sym e ∙ h))
+
+  pub expr-value-part : {k : ℕ} → k ≡ kind_of p → (k ≡ 16 → ⊥) → (k ≡ 14 → ⊥) → Part value_l (one expr_l) p p
+  expr-value-part e h i = opened value_l (one expr_l) p (is-expr-value (inp_of p) p.node (λ j. h (e ∙ j)) (λ j. i (e ∙ j)))
+
+  pub declared-part : Part var_l (declared_l p.node) p (down p)
+  declared-part = entered var_l (declared_l p.node) p (is-ended (inp_of p) p.node)
+
+  pub var-part : {k : ℕ} → k ≡ kind_of p → k ≡ 8 → Part plain_l (one var_l) p p
+  var-part e h = opened plain_l (one var_l) p (is-var (inp_of p) p.node (sym e ∙ h))
+
+  pub bodied-part : {k : ℕ} → k ≡ kind_of p → (k ≡ 8 → ⊥) → Part plain_l (bodied_l p.node) p (down p)
+  bodied-part e h = entered plain_l (bodied_l p.node) p (is_body (inp_of p) p.node (λ j. h (e ∙ j)))
+
+  -- ── and behind the `;` ──
+
+  module _ {L : Kind} (q : Writer) {k : ℕ} (e : k ≡ children_of p) where
+    pub unset-part : Part L (one (before_l p.node)) p q → k ≡ 0 → Part L (unset_l p.node) p q
+    unset-part t z = narrowed (unset_l p.node) q.node t (is-unset (inp_of p) p.node q.node (sym e ∙ z)) (omega arith)
+
+    pub set-part : Part L (one (before_l p.node)) p q → (k ≡ 0 → ⊥) → Part L (set_l p.node) p q
+    set-part t z = narrowed (set_l p.node) q.node t (is_set (inp_of p) p.node q.node (λ i. z (e ∙ i))) (omega arith)
+
+    pub return-part : Part L (one (body_l p.node)) p q → k ≡ 0 → Part L (one (word_l return_word)) p q
+    return-part t z = narrowed (one (word_l return_word)) q.node t (is-nothing (inp_of p) p.node q.node (sym e ∙ z)) (omega arith)
+
+    pub led-part : Part L (one (body_l p.node)) p q → (k ≡ 0 → ⊥) → Part L (led_l (kind_of p)) p q
+    led-part t z = narrowed (led_l (kind_of p)) q.node t (is-led (inp_of p) p.node q.node (λ i. z (e ∙ i))) (omega arith)
+
+  module _ {L : Kind} (q : Writer) {k : ℕ} (t : Part L (one (fixed (lead (kind_of p)))) p q) (e : k ≡ kind_of p) where
+    pub word-part : k ≡ 6 → Part L (one (word_l return_word)) p q
+    word-part h = narrowed (one (word_l return_word)) q.node t (is-return (inp_of p) p.node q.node (sym e ∙ h)) (omega arith)
+
+    pub done-part : (k ≡ 6 → ⊥) → Writes L p (Ok tt) q
+    done-part h = empty (fixed (lead (kind_of p))) t (no_lead (inp_of p) p.node q.node (λ j. h (e ∙ j)))

@@ -11,11 +11,11 @@ use Rattle.sifc_def.specs.Typed.{Expr, Stmt, var_none, var_expr, var_array, var_
 use Rattle.sifc_def.proofs.Canon.Bytes.{texts, printed, items_of_all, printed-more}
 use Rattle.sifc_def.proofs.Canon.Words.{decl_words}
 use Rattle.sifc_put.specs.Place.{Inp, Carries, Along}
-use Rattle.sifc_put.specs.Post.{Lang, Kind, Pieces, one, seq, made, token_l, row_l, cat, At}
+use Rattle.sifc_put.specs.Post.{kind_of, children_of, inp_of, Lang, Kind, Pieces, one, seq, made, token_l, row_l, cat, At}
 use Rattle.sifc_put.specs.Bytes.{worded, spaced, bytes_of, spaced-puts, puts-E, puts-N, puts-S, puts-Ss, puts-Bs}
 use Rattle.sifc_put.specs.Spans.{SpansNames, SpansS, SpansSs, SpansBs}
 use Rattle.sifc_put.specs.declared.write.Writer.{Writer}
-use Rattle.sifc_put.specs.Frame.{Narrow}
+use Rattle.sifc_put.specs.Frame.{Narrow, Part, down, opened, entered, tested}
 use Rattle.sifc_text_plain.specs.Kinds.{names_l, pair_l, expression, an_array, a_table, pr_value, SpansValue, unset, set_to, pr_var, SpansVar, Plain, variable, returned, return_of, evaluated, pr_plain, SpansPlain, plain_l}
 use Rattle.sifc_text_stmt.specs.Kinds.{stmt_l, stmts_l, pr_block, block_l, guarded_l, Branch, elif, els, pr_branch, SpansBranch, branch_l, branches_l, line_l, program_l}
 use Rattle.sifc_text_plain.proofs.Forms.{word_l, names-bytes, kind_at, kids_at, Root, root-of, names-along, plain-root, plain-kind}
@@ -207,7 +207,7 @@ module _ (I : Inp) where
   -- ── blocks ──
 
   -- a statement that is a block
-  pub is_block : (hi : ℕ) → kind_at I hi ≡ 2 → Narrow (stmt_l I) (block_l I) hi hi
+  is_block : (hi : ℕ) → kind_at I hi ≡ 2 → Narrow (stmt_l I) (block_l I) hi hi
   unfolding SpansShape pr_shape SpansS pr_s
   is_block hi k = by_shape hi hi go
     where
@@ -219,7 +219,7 @@ module _ (I : Inp) where
       go (named x ns ss) lo s = absurd (omega (arith, s.top.kinded, k))
 
   -- a block, by the count of its statements
-  pub is-braced : (hi n : ℕ) → n ≡ kids_at I hi → Narrow (block_l I) (made (braced_l n) I) hi (hi - 1)
+  is-braced : (hi n : ℕ) → n ≡ kids_at I hi → Narrow (block_l I) (made (braced_l n) I) hi (hi - 1)
   unfolding spaced
   is-braced hi n k ss lo s =
       record {
@@ -229,7 +229,7 @@ module _ (I : Inp) where
       }
 
   -- a statement that is none of the four with blocks
-  pub is_plain : (hi : ℕ) → (kind_at I hi ≡ 2 → ⊥) → (kind_at I hi ≡ 3 → ⊥) → (kind_at I hi ≡ 5 → ⊥) → (kind_at I hi ≡ 9 → ⊥) → Narrow (stmt_l I) (plain_l I) hi hi
+  is_plain : (hi : ℕ) → (kind_at I hi ≡ 2 → ⊥) → (kind_at I hi ≡ 3 → ⊥) → (kind_at I hi ≡ 5 → ⊥) → (kind_at I hi ≡ 9 → ⊥) → Narrow (stmt_l I) (plain_l I) hi hi
   unfolding SpansShape pr_shape SpansS pr_s
   is_plain hi a b c d = by_shape hi hi go
     where
@@ -243,7 +243,7 @@ module _ (I : Inp) where
   -- ── branches ──
 
   -- a branch with a condition
-  pub is-elif : (hi : ℕ) → kind_at I hi ≡ 4 → Narrow (branch_l I) (made elif_l I) hi (hi - 1)
+  is-elif : (hi : ℕ) → kind_at I hi ≡ 4 → Narrow (branch_l I) (made elif_l I) hi (hi - 1)
   unfolding SpansBranch pr_branch spaced
   is-elif hi k (elif e ss) lo s =
       record {
@@ -254,13 +254,13 @@ module _ (I : Inp) where
   is-elif hi k (els ss) lo s = absurd (omega (arith, s.top.kinded, k))
 
   -- one without
-  pub is-else : (hi : ℕ) → (kind_at I hi ≡ 4 → ⊥) → Narrow (branch_l I) (made else_l I) hi hi
+  is-else : (hi : ℕ) → (kind_at I hi ≡ 4 → ⊥) → Narrow (branch_l I) (made else_l I) hi hi
   unfolding SpansBranch pr_branch spaced
   is-else hi k (elif e ss) lo s = absurd (k s.top.kinded)
   is-else hi k (els ss) lo s = record { tree = (tt, ss); spans = record { mid = lo; front = refl; last = s }; text = refl }
 
   -- an `if`, by the count of its further branches
-  pub is-if : (hi n : ℕ) → kind_at I hi ≡ 3 → n + 2 ≡ kids_at I hi → Narrow (stmt_l I) (made (if_l n) I) hi (hi - 1)
+  is-if : (hi n : ℕ) → kind_at I hi ≡ 3 → n + 2 ≡ kids_at I hi → Narrow (stmt_l I) (made (if_l n) I) hi (hi - 1)
   unfolding SpansShape pr_shape SpansS pr_s spaced
   is-if hi n k j = by_shape hi (hi - 1) go
     where
@@ -295,7 +295,7 @@ module _ (I : Inp) where
   -- ── loops ──
 
   -- a loop: its names, what it goes over and its block
-  pub is-for : (hi : ℕ) → kind_at I hi ≡ 5 → Narrow (stmt_l I) (made for_l I) hi (hi - 1)
+  is-for : (hi : ℕ) → kind_at I hi ≡ 5 → Narrow (stmt_l I) (made for_l I) hi (hi - 1)
   unfolding SpansShape pr_shape SpansS pr_s spaced
   is-for hi k = by_shape hi (hi - 1) go
     where
@@ -321,7 +321,7 @@ module _ (I : Inp) where
   -- ── functions ──
 
   -- a function: its name and parameters, and its block
-  pub is-fn : (hi : ℕ) → kind_at I hi ≡ 9 → Narrow (stmt_l I) (made (fn_l hi) I) hi (hi - 1)
+  is-fn : (hi : ℕ) → kind_at I hi ≡ 9 → Narrow (stmt_l I) (made (fn_l hi) I) hi (hi - 1)
   unfolding SpansShape pr_shape SpansS pr_s spaced
   is-fn hi k = by_shape hi (hi - 1) go
     where
@@ -338,7 +338,7 @@ module _ (I : Inp) where
           }
 
   -- the parameters, by their count
-  pub is-params : (hi h n : ℕ) → n ≡ kids_at I h
+  is-params : (hi h n : ℕ) → n ≡ kids_at I h
       → Narrow (params_l hi I) (made (named_l hi n) I) h (h - 1)
   is-params hi h n k x lo s =
       record {
@@ -356,10 +356,44 @@ module _ (I : Inp) where
   -- ── programs ──
 
   -- a program, by the count of its declarations
-  pub is-program : (hi n : ℕ) → n ≡ kids_at I hi → Narrow (program_l I) (row_l line_l n I) hi (hi - 1)
+  is-program : (hi n : ℕ) → n ≡ kids_at I hi → Narrow (program_l I) (row_l line_l n I) hi (hi - 1)
   is-program hi n k ts lo s =
       record { tree = stmt_list ts; spans = (stmts-along ts lo (hi - 1) s.below, stmts-count ts ∙ sym s.top.counted ∙ sym k); text = lines-bytes ts }
 
 -- Where a line is to be written, a statement stands.
 pub line-spot : (p : Writer) → At line_l p → At stmt_l p
 line-spot p z = record { tree = z.tree; lo = z.lo; spans = z.spans; room = z.room }
+
+-- ── what is left at first ──
+
+module _ (p : Writer) where
+  pub block-part : {k : ℕ} → k ≡ kind_of p → k ≡ 2 → Part stmt_l (one block_l) p p
+  block-part e h = opened stmt_l (one block_l) p (is_block (inp_of p) p.node (sym e ∙ h))
+
+  pub braced-part : {n : ℕ} → n ≡ children_of p → Part block_l (braced_l n) p (down p)
+  braced-part {n} e = entered block_l (braced_l n) p (is-braced (inp_of p) p.node n e)
+
+  pub plain-part : {k : ℕ} → k ≡ kind_of p → (k ≡ 2 → ⊥) → (k ≡ 3 → ⊥) → (k ≡ 5 → ⊥) → (k ≡ 9 → ⊥) → Part stmt_l (one plain_l) p p
+  plain-part e a b c d = opened stmt_l (one plain_l) p (is_plain (inp_of p) p.node (λ j. a (e ∙ j)) (λ j. b (e ∙ j)) (λ j. c (e ∙ j)) (λ j. d (e ∙ j)))
+
+  pub elif-part : {k : ℕ} → k ≡ kind_of p → k ≡ 4 → Part branch_l elif_l p (down p)
+  elif-part e h = entered branch_l elif_l p (is-elif (inp_of p) p.node (sym e ∙ h))
+
+  pub else-part : {k : ℕ} → k ≡ kind_of p → (k ≡ 4 → ⊥) → Part branch_l else_l p p
+  else-part e h = opened branch_l else_l p (is-else (inp_of p) p.node (λ j. h (e ∙ j)))
+
+  pub if-part : {n : ℕ} → At stmt_l p → kind_of p ≡ 3 → n ≡ children_of p → Part stmt_l (if_l (n - 2)) p (down p)
+  if-part {n} z h e = entered stmt_l (if_l (n - 2)) p (is-if (inp_of p) p.node (n - 2) h (omega (arith, e, two-kids (inp_of p) z.tree z.lo p.node z.spans h)))
+
+  pub for-part : kind_of p ≡ 5 → Part stmt_l for_l p (down p)
+  for-part h = entered stmt_l for_l p (is-for (inp_of p) p.node h)
+
+  pub fn-part : kind_of p ≡ 9 → Part stmt_l (fn_l p.node) p (down p)
+  fn-part h = entered stmt_l (fn_l p.node) p (is-fn (inp_of p) p.node h)
+
+  pub lines-part : {n : ℕ} → n ≡ children_of p → Part program_l (one (row_l line_l n)) p (down p)
+  lines-part {n} e = entered program_l (one (row_l line_l n)) p (is-program (inp_of p) p.node n e)
+
+-- The parameters of a function are left.
+pub named-part : {L : Kind} {p : Writer} (hi : ℕ) (q : Writer) {n : ℕ} → Part L (one (params_l hi)) p q → n ≡ children_of q → Part L (named_l hi n) p (down q)
+named-part hi q {n} t e = tested (named_l hi n) (q.node - 1) t (is-params (inp_of q) hi q.node n e) (omega arith)

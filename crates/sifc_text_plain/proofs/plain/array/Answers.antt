@@ -1,10 +1,8 @@
 use native.Mathlib.Omega.{arith}
-use mathlib.Core.Path.{sym, ◌∙◌}
-use Prim.Native.Nat.{◌-◌}
+use mathlib.Core.Path.{◌∙◌}
 use Rattle.sifc_put.specs.Post.{inp_of}
-use Rattle.sifc_put.specs.Frame.{entered, narrowed, opening, spot, put, end, stop}
-use Rattle.sifc_text_plain.specs.Kinds.{array_l}
-use Rattle.sifc_text_plain.proofs.Forms.{bare_l, arrayed_l, head, is-bare, is-array, array-list, array-root}
+use Rattle.sifc_put.specs.Frame.{spot, put, end, stop}
+use Rattle.sifc_text_plain.proofs.Forms.{head, array-list, array-root, bare-part, array-part}
 use Rattle.sifc_text_plain.proofs.plain.array.Goals as goal
 
 pub children-lists-requires : goal.children-lists-requires
@@ -15,12 +13,12 @@ overflow_sub-w c = omega (arith, (array-root (inp_of c.args.w.now) c.requires.tr
 
 pub returns-in_err-put_sign : goal.returns-in_err-put_sign
 returns-in_err-put_sign c =
-    let c0 = entered array_l bare_l c.args.w.now (is-bare (inp_of c.args.w.now) c.args.w.now.node (sym c.children-lists.ensures ∙ c.if-lists-eq0.true)) in
+    let c0 = bare-part c.args.w.now c.children-lists.ensures c.if-lists-eq0.true in
     stop c0 c.in_err-put_sign.ensures c.from_residual.ensures.0
 
 pub returns-then-lists-eq0 : goal.returns-then-lists-eq0
 returns-then-lists-eq0 c =
-    let c0 = entered array_l bare_l c.args.w.now (is-bare (inp_of c.args.w.now) c.args.w.now.node (sym c.children-lists.ensures ∙ c.if-lists-eq0.true)) in
+    let c0 = bare-part c.args.w.now c.children-lists.ensures c.if-lists-eq0.true in
     let c1 = put c.requires c0 c.in_ok-put_sign.ensures in
     end c.requires c1 c.put_sign-then-lists-eq0.ensures
 
@@ -32,24 +30,24 @@ overflow_sub-w-2 c = omega (arith, (array-list (inp_of c.args.w.now) c.requires.
 
 pub returns-in_err-put_sign-2 : goal.returns-in_err-put_sign-2
 returns-in_err-put_sign-2 c =
-    let c0 = narrowed {L = array_l} (arrayed_l c.children-count.result) (c.args.w.now.node - 1 - 1) opening (is-array (inp_of c.args.w.now) c.args.w.now.node c.children-count.result (λ e. c.if-lists-eq0.false (c.children-lists.ensures ∙ e)) c.children-count.ensures) (omega arith) in
+    let c0 = array-part c.args.w.now c.children-lists.ensures c.if-lists-eq0.false c.children-count.ensures in
     stop c0 c.in_err-put_sign-2.ensures c.from_residual-in_err-put_sign-2.ensures.0
 
 pub exprs-requires : goal.exprs-requires
 exprs-requires c =
-    let c0 = narrowed {L = array_l} (arrayed_l c.children-count.result) (c.args.w.now.node - 1 - 1) opening (is-array (inp_of c.args.w.now) c.args.w.now.node c.children-count.result (λ e. c.if-lists-eq0.false (c.children-lists.ensures ∙ e)) c.children-count.ensures) (omega arith) in
+    let c0 = array-part c.args.w.now c.children-lists.ensures c.if-lists-eq0.false c.children-count.ensures in
     let c1 = put c.requires c0 c.in_ok-put_sign-2.ensures in
     spot c.requires c1
 
 pub returns-in_err-exprs : goal.returns-in_err-exprs
 returns-in_err-exprs c =
-    let c0 = narrowed {L = array_l} (arrayed_l c.children-count.result) (c.args.w.now.node - 1 - 1) opening (is-array (inp_of c.args.w.now) c.args.w.now.node c.children-count.result (λ e. c.if-lists-eq0.false (c.children-lists.ensures ∙ e)) c.children-count.ensures) (omega arith) in
+    let c0 = array-part c.args.w.now c.children-lists.ensures c.if-lists-eq0.false c.children-count.ensures in
     let c1 = put c.requires c0 c.in_ok-put_sign-2.ensures in
     stop c1 c.in_err-exprs.ensures c.from_residual-in_err-exprs.ensures.0
 
 pub returns : goal.returns
 returns c =
-    let c0 = narrowed {L = array_l} (arrayed_l c.children-count.result) (c.args.w.now.node - 1 - 1) opening (is-array (inp_of c.args.w.now) c.args.w.now.node c.children-count.result (λ e. c.if-lists-eq0.false (c.children-lists.ensures ∙ e)) c.children-count.ensures) (omega arith) in
+    let c0 = array-part c.args.w.now c.children-lists.ensures c.if-lists-eq0.false c.children-count.ensures in
     let c1 = put c.requires c0 c.in_ok-put_sign-2.ensures in
     let c2 = put c.requires c1 c.in_ok-exprs.ensures in
     end c.requires c2 c.put_sign-3.ensures

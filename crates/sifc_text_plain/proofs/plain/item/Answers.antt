@@ -1,18 +1,16 @@
-use Rattle.sifc_put.specs.Post.{inp_of}
-use Rattle.sifc_put.specs.Frame.{entered, put, end, stop}
-use Rattle.sifc_text_plain.specs.Kinds.{item_l}
-use Rattle.sifc_text_plain.proofs.Forms.{keyed_l, is-item}
+use Rattle.sifc_put.specs.Frame.{put, end, stop}
+use Rattle.sifc_text_plain.proofs.Forms.{item-part}
 use Rattle.sifc_text_plain.proofs.plain.item.Goals as goal
 
 pub returns-in_err-keyword : goal.returns-in_err-keyword
 returns-in_err-keyword c =
-    let c0 = entered item_l (keyed_l c.args.w.now.node) c.args.w.now (is-item (inp_of c.args.w.now) c.args.w.now.node) in
+    let c0 = item-part c.args.w.now in
     let c1 = put c.requires c0 c.in_ok-expr.ensures in
     stop c1 c.in_err-keyword.ensures c.from_residual-in_err-keyword.ensures.0
 
 pub returns : goal.returns
 returns c =
-    let c0 = entered item_l (keyed_l c.args.w.now.node) c.args.w.now (is-item (inp_of c.args.w.now) c.args.w.now.node) in
+    let c0 = item-part c.args.w.now in
     let c1 = put c.requires c0 c.in_ok-expr.ensures in
     let c2 = put c.requires c1 c.in_ok-keyword.ensures in
     end c.requires c2 c.put_token.ensures

@@ -1,35 +1,33 @@
 use native.Mathlib.Omega.{arith}
-use mathlib.Core.Path.{sym, ◌∙◌}
 use Prim.Native.Nat.{◌+◌, ◌-◌}
-use Rattle.sifc_put.specs.Post.{inp_of, one}
-use Rattle.sifc_put.specs.Frame.{opened, entered, tested, spot, put, here, end, stop}
+use Rattle.sifc_put.specs.Post.{inp_of}
+use Rattle.sifc_put.specs.Frame.{spot, put, here, end, stop}
 use Rattle.sifc_put.specs.Rows.{next-row, no_row}
-use Rattle.sifc_text_plain.specs.Kinds.{plain_l}
 use Rattle.sifc_text_plain.proofs.Forms.{head}
-use Rattle.sifc_text_stmt.specs.Kinds.{stmt_l, block_l, branch_l}
-use Rattle.sifc_text_stmt.proofs.Forms.{braced_l, elif_l, else_l, if_l, for_l, fn_l, named_l, stmt-root, branch-root, is_block, is-braced, is_plain, is-elif, is-else, is-if, two-kids, is-for, is-fn, is-params}
+use Rattle.sifc_text_stmt.specs.Kinds.{stmt_l, branch_l}
+use Rattle.sifc_text_stmt.proofs.Forms.{stmt-root, branch-root, two-kids, block-part, braced-part, plain-part, elif-part, else-part, if-part, for-part, fn-part, named-part}
 use Rattle.sifc_text_stmt.proofs.writer.+statements.Goals as goal
 
 pub block-returns-in_err-put_sign : goal.block-returns-in_err-put_sign
 block-returns-in_err-put_sign t c =
-    let c0 = entered block_l (braced_l c.children-count.result) c.args.w.now (is-braced (inp_of c.args.w.now) c.args.w.now.node c.children-count.result c.children-count.ensures) in
+    let c0 = braced-part c.args.w.now c.children-count.ensures in
     stop c0 c.in_err-put_sign.ensures c.from_residual.ensures.0
 
 pub block-stmts-requires : goal.block-stmts-requires
 block-stmts-requires t c =
-    let c0 = entered block_l (braced_l c.children-count.result) c.args.w.now (is-braced (inp_of c.args.w.now) c.args.w.now.node c.children-count.result c.children-count.ensures) in
+    let c0 = braced-part c.args.w.now c.children-count.ensures in
     let c1 = put c.requires c0 c.in_ok-put_sign.ensures in
     (omega (arith, c.decreases, c.requires.spans.top.some, c.in_ok-put_sign.ensures.goes.node), spot c.requires c1)
 
 pub block-returns-in_err-stmts : goal.block-returns-in_err-stmts
 block-returns-in_err-stmts t c =
-    let c0 = entered block_l (braced_l c.children-count.result) c.args.w.now (is-braced (inp_of c.args.w.now) c.args.w.now.node c.children-count.result c.children-count.ensures) in
+    let c0 = braced-part c.args.w.now c.children-count.ensures in
     let c1 = put c.requires c0 c.in_ok-put_sign.ensures in
     stop c1 c.in_err-stmts.ensures c.from_residual-in_err-stmts.ensures.0
 
 pub block-returns : goal.block-returns
 block-returns t c =
-    let c0 = entered block_l (braced_l c.children-count.result) c.args.w.now (is-braced (inp_of c.args.w.now) c.args.w.now.node c.children-count.result c.children-count.ensures) in
+    let c0 = braced-part c.args.w.now c.children-count.ensures in
     let c1 = put c.requires c0 c.in_ok-put_sign.ensures in
     let c2 = put c.requires c1 c.in_ok-stmts.ensures in
     end c.requires c2 c.put_sign-2.ensures
@@ -42,33 +40,33 @@ branch-overflow_sub-w t c = omega (arith, (branch-root (inp_of c.args.w.now) c.r
 
 pub branch-guarded-requires : goal.branch-guarded-requires
 branch-guarded-requires t c =
-    let c0 = entered branch_l elif_l c.args.w.now (is-elif (inp_of c.args.w.now) c.args.w.now.node (sym c.kind.ensures ∙ c.if-kind-eq-ELIF_STMT.true)) in
+    let c0 = elif-part c.args.w.now c.kind.ensures c.if-kind-eq-ELIF_STMT.true in
     (omega (arith, c.decreases, (branch-root (inp_of c.args.w.now) c.requires.tree c.requires.lo c.args.w.now.node c.requires.spans).some), spot c.requires c0)
 
 pub branch-returns-in_err-guarded : goal.branch-returns-in_err-guarded
 branch-returns-in_err-guarded t c =
-    let c0 = entered branch_l elif_l c.args.w.now (is-elif (inp_of c.args.w.now) c.args.w.now.node (sym c.kind.ensures ∙ c.if-kind-eq-ELIF_STMT.true)) in
+    let c0 = elif-part c.args.w.now c.kind.ensures c.if-kind-eq-ELIF_STMT.true in
     stop c0 c.in_err-guarded.ensures c.from_residual.ensures.0
 
 pub branch-returns-then-kind-eq-ELIF_STMT : goal.branch-returns-then-kind-eq-ELIF_STMT
 branch-returns-then-kind-eq-ELIF_STMT t c =
-    let c0 = entered branch_l elif_l c.args.w.now (is-elif (inp_of c.args.w.now) c.args.w.now.node (sym c.kind.ensures ∙ c.if-kind-eq-ELIF_STMT.true)) in
+    let c0 = elif-part c.args.w.now c.kind.ensures c.if-kind-eq-ELIF_STMT.true in
     let c1 = put c.requires c0 c.in_ok-guarded.ensures in
     end c.requires c1 c.keyword.ensures
 
 pub branch-block-requires : goal.branch-block-requires
 branch-block-requires t c =
-    let c0 = opened branch_l else_l c.args.w.now (is-else (inp_of c.args.w.now) c.args.w.now.node (λ e. c.if-kind-eq-ELIF_STMT.false (c.kind.ensures ∙ e))) in
+    let c0 = else-part c.args.w.now c.kind.ensures c.if-kind-eq-ELIF_STMT.false in
     (omega (arith, c.decreases), spot c.requires c0)
 
 pub branch-returns-in_err-block : goal.branch-returns-in_err-block
 branch-returns-in_err-block t c =
-    let c0 = opened branch_l else_l c.args.w.now (is-else (inp_of c.args.w.now) c.args.w.now.node (λ e. c.if-kind-eq-ELIF_STMT.false (c.kind.ensures ∙ e))) in
+    let c0 = else-part c.args.w.now c.kind.ensures c.if-kind-eq-ELIF_STMT.false in
     stop c0 c.in_err-block.ensures c.from_residual-in_err-block.ensures.0
 
 pub branch-returns : goal.branch-returns
 branch-returns t c =
-    let c0 = opened branch_l else_l c.args.w.now (is-else (inp_of c.args.w.now) c.args.w.now.node (λ e. c.if-kind-eq-ELIF_STMT.false (c.kind.ensures ∙ e))) in
+    let c0 = else-part c.args.w.now c.kind.ensures c.if-kind-eq-ELIF_STMT.false in
     let c1 = put c.requires c0 c.in_ok-block.ensures in
     end c.requires c1 c.keyword-2.ensures
 
@@ -115,23 +113,23 @@ fn_decl-overflow_sub-w t c = omega (arith, (stmt-root (inp_of c.args.w.now) c.re
 
 pub fn_decl-block-requires : goal.fn_decl-block-requires
 fn_decl-block-requires t c =
-    let c0 = entered stmt_l (fn_l c.args.w.now.node) c.args.w.now (is-fn (inp_of c.args.w.now) c.args.w.now.node c.requires.1) in
+    let c0 = fn-part c.args.w.now c.requires.1 in
     (omega (arith, c.decreases, (stmt-root (inp_of c.args.w.now) c.requires.0.tree c.requires.0.lo c.args.w.now.node c.requires.0.spans).some), spot c.requires.0 c0)
 
 pub fn_decl-returns-in_err-block : goal.fn_decl-returns-in_err-block
 fn_decl-returns-in_err-block t c =
-    let c0 = entered stmt_l (fn_l c.args.w.now.node) c.args.w.now (is-fn (inp_of c.args.w.now) c.args.w.now.node c.requires.1) in
+    let c0 = fn-part c.args.w.now c.requires.1 in
     stop c0 c.in_err-block.ensures c.from_residual.ensures.0
 
 pub fn_decl-returns-in_err-put_sign : goal.fn_decl-returns-in_err-put_sign
 fn_decl-returns-in_err-put_sign t c =
-    let c0 = entered stmt_l (fn_l c.args.w.now.node) c.args.w.now (is-fn (inp_of c.args.w.now) c.args.w.now.node c.requires.1) in
+    let c0 = fn-part c.args.w.now c.requires.1 in
     let c1 = put c.requires.0 c0 c.in_ok-block.ensures in
     stop c1 c.in_err-put_sign.ensures c.from_residual-in_err-put_sign.ensures.0
 
 pub fn_decl-children-count-requires : goal.fn_decl-children-count-requires
 fn_decl-children-count-requires t c =
-    let c0 = entered stmt_l (fn_l c.args.w.now.node) c.args.w.now (is-fn (inp_of c.args.w.now) c.args.w.now.node c.requires.1) in
+    let c0 = fn-part c.args.w.now c.requires.1 in
     let c1 = put c.requires.0 c0 c.in_ok-block.ensures in
     let c2 = put c.requires.0 c1 c.in_ok-put_sign.ensures in
     let s = here c.requires.0 c2 in
@@ -139,7 +137,7 @@ fn_decl-children-count-requires t c =
 
 pub fn_decl-overflow_sub-w-2 : goal.fn_decl-overflow_sub-w-2
 fn_decl-overflow_sub-w-2 t c =
-    let c0 = entered stmt_l (fn_l c.args.w.now.node) c.args.w.now (is-fn (inp_of c.args.w.now) c.args.w.now.node c.requires.1) in
+    let c0 = fn-part c.args.w.now c.requires.1 in
     let c1 = put c.requires.0 c0 c.in_ok-block.ensures in
     let c2 = put c.requires.0 c1 c.in_ok-put_sign.ensures in
     let s = here c.requires.0 c2 in
@@ -147,55 +145,55 @@ fn_decl-overflow_sub-w-2 t c =
 
 pub fn_decl-names-requires : goal.fn_decl-names-requires
 fn_decl-names-requires t c =
-    let s0 = entered stmt_l (fn_l c.args.w.now.node) c.args.w.now (is-fn (inp_of c.args.w.now) c.args.w.now.node c.requires.1) in
+    let s0 = fn-part c.args.w.now c.requires.1 in
     let s1 = put c.requires.0 s0 c.in_ok-block.ensures in
     let s2 = put c.requires.0 s1 c.in_ok-put_sign.ensures in
-    let c0 = tested (named_l c.args.w.now.node c.children-count.result) (c.put_sign.new.self.node - 1) s2 (is-params (inp_of c.put_sign.new.self) c.args.w.now.node c.put_sign.new.self.node c.children-count.result c.children-count.ensures) (omega arith) in
+    let c0 = named-part c.args.w.now.node c.put_sign.new.self s2 c.children-count.ensures in
     spot c.requires.0 c0
 
 pub fn_decl-returns-in_err-names : goal.fn_decl-returns-in_err-names
 fn_decl-returns-in_err-names t c =
-    let s0 = entered stmt_l (fn_l c.args.w.now.node) c.args.w.now (is-fn (inp_of c.args.w.now) c.args.w.now.node c.requires.1) in
+    let s0 = fn-part c.args.w.now c.requires.1 in
     let s1 = put c.requires.0 s0 c.in_ok-block.ensures in
     let s2 = put c.requires.0 s1 c.in_ok-put_sign.ensures in
-    let c0 = tested (named_l c.args.w.now.node c.children-count.result) (c.put_sign.new.self.node - 1) s2 (is-params (inp_of c.put_sign.new.self) c.args.w.now.node c.put_sign.new.self.node c.children-count.result c.children-count.ensures) (omega arith) in
+    let c0 = named-part c.args.w.now.node c.put_sign.new.self s2 c.children-count.ensures in
     stop c0 c.in_err-names.ensures c.from_residual-in_err-names.ensures.0
 
 pub fn_decl-returns-in_err-put_sign-2 : goal.fn_decl-returns-in_err-put_sign-2
 fn_decl-returns-in_err-put_sign-2 t c =
-    let s0 = entered stmt_l (fn_l c.args.w.now.node) c.args.w.now (is-fn (inp_of c.args.w.now) c.args.w.now.node c.requires.1) in
+    let s0 = fn-part c.args.w.now c.requires.1 in
     let s1 = put c.requires.0 s0 c.in_ok-block.ensures in
     let s2 = put c.requires.0 s1 c.in_ok-put_sign.ensures in
-    let c0 = tested (named_l c.args.w.now.node c.children-count.result) (c.put_sign.new.self.node - 1) s2 (is-params (inp_of c.put_sign.new.self) c.args.w.now.node c.put_sign.new.self.node c.children-count.result c.children-count.ensures) (omega arith) in
+    let c0 = named-part c.args.w.now.node c.put_sign.new.self s2 c.children-count.ensures in
     let c1 = put c.requires.0 c0 c.in_ok-names.ensures in
     stop c1 c.in_err-put_sign-2.ensures c.from_residual-in_err-put_sign-2.ensures.0
 
 pub fn_decl-put_token-requires : goal.fn_decl-put_token-requires
 fn_decl-put_token-requires t c =
-    let s0 = entered stmt_l (fn_l c.args.w.now.node) c.args.w.now (is-fn (inp_of c.args.w.now) c.args.w.now.node c.requires.1) in
+    let s0 = fn-part c.args.w.now c.requires.1 in
     let s1 = put c.requires.0 s0 c.in_ok-block.ensures in
     let s2 = put c.requires.0 s1 c.in_ok-put_sign.ensures in
-    let c0 = tested (named_l c.args.w.now.node c.children-count.result) (c.put_sign.new.self.node - 1) s2 (is-params (inp_of c.put_sign.new.self) c.args.w.now.node c.put_sign.new.self.node c.children-count.result c.children-count.ensures) (omega arith) in
+    let c0 = named-part c.args.w.now.node c.put_sign.new.self s2 c.children-count.ensures in
     let c1 = put c.requires.0 c0 c.in_ok-names.ensures in
     let c2 = put c.requires.0 c1 c.in_ok-put_sign-2.ensures in
     spot c.requires.0 c2
 
 pub fn_decl-returns-in_err-put_token : goal.fn_decl-returns-in_err-put_token
 fn_decl-returns-in_err-put_token t c =
-    let s0 = entered stmt_l (fn_l c.args.w.now.node) c.args.w.now (is-fn (inp_of c.args.w.now) c.args.w.now.node c.requires.1) in
+    let s0 = fn-part c.args.w.now c.requires.1 in
     let s1 = put c.requires.0 s0 c.in_ok-block.ensures in
     let s2 = put c.requires.0 s1 c.in_ok-put_sign.ensures in
-    let c0 = tested (named_l c.args.w.now.node c.children-count.result) (c.put_sign.new.self.node - 1) s2 (is-params (inp_of c.put_sign.new.self) c.args.w.now.node c.put_sign.new.self.node c.children-count.result c.children-count.ensures) (omega arith) in
+    let c0 = named-part c.args.w.now.node c.put_sign.new.self s2 c.children-count.ensures in
     let c1 = put c.requires.0 c0 c.in_ok-names.ensures in
     let c2 = put c.requires.0 c1 c.in_ok-put_sign-2.ensures in
     stop c2 c.in_err-put_token.ensures c.from_residual-in_err-put_token.ensures.0
 
 pub fn_decl-returns : goal.fn_decl-returns
 fn_decl-returns t c =
-    let s0 = entered stmt_l (fn_l c.args.w.now.node) c.args.w.now (is-fn (inp_of c.args.w.now) c.args.w.now.node c.requires.1) in
+    let s0 = fn-part c.args.w.now c.requires.1 in
     let s1 = put c.requires.0 s0 c.in_ok-block.ensures in
     let s2 = put c.requires.0 s1 c.in_ok-put_sign.ensures in
-    let c0 = tested (named_l c.args.w.now.node c.children-count.result) (c.put_sign.new.self.node - 1) s2 (is-params (inp_of c.put_sign.new.self) c.args.w.now.node c.put_sign.new.self.node c.children-count.result c.children-count.ensures) (omega arith) in
+    let c0 = named-part c.args.w.now.node c.put_sign.new.self s2 c.children-count.ensures in
     let c1 = put c.requires.0 c0 c.in_ok-names.ensures in
     let c2 = put c.requires.0 c1 c.in_ok-put_sign-2.ensures in
     let c3 = put c.requires.0 c2 c.in_ok-put_token.ensures in
@@ -206,37 +204,37 @@ for_stmt-overflow_sub-w t c = omega (arith, (stmt-root (inp_of c.args.w.now) c.r
 
 pub for_stmt-guarded-requires : goal.for_stmt-guarded-requires
 for_stmt-guarded-requires t c =
-    let c0 = entered stmt_l for_l c.args.w.now (is-for (inp_of c.args.w.now) c.args.w.now.node c.requires.1) in
+    let c0 = for-part c.args.w.now c.requires.1 in
     (omega (arith, c.decreases, (stmt-root (inp_of c.args.w.now) c.requires.0.tree c.requires.0.lo c.args.w.now.node c.requires.0.spans).some), spot c.requires.0 c0)
 
 pub for_stmt-returns-in_err-guarded : goal.for_stmt-returns-in_err-guarded
 for_stmt-returns-in_err-guarded t c =
-    let c0 = entered stmt_l for_l c.args.w.now (is-for (inp_of c.args.w.now) c.args.w.now.node c.requires.1) in
+    let c0 = for-part c.args.w.now c.requires.1 in
     stop c0 c.in_err-guarded.ensures c.from_residual.ensures.0
 
 pub for_stmt-returns-in_err-keyword : goal.for_stmt-returns-in_err-keyword
 for_stmt-returns-in_err-keyword t c =
-    let c0 = entered stmt_l for_l c.args.w.now (is-for (inp_of c.args.w.now) c.args.w.now.node c.requires.1) in
+    let c0 = for-part c.args.w.now c.requires.1 in
     let c1 = put c.requires.0 c0 c.in_ok-guarded.ensures in
     stop c1 c.in_err-keyword.ensures c.from_residual-in_err-keyword.ensures.0
 
 pub for_stmt-pair-requires : goal.for_stmt-pair-requires
 for_stmt-pair-requires t c =
-    let c0 = entered stmt_l for_l c.args.w.now (is-for (inp_of c.args.w.now) c.args.w.now.node c.requires.1) in
+    let c0 = for-part c.args.w.now c.requires.1 in
     let c1 = put c.requires.0 c0 c.in_ok-guarded.ensures in
     let c2 = put c.requires.0 c1 c.in_ok-keyword.ensures in
     spot c.requires.0 c2
 
 pub for_stmt-returns-in_err-pair : goal.for_stmt-returns-in_err-pair
 for_stmt-returns-in_err-pair t c =
-    let c0 = entered stmt_l for_l c.args.w.now (is-for (inp_of c.args.w.now) c.args.w.now.node c.requires.1) in
+    let c0 = for-part c.args.w.now c.requires.1 in
     let c1 = put c.requires.0 c0 c.in_ok-guarded.ensures in
     let c2 = put c.requires.0 c1 c.in_ok-keyword.ensures in
     stop c2 c.in_err-pair.ensures c.from_residual-in_err-pair.ensures.0
 
 pub for_stmt-returns : goal.for_stmt-returns
 for_stmt-returns t c =
-    let c0 = entered stmt_l for_l c.args.w.now (is-for (inp_of c.args.w.now) c.args.w.now.node c.requires.1) in
+    let c0 = for-part c.args.w.now c.requires.1 in
     let c1 = put c.requires.0 c0 c.in_ok-guarded.ensures in
     let c2 = put c.requires.0 c1 c.in_ok-keyword.ensures in
     let c3 = put c.requires.0 c2 c.in_ok-pair.ensures in
@@ -253,29 +251,29 @@ if_stmt-overflow_sub-w t c = omega (arith, (stmt-root (inp_of c.args.w.now) c.re
 
 pub if_stmt-branches-requires : goal.if_stmt-branches-requires
 if_stmt-branches-requires t c =
-    let c0 = entered stmt_l (if_l (c.children-count.result - 2)) c.args.w.now (is-if (inp_of c.args.w.now) c.args.w.now.node (c.children-count.result - 2) c.requires.1 (omega (arith, c.children-count.ensures, two-kids (inp_of c.args.w.now) c.requires.0.tree c.requires.0.lo c.args.w.now.node c.requires.0.spans c.requires.1))) in
+    let c0 = if-part c.args.w.now c.requires.0 c.requires.1 c.children-count.ensures in
     (omega (arith, c.decreases, (stmt-root (inp_of c.args.w.now) c.requires.0.tree c.requires.0.lo c.args.w.now.node c.requires.0.spans).some), spot c.requires.0 c0)
 
 pub if_stmt-returns-in_err-branches : goal.if_stmt-returns-in_err-branches
 if_stmt-returns-in_err-branches t c =
-    let c0 = entered stmt_l (if_l (c.children-count.result - 2)) c.args.w.now (is-if (inp_of c.args.w.now) c.args.w.now.node (c.children-count.result - 2) c.requires.1 (omega (arith, c.children-count.ensures, two-kids (inp_of c.args.w.now) c.requires.0.tree c.requires.0.lo c.args.w.now.node c.requires.0.spans c.requires.1))) in
+    let c0 = if-part c.args.w.now c.requires.0 c.requires.1 c.children-count.ensures in
     stop c0 c.in_err-branches.ensures c.from_residual.ensures.0
 
 pub if_stmt-guarded-requires : goal.if_stmt-guarded-requires
 if_stmt-guarded-requires t c =
-    let c0 = entered stmt_l (if_l (c.children-count.result - 2)) c.args.w.now (is-if (inp_of c.args.w.now) c.args.w.now.node (c.children-count.result - 2) c.requires.1 (omega (arith, c.children-count.ensures, two-kids (inp_of c.args.w.now) c.requires.0.tree c.requires.0.lo c.args.w.now.node c.requires.0.spans c.requires.1))) in
+    let c0 = if-part c.args.w.now c.requires.0 c.requires.1 c.children-count.ensures in
     let c1 = put c.requires.0 c0 c.in_ok-branches.ensures in
     (omega (arith, c.decreases, (stmt-root (inp_of c.args.w.now) c.requires.0.tree c.requires.0.lo c.args.w.now.node c.requires.0.spans).some, c.in_ok-branches.ensures.goes.node), spot c.requires.0 c1)
 
 pub if_stmt-returns-in_err-guarded : goal.if_stmt-returns-in_err-guarded
 if_stmt-returns-in_err-guarded t c =
-    let c0 = entered stmt_l (if_l (c.children-count.result - 2)) c.args.w.now (is-if (inp_of c.args.w.now) c.args.w.now.node (c.children-count.result - 2) c.requires.1 (omega (arith, c.children-count.ensures, two-kids (inp_of c.args.w.now) c.requires.0.tree c.requires.0.lo c.args.w.now.node c.requires.0.spans c.requires.1))) in
+    let c0 = if-part c.args.w.now c.requires.0 c.requires.1 c.children-count.ensures in
     let c1 = put c.requires.0 c0 c.in_ok-branches.ensures in
     stop c1 c.in_err-guarded.ensures c.from_residual-in_err-guarded.ensures.0
 
 pub if_stmt-returns : goal.if_stmt-returns
 if_stmt-returns t c =
-    let c0 = entered stmt_l (if_l (c.children-count.result - 2)) c.args.w.now (is-if (inp_of c.args.w.now) c.args.w.now.node (c.children-count.result - 2) c.requires.1 (omega (arith, c.children-count.ensures, two-kids (inp_of c.args.w.now) c.requires.0.tree c.requires.0.lo c.args.w.now.node c.requires.0.spans c.requires.1))) in
+    let c0 = if-part c.args.w.now c.requires.0 c.requires.1 c.children-count.ensures in
     let c1 = put c.requires.0 c0 c.in_ok-branches.ensures in
     let c2 = put c.requires.0 c1 c.in_ok-guarded.ensures in
     end c.requires.0 c2 c.keyword.ensures
@@ -284,13 +282,13 @@ pub stmt-kind-kind-requires : goal.stmt-kind-kind-requires
 stmt-kind-kind-requires t c = head c.args.w.now (stmt-root (inp_of c.args.w.now) c.requires.tree c.requires.lo c.args.w.now.node c.requires.spans)
 
 pub stmt-block-requires : goal.stmt-block-requires
-stmt-block-requires t c = (omega (arith, c.decreases), here c.requires (opened stmt_l (one block_l) c.args.w.now (is_block (inp_of c.args.w.now) c.args.w.now.node (sym c.kind-kind.ensures ∙ c.if-kind-eq-BLOCK.true))))
+stmt-block-requires t c = (omega (arith, c.decreases), here c.requires (block-part c.args.w.now c.kind-kind.ensures c.if-kind-eq-BLOCK.true))
 
 pub stmt-returns-then-kind-eq-BLOCK : goal.stmt-returns-then-kind-eq-BLOCK
-stmt-returns-then-kind-eq-BLOCK t c = end c.requires (opened stmt_l (one block_l) c.args.w.now (is_block (inp_of c.args.w.now) c.args.w.now.node (sym c.kind-kind.ensures ∙ c.if-kind-eq-BLOCK.true))) c.block.ensures
+stmt-returns-then-kind-eq-BLOCK t c = end c.requires (block-part c.args.w.now c.kind-kind.ensures c.if-kind-eq-BLOCK.true) c.block.ensures
 
 pub stmt-plain_stmt-requires : goal.stmt-plain_stmt-requires
-stmt-plain_stmt-requires t c = here c.requires (opened stmt_l (one plain_l) c.args.w.now (is_plain (inp_of c.args.w.now) c.args.w.now.node (λ e. c.if-kind-eq-BLOCK.false (c.kind-kind.ensures ∙ e)) (λ e. c.if-kind-eq-IF_STMT.false (c.kind-kind.ensures ∙ e)) (λ e. c.if-kind-eq-FOR_STMT.false (c.kind-kind.ensures ∙ e)) (λ e. c.if-kind-eq-FN_DECL.false (c.kind-kind.ensures ∙ e))))
+stmt-plain_stmt-requires t c = here c.requires (plain-part c.args.w.now c.kind-kind.ensures c.if-kind-eq-BLOCK.false c.if-kind-eq-IF_STMT.false c.if-kind-eq-FOR_STMT.false c.if-kind-eq-FN_DECL.false)
 
 pub stmt-returns : goal.stmt-returns
-stmt-returns t c = end c.requires (opened stmt_l (one plain_l) c.args.w.now (is_plain (inp_of c.args.w.now) c.args.w.now.node (λ e. c.if-kind-eq-BLOCK.false (c.kind-kind.ensures ∙ e)) (λ e. c.if-kind-eq-IF_STMT.false (c.kind-kind.ensures ∙ e)) (λ e. c.if-kind-eq-FOR_STMT.false (c.kind-kind.ensures ∙ e)) (λ e. c.if-kind-eq-FN_DECL.false (c.kind-kind.ensures ∙ e)))) c.plain_stmt.ensures
+stmt-returns t c = end c.requires (plain-part c.args.w.now c.kind-kind.ensures c.if-kind-eq-BLOCK.false c.if-kind-eq-IF_STMT.false c.if-kind-eq-FOR_STMT.false c.if-kind-eq-FN_DECL.false) c.plain_stmt.ensures

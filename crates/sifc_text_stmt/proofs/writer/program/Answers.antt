@@ -1,14 +1,13 @@
 use native.Mathlib.Omega.{arith}
 use Prim.Native.Nat.{◌+◌, ◌-◌}
-use Rattle.sifc_put.specs.Post.{inp_of, one, row_l}
-use Rattle.sifc_put.specs.Frame.{entered, spot, put, stop}
+use Rattle.sifc_put.specs.Frame.{spot, put, stop}
 use Rattle.sifc_put.specs.Rows.{recounted, next-row, no_row}
-use Rattle.sifc_text_stmt.specs.Kinds.{line_l, program_l}
-use Rattle.sifc_text_stmt.proofs.Forms.{is-program, line-spot}
+use Rattle.sifc_text_stmt.specs.Kinds.{line_l}
+use Rattle.sifc_text_stmt.proofs.Forms.{lines-part, line-spot}
 use Rattle.sifc_text_stmt.proofs.writer.program.Goals as goal
 
 pub loop-init : goal.loop-init
-loop-init c = recounted line_l (c.children-count.result - 0) (omega arith) (entered program_l (one (row_l line_l c.children-count.result)) c.args.w.now (is-program (inp_of c.args.w.now) c.args.w.now.node c.children-count.result c.children-count.ensures))
+loop-init c = recounted line_l (c.children-count.result - 0) (omega arith) (lines-part c.args.w.now c.children-count.ensures)
 
 pub line-requires : goal.line-requires
 line-requires c = line-spot c.loop.w (spot c.requires (next-row line_l (c.children-count.result - c.loop.counter) (c.children-count.result - (c.loop.counter + 1)) (omega (arith, c.loop-test.true)) c.loop.invariant))
