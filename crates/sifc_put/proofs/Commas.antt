@@ -10,7 +10,7 @@ use Rattle.sifc_put.specs.declared.write.Full.{Full}
 use Rattle.sifc_put.specs.declared.write.Writer.{Writer}
 use Rattle.sifc_put.specs.Place.{token_of}
 use Rattle.sifc_put.specs.Post.{Placed, Wrote, Writes, fixed, comma, token_l, leaf_l}
-use Rattle.sifc_put.specs.Frame.{fixed-writes}
+use Rattle.sifc_put.proofs.Frame.{fixed-writes}
 use Rattle.sifc_put.proofs.Stores.{placed-long}
 
 -- Bytes that are placed are written.

@@ -14,7 +14,7 @@ use Rattle.sifc_put.specs.declared.write.Writer.{Writer}
 use Rattle.sifc_put.specs.Post.{Kind, inp_of, kind_of, children_of, height_of, Pieces, one, seq, made, fixed, token_l, leaf_l, commas, height_at}
 use Rattle.sifc_put.specs.Bytes.{worded, spaced, bytes_of, puts-wrap, puts-E, puts-Es, spaced-puts}
 use Rattle.sifc_put.specs.Spans.{Spans, SpansAll}
-use Rattle.sifc_put.specs.Frame.{Narrow, Part, down, opened, entered, tested}
+use Rattle.sifc_put.proofs.Frame.{Narrow, Part, down, opened, entered, tested}
 use Rattle.sifc_text_expr.specs.Kinds.{expr_l, operand_l, exprs_l, subscript_l, linked_l}
 use Rattle.sifc_text_expr.proofs.Roots.{below_next, tight, loose, high}
 

@@ -16,7 +16,7 @@ use Rattle.sifc_put.specs.declared.write.Writer.{Writer}
 use Rattle.sifc_put.specs.Post.{Kind, kind_of, children_of, Pieces, one, seq, made, fixed, token_l, leaf_l, commas, inp_of, InHeads, Writes}
 use Rattle.sifc_put.specs.Bytes.{worded, spaced, spaced-append, Puts, puts-E, puts-Es, puts-I, bytes_of, spaced-puts}
 use Rattle.sifc_put.specs.Spans.{Single, Spans, SpansItems, SpansArray}
-use Rattle.sifc_put.specs.Frame.{Narrow, Part, down, opening, opened, entered, narrowed, empty}
+use Rattle.sifc_put.proofs.Frame.{Narrow, Part, down, opening, opened, entered, narrowed, empty}
 use Rattle.sifc_text_expr.specs.Kinds.{expr_l, exprs_l}
 use Rattle.sifc_text_expr.proofs.Roots.{readable}
 use Rattle.sifc_text_expr.proofs.Forms.{listed, listed-many, listed-bytes, listed-along}

@@ -15,7 +15,7 @@ use Rattle.sifc_put.specs.Post.{kind_of, children_of, inp_of, Lang, Kind, Pieces
 use Rattle.sifc_put.specs.Bytes.{worded, spaced, bytes_of, spaced-puts, puts-E, puts-N, puts-S, puts-Ss, puts-Bs}
 use Rattle.sifc_put.specs.Spans.{SpansNames, SpansS, SpansSs, SpansBs}
 use Rattle.sifc_put.specs.declared.write.Writer.{Writer}
-use Rattle.sifc_put.specs.Frame.{Narrow, Part, down, opened, entered, tested}
+use Rattle.sifc_put.proofs.Frame.{Narrow, Part, down, opened, entered, tested}
 use Rattle.sifc_text_plain.specs.Kinds.{names_l, pair_l, expression, an_array, a_table, pr_value, SpansValue, unset, set_to, pr_var, SpansVar, Plain, variable, returned, return_of, evaluated, pr_plain, SpansPlain, plain_l}
 use Rattle.sifc_text_stmt.specs.Kinds.{stmt_l, stmts_l, pr_block, block_l, guarded_l, Branch, elif, els, pr_branch, SpansBranch, branch_l, branches_l, line_l, program_l}
 use Rattle.sifc_text_plain.proofs.Forms.{word_l, names-bytes, kind_at, kids_at, Root, root-of, names-along, plain-root, plain-kind}

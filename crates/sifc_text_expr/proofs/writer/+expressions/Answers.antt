@@ -2,8 +2,8 @@ use native.Mathlib.Omega.{arith}
 use mathlib.Core.Path.{sym, ◌∙◌}
 use Prim.Native.Nat.{◌-◌}
 use Rattle.sifc_put.specs.Post.{inp_of}
-use Rattle.sifc_put.specs.Frame.{spot, put, here, end, stop}
-use Rattle.sifc_put.specs.Rows.{next-list, no-list}
+use Rattle.sifc_put.proofs.Frame.{spot, put, here, end, stop}
+use Rattle.sifc_put.proofs.Rows.{next-list, no-list}
 use Rattle.sifc_text_expr.specs.Kinds.{expr_l}
 use Rattle.sifc_text_expr.proofs.Roots.{readable, root, root-head}
 use Rattle.sifc_text_expr.proofs.Forms.{counts_target, bare-part, closed-part, prim-part, one-part, chain-part, call-part, subscript-part, index-part, element-part, dot-part, set-part, joined-part, two-part, left-part}

@@ -1,7 +1,7 @@
 use native.Mathlib.Omega.{arith}
 use mathlib.Core.Path.{◌∙◌}
 use Rattle.sifc_put.specs.Post.{inp_of}
-use Rattle.sifc_put.specs.Frame.{spot, put, end, stop}
+use Rattle.sifc_put.proofs.Frame.{spot, put, end, stop}
 use Rattle.sifc_text_plain.proofs.Forms.{head, array-list, array-root, bare-part, array-part}
 use Rattle.sifc_text_plain.proofs.plain.array.Goals as goal
 

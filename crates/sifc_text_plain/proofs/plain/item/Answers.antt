@@ -1,4 +1,4 @@
-use Rattle.sifc_put.specs.Frame.{put, end, stop}
+use Rattle.sifc_put.proofs.Frame.{put, end, stop}
 use Rattle.sifc_text_plain.proofs.Forms.{item-part}
 use Rattle.sifc_text_plain.proofs.plain.item.Goals as goal
 

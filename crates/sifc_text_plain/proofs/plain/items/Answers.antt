@@ -1,6 +1,6 @@
 use native.Mathlib.Omega.{arith}
-use Rattle.sifc_put.specs.Frame.{spot, put, stop}
-use Rattle.sifc_put.specs.Rows.{next-list, no-list}
+use Rattle.sifc_put.proofs.Frame.{spot, put, stop}
+use Rattle.sifc_put.proofs.Rows.{next-list, no-list}
 use Rattle.sifc_text_plain.specs.Kinds.{item_l}
 use Rattle.sifc_text_plain.proofs.plain.items.Goals as goal
 

@@ -1,7 +1,7 @@
 use native.Mathlib.Omega.{arith}
 use Rattle.sifc_put.specs.Post.{leaf_l}
-use Rattle.sifc_put.specs.Frame.{spot, put, stop}
-use Rattle.sifc_put.specs.Rows.{next-list, no-list}
+use Rattle.sifc_put.proofs.Frame.{spot, put, stop}
+use Rattle.sifc_put.proofs.Rows.{next-list, no-list}
 use Rattle.sifc_text_plain.proofs.plain.names.Goals as goal
 
 pub leaf-requires : goal.leaf-requires

@@ -1,5 +1,5 @@
 use Rattle.sifc_put.specs.Post.{one}
-use Rattle.sifc_put.specs.Frame.{Part}
+use Rattle.sifc_put.proofs.Frame.{Part}
 use Rattle.sifc_text_plain.specs.Kinds.{names_l}
 use Rattle.sifc_text_plain.proofs.plain.names.Given as goal
 

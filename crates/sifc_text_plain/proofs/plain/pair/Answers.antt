@@ -1,4 +1,4 @@
-use Rattle.sifc_put.specs.Frame.{put, here, end, stop}
+use Rattle.sifc_put.proofs.Frame.{put, here, end, stop}
 use Rattle.sifc_text_plain.proofs.Forms.{pair-part}
 use Rattle.sifc_text_plain.proofs.plain.pair.Goals as goal
 

@@ -1,6 +1,6 @@
 use native.Mathlib.Omega.{arith}
 use Rattle.sifc_put.specs.Post.{inp_of}
-use Rattle.sifc_put.specs.Frame.{spot, put, here, end, stop}
+use Rattle.sifc_put.proofs.Frame.{spot, put, here, end, stop}
 use Rattle.sifc_text_plain.proofs.Forms.{head, plain-root, var-part, bodied-part, return-part, led-part, word-part, done-part}
 use Rattle.sifc_text_plain.proofs.plain.plain_stmt.Goals as goal
 

@@ -1,4 +1,4 @@
-use Rattle.sifc_put.specs.Frame.{spot, put, end, stop}
+use Rattle.sifc_put.proofs.Frame.{spot, put, end, stop}
 use Rattle.sifc_text_plain.proofs.Forms.{table-part}
 use Rattle.sifc_text_plain.proofs.plain.table.Goals as goal
 

@@ -1,5 +1,5 @@
 use Rattle.sifc_put.specs.Post.{inp_of}
-use Rattle.sifc_put.specs.Frame.{here, end}
+use Rattle.sifc_put.proofs.Frame.{here, end}
 use Rattle.sifc_text_plain.proofs.Forms.{head, value-root, array-value-part, table-value-part, expr-value-part}
 use Rattle.sifc_text_plain.proofs.plain.value.Goals as goal
 

@@ -1,6 +1,6 @@
 use native.Mathlib.Omega.{arith}
 use Rattle.sifc_put.specs.Post.{inp_of}
-use Rattle.sifc_put.specs.Frame.{spot, put, end, stop}
+use Rattle.sifc_put.proofs.Frame.{spot, put, end, stop}
 use Rattle.sifc_text_plain.proofs.Forms.{head, var-root, declared-part, unset-part, set-part}
 use Rattle.sifc_text_plain.proofs.plain.var_decl.Goals as goal
 

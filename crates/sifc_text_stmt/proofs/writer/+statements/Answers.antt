@@ -1,8 +1,8 @@
 use native.Mathlib.Omega.{arith}
 use Prim.Native.Nat.{◌+◌, ◌-◌}
 use Rattle.sifc_put.specs.Post.{inp_of}
-use Rattle.sifc_put.specs.Frame.{spot, put, here, end, stop}
-use Rattle.sifc_put.specs.Rows.{next-row, no_row}
+use Rattle.sifc_put.proofs.Frame.{spot, put, here, end, stop}
+use Rattle.sifc_put.proofs.Rows.{next-row, no_row}
 use Rattle.sifc_text_plain.proofs.Forms.{head}
 use Rattle.sifc_text_stmt.specs.Kinds.{stmt_l, branch_l}
 use Rattle.sifc_text_stmt.proofs.Forms.{stmt-root, branch-root, two-kids, block-part, braced-part, plain-part, elif-part, else-part, if-part, for-part, fn-part, named-part}

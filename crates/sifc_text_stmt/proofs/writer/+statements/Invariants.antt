@@ -1,6 +1,6 @@
 use Rattle.std.proofs.Common.{◌+◌, ◌-◌, ◌*◌}
 use Rattle.sifc_put.specs.Post.{one}
-use Rattle.sifc_put.specs.Frame.{Part}
+use Rattle.sifc_put.proofs.Frame.{Part}
 use Rattle.sifc_text_stmt.specs.Kinds.{stmts_l, branches_l}
 use Rattle.sifc_text_stmt.proofs.writer.+statements.Given as goal
 

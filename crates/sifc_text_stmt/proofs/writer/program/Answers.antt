@@ -1,7 +1,7 @@
 use native.Mathlib.Omega.{arith}
 use Prim.Native.Nat.{◌+◌, ◌-◌}
-use Rattle.sifc_put.specs.Frame.{spot, put, stop}
-use Rattle.sifc_put.specs.Rows.{recounted, next-row, no_row}
+use Rattle.sifc_put.proofs.Frame.{spot, put, stop}
+use Rattle.sifc_put.proofs.Rows.{recounted, next-row, no_row}
 use Rattle.sifc_text_stmt.specs.Kinds.{line_l}
 use Rattle.sifc_text_stmt.proofs.Forms.{lines-part, line-spot}
 use Rattle.sifc_text_stmt.proofs.writer.program.Goals as goal

@@ -1,5 +1,5 @@
-use Rattle.sifc_put.specs.Frame.{fixed-writes}
-use Rattle.sifc_put.specs.Steps.{still, begin}
+use Rattle.sifc_put.proofs.Frame.{fixed-writes}
+use Rattle.sifc_put.proofs.Steps.{still, begin}
 use Rattle.sifc_put.proofs.Commas.{comma-none, comma-some}
 use Rattle.sifc_put.proofs.write.Writer.separator.Goals as goal
 

@@ -6,7 +6,7 @@ use Rattle.sifc_put.specs.declared.write.Full.{Full}
 use Rattle.sifc_put.specs.declared.write.Writer.{Writer}
 use Rattle.sifc_put.specs.Place.{Inp}
 use Rattle.sifc_put.specs.Post.{Placed, Wrote, Lang, Kind, inp_in, inp_of, SpotOf, At, Goes, Writes, fixed, Pieces, one, seq, made}
-use Rattle.sifc_put.specs.Steps.{begin, gone, both, stops, ends, renode, still, further}
+use Rattle.sifc_put.proofs.Steps.{begin, both, stops, ends, renode, still, further}
 
 -- What is left: a thing of kind M before q's node; its bytes and what is done make up w.
 pub record Rest (M : Lang) (w : List ℕ) (lo : ℕ) (p q : Writer) : Type 0 where

@@ -5,7 +5,7 @@ use Rattle.std.proofs.Math.Path.{refl, sym, ap}
 use mathlib.Core.List.{List, [], ◌∷◌, ◌++◌, append_assoc, append-nil}
 use Rattle.sifc_put.specs.Place.{Along}
 use Rattle.sifc_put.specs.Post.{Lang, Kind, inp_of, Writes, fixed, one, seq, made, comma, cat, commas, row_l, list_l}
-use Rattle.sifc_put.specs.Frame.{Narrow, Part, tested, empty}
+use Rattle.sifc_put.proofs.Frame.{Narrow, Part, tested, empty}
 use Rattle.std.specs.Prelude.{Ok}
 use Rattle.sifc_put.specs.declared.write.Writer.{Writer}
 use Rattle.sifc_put.specs.Place.{Inp}

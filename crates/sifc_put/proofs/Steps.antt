@@ -10,14 +10,6 @@ use Rattle.sifc_put.specs.Post.{Placed, Wrote, WroteOf, Goes}
 pub begin : {text : List ℕ} {lo at : ℕ} → Placed [] text lo at lo at text
 begin {text} {lo} {at} = record { node = refl; room = omega arith; same = sym (take-append-drop at text) }
 
--- a call that is done
-pub gone : {r : Result Unit Full} {v : List ℕ} {lo : ℕ} {p q : Writer} → Wrote v lo p r q → r ≡ Ok tt → Placed v p.text.now lo p.at q.node q.at q.text.now
-gone {r} {v} {lo} {p} {q} w e = subst (λ (x : Result Unit Full). WroteOf v lo p x q) e w.by
-
--- a call that has no room
-pub full : {r : Result Unit Full} {v : List ℕ} {lo : ℕ} {p q : Writer} {f : Full} → Wrote v lo p r q → r ≡ Err f → p.at < length v
-full {r} {v} {lo} {p} {q} w e = subst (λ (x : Result Unit Full). WroteOf v lo p x q) e w.by
-
 -- The node is that of what is placed.
 pub renode : {w text t : List ℕ} {lo at n a : ℕ} → Placed w text lo at n a t → Placed w text n at n a t
 renode p = record { node = refl; room = p.room; same = p.same }
