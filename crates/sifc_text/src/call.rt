@@ -8,6 +8,7 @@ ghost use Rattle.sifc_text.specs.Post.{Left, Texts};
 use sifc_def::Summary;
 use sifc_err::Refusal;
 use sifc_lent::{clear_used, entry_tests};
+use sifc_put::Tree;
 use sifc_read::after_entry;
 use sifc_write::write_tree;
 
@@ -38,12 +39,14 @@ fn write_found(
         text.fill(0);
         return Err(Refusal::Flagged);
     }
-    let os = &offs[..tokens];
-    let ws = &words[..tokens];
-    let hs = &heads[..nodes];
-    let ls = &loads[..nodes];
-    let put = write_tree(script, os, ws, hs, ls, text);
-    match put {
+    let tree = Tree {
+        script,
+        offs: &offs[..tokens],
+        words: &words[..tokens],
+        heads: &heads[..nodes],
+        loads: &loads[..nodes],
+    };
+    match write_tree(tree, text) {
         Ok(n) => Ok(n),
         Err(refusal) => {
             clear_used(
