@@ -11,7 +11,6 @@ ghost use Rattle.sifc_lent.specs.Parts.{arrays};
 ghost use Rattle.sifc_told.specs.Hosts.{answer, early_numbers, read_answer, told as told_of, text_answer, text_told, told_text};
 
 pub use deepest::sif_deepest;
-use sifc_tokens::TokensAnswer;
 use sifc_told::{told, told_text};
 pub use value::sif_value;
 
@@ -29,13 +28,13 @@ pub fn sif_tokens(
 {
     let said = sifc_tokens::tokens(script, offs, words);
     match said {
-        TokensAnswer::Count(n) => {
+        Ok(n) => {
             *count = n as u32;
             *kind = 0;
             *offset = 0;
             0
         }
-        TokensAnswer::Refused(refusal) => {
+        Err(refusal) => {
             *count = 0;
             *kind = refusal.kind();
             *offset = refusal.offset() as u32;

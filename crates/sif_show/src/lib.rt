@@ -6,7 +6,6 @@ mod entries;
 
 pub use entries::{Entry, after_newline, entry_at};
 use sifc_err::Refusal;
-use sifc_tokens::TokensAnswer;
 use std::io;
 use std::io::Write;
 
@@ -62,10 +61,9 @@ fn print_spelling<W: Write>(out: &mut W, text: &[u8], kind: u32, layout: Layout)
 }
 
 // KIND:LINE:COLUMN:SPELLING of one token.
-fn print_token<'a, W: Write>(
+fn print_token<W: Write>(
     out: &mut W,
-    script: &'a [u8],
-    fixed: &'a [u8],
+    script: &[u8],
     off: u32,
     word: u32,
     layout: Layout,
@@ -80,7 +78,7 @@ fn print_token<'a, W: Write>(
     print(out, b":")?;
     print_number(out, place.pos)?;
     print(out, b":")?;
-    let text = sifc_word::spelling(script, fixed, kind, at, len);
+    let text = sifc_word::spelling(script, kind, at, len);
     print_spelling(out, text, kind, layout)
 }
 
@@ -114,7 +112,6 @@ fn print_tokens<W: Write>(
     n: usize,
     layout: Layout,
 ) -> io::Result<()> {
-    let fixed = sifc_word::spellings();
     for i in 0..n {
         if offs.len() <= i {
             break;
@@ -123,7 +120,7 @@ fn print_tokens<W: Write>(
             break;
         }
         print_gap(out, i, layout)?;
-        print_token(out, script, &fixed, offs[i], words[i], layout)?;
+        print_token(out, script, offs[i], words[i], layout)?;
     }
     Ok(())
 }
@@ -134,7 +131,7 @@ pub fn show<W: Write>(out: &mut W, script: &[u8], layout: Layout) -> io::Result<
     let mut words = [0u32; 4097];
     let said = sifc_tokens::tokens(script, &mut offs, &mut words);
     match said {
-        TokensAnswer::Count(n) => print_tokens(out, script, &offs, &words, n, layout),
-        TokensAnswer::Refused(refusal) => print_refusal(out, refusal),
+        Ok(n) => print_tokens(out, script, &offs, &words, n, layout),
+        Err(refusal) => print_refusal(out, refusal),
     }
 }

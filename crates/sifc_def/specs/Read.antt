@@ -7,12 +7,10 @@ use Rattle.sifc_err.specs.declared.Ending.TheVariants.{TrueEnd, UnknownChar, Unt
 use Rattle.sifc_err.specs.declared.Refusal.{Refusal}
 use Rattle.sifc_err.specs.declared.Refusal.TheVariants.{Uneven, TokensFull, Flagged, TextFull}
 use Rattle.sifc_err.specs.Refusal.{number_of, kind_of, offset_of}
-use Rattle.sifc_tokens.specs.declared.call.Checked.{Checked}
-use Rattle.sifc_tokens.specs.declared.call.Checked.TheVariants.{Fine}
-use Rattle.sifc_tokens.specs.declared.call.Checked.TheVariants as check
+use Rattle.std.specs.declared.result.Result.TheVariants as check
 use Rattle.sifc_word.specs.Base.{if◌then◌otherwise◌}
 use Rattle.sifc_lex.specs.Lex.{lex, ending}
-use Rattle.sifc_tokens.specs.Tokens.{offs_of, words_of, padded, zeroed, check_of}
+use Rattle.sifc_tokens.specs.Tokens.{passed, Checked, offs_of, words_of, padded, zeroed, check_of}
 use Rattle.sifc_def.specs.declared.Err.{Err}
 use Rattle.sifc_def.specs.declared.Early.{Early}
 use Rattle.sifc_def.specs.declared.Early.TheVariants.{Never, By}
@@ -77,7 +75,7 @@ unfoldable pub even : Arrays → Bool
 even a = eqb (length a.offs) (length a.words) && (eqb (length a.heads) (length a.loads) && eqb (length a.places) (length a.reasons))
 
 unfoldable pub entry : List ℕ → Arrays → Checked
-entry s a = elim (check_of s) [ check.Refused r ↦ check.Refused r | Fine ↦ if even a then Fine otherwise check.Refused Uneven ]
+entry s a = elim (check_of s) [ check.Err r ↦ check.Err r | check.Ok _ ↦ if even a then passed otherwise check.Err Uneven ]
 
 -- ── the token list and the walk: refusals 4 to 9 ──
 
@@ -157,7 +155,7 @@ answered s a (refused r) = called (Refused r) (cleared_arrays a)
 -- The reading call: from the script and the lent arrays to the answer and the arrays as it leaves them. "1 to 3 touch nothing".
 unfoldable pub reading : List ℕ → Arrays → Called Reading
 unfolding even entry ended read answered walk lex ending offs_of words_of padded zeroed check_of parse_err err_place if◌then◌otherwise◌
-reading s a = elim (entry s a) [ check.Refused r ↦ called (Refused r) a | Fine ↦ answered s a (read (rooms_of a) s) ]
+reading s a = elim (entry s a) [ check.Err r ↦ called (Refused r) a | check.Ok _ ↦ answered s a (read (rooms_of a) s) ]
 
 -- ── the text call ──
 
@@ -185,7 +183,7 @@ texted s a t (found f) =
 -- The text call, with a text buffer. After a success the arrays hold what the reading leaves in them.
 unfoldable pub text_call : List ℕ → Arrays → List ℕ → Written
 unfolding even entry ended read text_found texted walk lex ending offs_of words_of padded zeroed check_of parse_err err_place text has_token scope_of text_of if◌then◌otherwise◌
-text_call s a t = elim (entry s a) [ check.Refused r ↦ written (NoText r) a t | Fine ↦ texted s a t (read (rooms_of a) s) ]
+text_call s a t = elim (entry s a) [ check.Err r ↦ written (NoText r) a t | check.Ok _ ↦ texted s a t (read (rooms_of a) s) ]
 
 -- ── the answers in this paper's numbers: "The answer is number, kind, offset, else zeros." ──
 

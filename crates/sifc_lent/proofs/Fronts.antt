@@ -8,12 +8,10 @@ use lib.ListN.{length, take, drop, get_or, replicate, length-append, length-drop
 use lib.Seq.{length-take-le, take_at}
 use Rattle.sifc_err.specs.declared.Refusal.{Refusal}
 use Rattle.sifc_err.specs.declared.Refusal.TheVariants.{Uneven}
-use Rattle.sifc_tokens.specs.declared.call.Checked.{Checked}
-use Rattle.sifc_tokens.specs.declared.call.Checked.TheVariants.{Fine}
-use Rattle.sifc_tokens.specs.declared.call.Checked.TheVariants as check
+use Rattle.std.specs.declared.result.Result.TheVariants as check
 use Rattle.sifc_word.specs.Base.{if◌then◌otherwise◌}
 use Rattle.sifc_lex.specs.Lex.{token}
-use Rattle.sifc_tokens.specs.Tokens.{padded, zeroed, check_of}
+use Rattle.sifc_tokens.specs.Tokens.{passed, Checked, padded, zeroed, check_of}
 use Rattle.sifc_def.specs.State.{token_at}
 use Rattle.sifc_def.specs.Read.{Arrays, cleared_arrays, even, entry}
 use Rattle.sifc_symtab.specs.Toks.{toks_of, toks-at}
@@ -43,21 +41,21 @@ six-cleared o w h l p r eo ew eh el ep er = same-arrays eo ew eh el refl ep er
 
 -- what the tests of entry come to, by that of the script and that of the lengths
 abbrev by_tests : Checked → Bool → Checked
-by_tests k b = elim k [ check.Refused r ↦ check.Refused r | Fine ↦ if b then Fine otherwise check.Refused Uneven ]
+by_tests k b = elim k [ check.Err r ↦ check.Err r | check.Ok _ ↦ if b then passed otherwise check.Err Uneven ]
 
 entry-is : (s : List ℕ) (a : Arrays) → by_tests (check_of s) (even a) ≡ entry s a
 unfolding entry
 entry-is s a = refl
 
-pub entry-passed : (s : List ℕ) (a : Arrays) → check_of s ≡ Fine → even a ≡ true → Fine ≡ entry s a
+pub entry-passed : (s : List ℕ) (a : Arrays) → check_of s ≡ passed → even a ≡ true → passed ≡ entry s a
 unfolding if◌then◌otherwise◌
 entry-passed s a e f = sym (ap₂ by_tests e f) ∙ entry-is s a
 
-pub entry-uneven : (s : List ℕ) (a : Arrays) → check_of s ≡ Fine → even a ≡ false → check.Refused Uneven ≡ entry s a
+pub entry-uneven : (s : List ℕ) (a : Arrays) → check_of s ≡ passed → even a ≡ false → check.Err Uneven ≡ entry s a
 unfolding if◌then◌otherwise◌
 entry-uneven s a e f = sym (ap₂ by_tests e f) ∙ entry-is s a
 
-pub entry-refused : (s : List ℕ) (a : Arrays) (f : Refusal) → check_of s ≡ check.Refused f → check.Refused f ≡ entry s a
+pub entry-refused : (s : List ℕ) (a : Arrays) (f : Refusal) → check_of s ≡ check.Err f → check.Err f ≡ entry s a
 entry-refused s a f e = sym (ap (λ (k : Checked). by_tests k (even a)) e) ∙ entry-is s a
 
 -- the token of two words

@@ -4,7 +4,7 @@ ghost use Rattle.sifc_def.specs.Read.{entry as entry_of, even as even_of};
 ghost use Rattle.sifc_lent.specs.Parts.{arrays};
 
 use sifc_err::Refusal;
-use sifc_tokens::{Checked, check_script};
+use sifc_tokens::check_script;
 
 // Whether each two parallel arrays have one length.
 fn even(
@@ -35,17 +35,12 @@ pub fn entry(
     loads: &[u32],
     places: &[u32],
     reasons: &[u32],
-) -> Checked
+) -> Result<(), Refusal>
     ensures { result ≡ entry_of script.now (arrays offs.now words.now heads.now loads.now [] places.now reasons.now) }
 {
-    let checked = check_script(script);
-    match checked {
-        Checked::Refused(refusal) => Checked::Refused(refusal),
-        Checked::Fine => {
-            if even(offs, words, heads, loads, places, reasons) {
-                return Checked::Fine;
-            }
-            Checked::Refused(Refusal::Uneven)
-        }
+    check_script(script)?;
+    if even(offs, words, heads, loads, places, reasons) {
+        return Ok(());
     }
+    Err(Refusal::Uneven)
 }

@@ -7,10 +7,9 @@ use crate::finish::finish;
 use sifc_def::Reading;
 use sifc_err::{Ending, Refusal};
 use sifc_lent::{clear_all, entry_tests};
-use sifc_lex::LexAnswer;
 use sifc_program::parse;
 use sifc_step::Limits;
-use sifc_tokens::{Checked, lex_tokens};
+use sifc_tokens::lex_tokens;
 
 // The kind of the lexing panic that ends the tokens, if one does.
 fn fault_of(ending: Ending) -> u32
@@ -39,19 +38,28 @@ pub fn after_entry(
     ensures { called result (arrays offs.new words.new heads.new loads.new symbols.new places.new reasons.new) ≡ answered script.now (arrays offs.old words.old heads.old loads.old symbols.old places.old reasons.old) (read (rooms_of (arrays offs.old words.old heads.old loads.old symbols.old places.old reasons.old)) script.now) }
 {
     let lexed = lex_tokens(script, offs, words);
-    let LexAnswer::Ended(n, ending, _) = lexed else {
+    let Ok(ended) = lexed else {
         clear_all(offs, words, heads, loads, symbols, places, reasons, 0);
         return Reading::Refused(Refusal::TokensFull);
     };
     let lim = Limits {
         errors: places.len(),
-        fault: fault_of(ending),
+        fault: fault_of(ended.ending),
     };
-    let os = &offs[..n];
-    let ws = &words[..n];
+    let os = &offs[..ended.count];
+    let ws = &words[..ended.count];
     let walked = parse(script, os, ws, symbols, heads, loads, places, reasons, lim);
     finish(
-        script, offs, words, heads, loads, symbols, places, reasons, n, walked,
+        script,
+        offs,
+        words,
+        heads,
+        loads,
+        symbols,
+        places,
+        reasons,
+        ended.count,
+        walked,
     )
 }
 
@@ -75,7 +83,7 @@ pub fn reading(
 {
     let checked = entry_tests(script, offs, words, heads, loads, places, reasons);
     match checked {
-        Checked::Fine => after_entry(script, offs, words, heads, loads, symbols, places, reasons),
-        Checked::Refused(refusal) => Reading::Refused(refusal),
+        Ok(()) => after_entry(script, offs, words, heads, loads, symbols, places, reasons),
+        Err(refusal) => Reading::Refused(refusal),
     }
 }

@@ -11,9 +11,7 @@ use Rattle.sifc_err.specs.declared.Refusal.TheVariants.{Uneven, TokensFull}
 use Rattle.sifc_err.specs.declared.parse_err.ParseErr.{ParseErr}
 use Rattle.sifc_err.specs.ParseErr.{values_of}
 use Rattle.sifc_tokens.specs.declared.place.Place.{Place}
-use Rattle.sifc_tokens.specs.declared.call.Checked.{Checked}
-use Rattle.sifc_tokens.specs.declared.call.Checked.TheVariants.{Fine}
-use Rattle.sifc_tokens.specs.declared.call.Checked.TheVariants as check
+use Rattle.std.specs.declared.result.Result.TheVariants as check
 use Rattle.sifc_word.specs.Base.{if◌then◌otherwise◌}
 use Rattle.sifc_lex.specs.Lex.{lex}
 use Rattle.sifc_lex.proofs.LexLaws.{lex-count}
@@ -37,6 +35,7 @@ use Rattle.sifc_lent.specs.Parts.{bare}
 use Rattle.sifc_record.specs.Record.{invalid_tkn, why_by, why_of, record_of, records_in}
 use Rattle.sifc_records.specs.Records.{call_of, errors_of, entry_records, Recorded, recorded, records_of, reading_records}
 use Rattle.sifc_records.proofs.Listed.{Spoken, Listed, walk-lists}
+use Rattle.sifc_tokens.specs.Tokens.{passed, Checked}
 
 -- ── one error ──
 
@@ -168,7 +167,7 @@ module _ (r : Rooms) (s : List ℕ) where
 
 -- the tests of entry, by those of the call on words and whether there are as many records
 abbrev pub entry_by : Checked → Bool → Checked
-entry_by k b = elim k [ check.Refused r ↦ check.Refused r | Fine ↦ if b then Fine otherwise check.Refused Uneven ]
+entry_by k b = elim k [ check.Err r ↦ check.Err r | check.Ok _ ↦ if b then passed otherwise check.Err Uneven ]
 
 -- it is the definition's
 pub entry-by : (s : List ℕ) (a : Arrays) (n : ℕ) → entry_by (entry s a) (eqb (length a.places) n) ≡ entry_records s a n
@@ -179,8 +178,8 @@ entry-by s a n = refl
 abbrev pub records_by : List ℕ → Arrays → List ParseErr → Checked → Recorded
 records_by s a rs k =
     elim k [
-      | check.Refused r ↦ recorded (Refused r) a rs
-      | Fine ↦ recorded (answered s a (read (rooms_of a) s)).answer (answered s a (read (rooms_of a) s)).arrays (records_of (ctx_of (rooms_of a) s) (length rs) (read (rooms_of a) s))
+      | check.Err r ↦ recorded (Refused r) a rs
+      | check.Ok _ ↦ recorded (answered s a (read (rooms_of a) s)).answer (answered s a (read (rooms_of a) s)).arrays (records_of (ctx_of (rooms_of a) s) (length rs) (read (rooms_of a) s))
     ]
 
 -- it is the definition's
@@ -197,28 +196,28 @@ pub records-agree : (s : List ℕ) (a : Arrays) (rs : List ParseErr) → length 
 unfolding reading if◌then◌otherwise◌
 records-agree s a rs l = ap call_of (records-even s a rs l) ∙ go (entry s a)
   where
-    go : (k : Checked) → call_of (records_by s a rs (entry_by k true)) ≡ elim k as (λ z. Called Reading) [ check.Refused r ↦ called (Refused r) a | Fine ↦ answered s a (read (rooms_of a) s) ]
-    go (check.Refused f) = refl
-    go Fine = refl
+    go : (k : Checked) → call_of (records_by s a rs (entry_by k true)) ≡ elim k as (λ z. Called Reading) [ check.Err r ↦ called (Refused r) a | check.Ok _ ↦ answered s a (read (rooms_of a) s) ]
+    go (check.Err f) = refl
+    go (check.Ok _) = refl
 
 -- Where there are not, and the call on words would pass its tests of entry, it is refusal 3 and nothing is touched.
-pub records-uneven : (s : List ℕ) (a : Arrays) (rs : List ParseErr) → entry s a ≡ Fine → (length a.places ≡ length rs → ⊥) → reading_records s a rs ≡ recorded (Refused Uneven) a rs
+pub records-uneven : (s : List ℕ) (a : Arrays) (rs : List ParseErr) → entry s a ≡ passed → (length a.places ≡ length rs → ⊥) → reading_records s a rs ≡ recorded (Refused Uneven) a rs
 unfolding if◌then◌otherwise◌
 records-uneven s a rs e l = sym (records-by s a rs) ∙ ap (records_by s a rs) (sym (entry-by s a (length rs)) ∙ ap₂ entry_by e (ne_eqb (length a.places) (length rs) l))
 
 -- a refusal does not pass
-never-refused : {X : Type 0} (f : Refusal) → check.Refused f ≡ Fine → X
+never-refused : {X : Type 0} (f : Refusal) → check.Err f ≡ passed → X
 never-refused f p = absurd (let z : ◌≡◌ {A = ℕ} 0 1 = cc in let y : ⊥ = omega arith in y)
 
 -- what lets a script and the arrays pass
-pub entry_of : (s : List ℕ) (a : Arrays) (n : ℕ) → entry_records s a n ≡ Fine → (entry s a ≡ Fine) × (length a.places ≡ n)
+pub entry_of : (s : List ℕ) (a : Arrays) (n : ℕ) → entry_records s a n ≡ passed → (entry s a ≡ passed) × (length a.places ≡ n)
 unfolding if◌then◌otherwise◌
 entry_of s a n e = go (entry s a) (eqb (length a.places) n) refl (entry-by s a n ∙ e)
   where
-    go : (k : Checked) (b : Bool) → eqb (length a.places) n ≡ b → entry_by k b ≡ Fine → (k ≡ Fine) × (length a.places ≡ n)
-    go (check.Refused f) b t d = never-refused f d
-    go Fine true t d = (refl, eqb-true (length a.places) n t)
-    go Fine false t d = never-refused Uneven d
+    go : (k : Checked) (b : Bool) → eqb (length a.places) n ≡ b → entry_by k b ≡ passed → (k ≡ passed) × (length a.places ≡ n)
+    go (check.Err f) b t d = never-refused f d
+    go (check.Ok _) true t d = (refl, eqb-true (length a.places) n t)
+    go (check.Ok _) false t d = never-refused Uneven d
 
 -- what a reading counts
 fits-found : (s : List ℕ) (a : Arrays) (f : Found) (n : ℕ) → length f.errs ≤ n → errors_of (answered s a (found f)).answer ≤ n
@@ -239,5 +238,5 @@ errors-fit s a rs = subst (λ (x : Recorded). errors_of x.answer ≤ length rs) 
     counted l (refused r) h = fits_refused s a r (length rs)
 
     go : (k : Checked) → entry_records s a (length rs) ≡ k → errors_of (records_by s a rs k).answer ≤ length rs
-    go (check.Refused f) e = omega arith
-    go Fine e = counted (entry_of s a (length rs) e).1 (read (rooms_of a) s) (read-sound (rooms_of a) s)
+    go (check.Err f) e = omega arith
+    go (check.Ok _) e = counted (entry_of s a (length rs) e).1 (read (rooms_of a) s) (read-sound (rooms_of a) s)

@@ -1,7 +1,6 @@
 -- What the covered part of the reading call on records is to leave: the call on words, and what it says to who fills the records.
 use Rattle.std.specs.Prelude.{ℕ, List}
-use Rattle.sifc_tokens.specs.declared.call.Checked.TheVariants.{Fine}
-use Rattle.sifc_tokens.specs.declared.call.Checked.TheVariants as check
+use Rattle.std.specs.declared.result.Result.TheVariants as check
 use Rattle.sifc_def.specs.declared.Reading.{Reading}
 use Rattle.sifc_def.specs.declared.Reading.TheVariants.{Read, Refused}
 use Rattle.sifc_def.specs.Read.{Arrays, Called, rooms_of, read, answered}
@@ -32,4 +31,4 @@ kept_of x = kept (told_of x.answer) x.arrays
 
 -- a refusal of the tests of entry leaves each of n records
 unfoldable pub read_words : List ℕ → Arrays → ℕ → Kept
-read_words s a n = elim (entry_records s a n) [ check.Refused r ↦ kept (told (Refused r) 0 0 n) a | Fine ↦ kept_of (answered s a (read (rooms_of a) s)) ]
+read_words s a n = elim (entry_records s a n) [ check.Err r ↦ kept (told (Refused r) 0 0 n) a | check.Ok _ ↦ kept_of (answered s a (read (rooms_of a) s)) ]

@@ -9,7 +9,6 @@ use sifc_err::{ParseErr, Refusal};
 use sifc_lent::entry_tests;
 use sifc_read::after_entry;
 use sifc_record::fill;
-use sifc_tokens::Checked;
 
 // What the call on words says to who fills the records: the answer, how many tokens and errors there are,
 // and the first record to blank.
@@ -51,19 +50,14 @@ fn entry_records(
     places: &[u32],
     reasons: &[u32],
     records: usize,
-) -> Checked
+) -> Result<(), Refusal>
     ensures { result ≡ entry_records script.now (arrays offs.now words.now heads.now loads.now [] places.now reasons.now) records }
 {
-    let checked = entry_tests(script, offs, words, heads, loads, places, reasons);
-    match checked {
-        Checked::Refused(refusal) => Checked::Refused(refusal),
-        Checked::Fine => {
-            if places.len() == records {
-                return Checked::Fine;
-            }
-            Checked::Refused(Refusal::Uneven)
-        }
+    entry_tests(script, offs, words, heads, loads, places, reasons)?;
+    if places.len() == records {
+        return Ok(());
     }
+    Err(Refusal::Uneven)
 }
 
 // The call on words, where so many records are lent beside them. A refusal of the tests of entry leaves
@@ -83,11 +77,11 @@ pub fn read_words(
 {
     let checked = entry_records(script, offs, words, heads, loads, places, reasons, records);
     match checked {
-        Checked::Fine => {
+        Ok(()) => {
             let r = after_entry(script, offs, words, heads, loads, symbols, places, reasons);
             told_of(r)
         }
-        Checked::Refused(refusal) => Told {
+        Err(refusal) => Told {
             reading: Reading::Refused(refusal),
             tokens: 0,
             errors: 0,

@@ -9,12 +9,10 @@ use lib.ListN.{length, take, replicate, length-append, length-map}
 use lib.Seq.{length-take-le}
 use Rattle.sifc_err.specs.declared.Refusal.{Refusal}
 use Rattle.sifc_err.specs.declared.Refusal.TheVariants.{Flagged, TextFull}
-use Rattle.sifc_tokens.specs.declared.call.Checked.{Checked}
-use Rattle.sifc_tokens.specs.declared.call.Checked.TheVariants.{Fine}
-use Rattle.sifc_tokens.specs.declared.call.Checked.TheVariants as check
+use Rattle.std.specs.declared.result.Result.TheVariants as check
 use Rattle.sifc_word.specs.Base.{if◌then◌otherwise◌}
 use Rattle.sifc_lex.specs.Lex.{lex}
-use Rattle.sifc_tokens.specs.Tokens.{offs_of, words_of, padded, zeroed}
+use Rattle.sifc_tokens.specs.Tokens.{passed, Checked, offs_of, words_of, padded, zeroed}
 use Rattle.sifc_tokens.specs.Loaded.{Used}
 use Rattle.sifc_tokens.proofs.TokensLaws.{padded-used}
 use Rattle.sifc_def.specs.declared.Reading.{Reading}
@@ -243,7 +241,7 @@ record Kept (s : List ℕ) (a b : Arrays) (m : Summary) : Type 0 where
   by : LeftBy s b m a what
 
 -- A reading that answered so.
-kept : (s : List ℕ) (a b : Arrays) (m : Summary) → entry s a ≡ Fine → cleared_arrays b ≡ cleared_arrays a → called (reading.Read m) b ≡ answered s a (read (rooms_of a) s) → Kept s a b m
+kept : (s : List ℕ) (a b : Arrays) (m : Summary) → entry s a ≡ passed → cleared_arrays b ≡ cleared_arrays a → called (reading.Read m) b ≡ answered s a (read (rooms_of a) s) → Kept s a b m
 unfolding answered
 kept s a b m e long c = go (read (rooms_of a) s) refl c
   where
@@ -275,11 +273,11 @@ same-cleared {b} {a} n =
 
 module _ (s : List ℕ) (a : Arrays) {b : Arrays} {u : Reading} (c : called u b ≡ answered s a (read (rooms_of a) s)) where
   -- what the writing may assume
-  pub left_is : {m : Summary} → entry s a ≡ Fine → SameLong b a → u ≡ reading.Read m → Left s b m
+  pub left_is : {m : Summary} → entry s a ≡ passed → SameLong b a → u ≡ reading.Read m → Left s b m
   left_is {m} e long k = let z = kept s a b m e (same-cleared long) (ap (λ (x : Reading). called x b) (sym k) ∙ c) in record { lent = a; what = z.what; by = z.by }
 
   -- what was written is the definition's
-  pub texts-is : {m : Summary} {t : List ℕ} {v : Written} → entry s a ≡ Fine → SameLong b a → u ≡ reading.Read m → Texts s b m t v → v ≡ texted s a t (read (rooms_of a) s)
+  pub texts-is : {m : Summary} {t : List ℕ} {v : Written} → entry s a ≡ passed → SameLong b a → u ≡ reading.Read m → Texts s b m t v → v ≡ texted s a t (read (rooms_of a) s)
   texts-is {m} {t} e long k q = let z = kept s a b m e (same-cleared long) (ap (λ (x : Reading). called x b) (sym k) ∙ c) in q.does a z.what z.by ∙ ap (texted s a t) (sym z.read_is)
 
   -- the reading is refused
@@ -300,7 +298,7 @@ module _ (s : List ℕ) (a : Arrays) {b : Arrays} {u : Reading} (c : called u b 
 module _ (s : List ℕ) (a : Arrays) (t : List ℕ) where
   -- what is left, by what the tests of entry say
   abbrev text_by : Checked → Written
-  text_by k = elim k [ check.Refused f ↦ written (Refused f) a t | Fine ↦ texted s a t (read (rooms_of a) s) ]
+  text_by k = elim k [ check.Err f ↦ written (Refused f) a t | check.Ok _ ↦ texted s a t (read (rooms_of a) s) ]
 
   -- The definition's call is that.
   text-by : text_by (entry s a) ≡ text_call s a t
@@ -309,13 +307,13 @@ module _ (s : List ℕ) (a : Arrays) (t : List ℕ) where
 
 module _ (s o w h l y p r : List ℕ) {k : Checked} (e : k ≡ entry s (arrays o w h l [] p r)) where
   -- The tests look at no symbol word.
-  pub entry-fine : k ≡ Fine → entry s (arrays o w h l y p r) ≡ Fine
+  pub entry-fine : k ≡ passed → entry s (arrays o w h l y p r) ≡ passed
   entry-fine f = sym (e ∙ entry-same s o w h l y p r) ∙ f
 
   -- The tests let it pass.
-  pub text-on : (t : List ℕ) {x : Written} → k ≡ Fine → x ≡ texted s (arrays o w h l y p r) t (read (rooms_of (arrays o w h l y p r)) s) → x ≡ text_call s (arrays o w h l y p r) t
+  pub text-on : (t : List ℕ) {x : Written} → k ≡ passed → x ≡ texted s (arrays o w h l y p r) t (read (rooms_of (arrays o w h l y p r)) s) → x ≡ text_call s (arrays o w h l y p r) t
   text-on t f g = g ∙ sym (ap (text_by s (arrays o w h l y p r) t) (entry-fine f)) ∙ text-by s (arrays o w h l y p r) t
 
   -- They refuse it.
-  pub text-not : (t : List ℕ) {f : Refusal} → k ≡ check.Refused f → written (Refused f) (arrays o w h l y p r) t ≡ text_call s (arrays o w h l y p r) t
+  pub text-not : (t : List ℕ) {f : Refusal} → k ≡ check.Err f → written (Refused f) (arrays o w h l y p r) t ≡ text_call s (arrays o w h l y p r) t
   text-not t g = sym (ap (text_by s (arrays o w h l y p r) t) (sym (e ∙ entry-same s o w h l y p r) ∙ g)) ∙ text-by s (arrays o w h l y p r) t

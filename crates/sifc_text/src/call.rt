@@ -1,6 +1,6 @@
 // The text call.
 ghost use Rattle.std.specs.Prelude.{◌≡◌};
-ghost use Rattle.sifc_tokens.specs.declared.call.Checked.TheVariants.{Fine};
+ghost use Rattle.sifc_tokens.specs.Tokens.{passed};
 ghost use Rattle.sifc_def.specs.Read.{rooms_of, entry as entry_of, read, written, texted, text_call};
 ghost use Rattle.sifc_lent.specs.Parts.{arrays};
 ghost use Rattle.sifc_text.specs.Post.{Left, Texts};
@@ -9,7 +9,6 @@ use sifc_def::{Reading, Summary, Texting};
 use sifc_err::Refusal;
 use sifc_lent::{clear_used, entry_tests};
 use sifc_read::after_entry;
-use sifc_tokens::Checked;
 use sifc_write::{clear_from, write_tree};
 
 // The text of what a reading left, which answered this. A flag that is up is refused, and so is a
@@ -67,7 +66,7 @@ fn read_and_write(
     reasons: &mut [u32],
     text: &mut [u8],
 ) -> Texting
-    requires { entry_of script.now (arrays offs.old words.old heads.old loads.old symbols.old places.old reasons.old) ≡ Fine }
+    requires { entry_of script.now (arrays offs.old words.old heads.old loads.old symbols.old places.old reasons.old) ≡ passed }
     ensures { written result (arrays offs.new words.new heads.new loads.new symbols.new places.new reasons.new) text.new ≡ texted script.now (arrays offs.old words.old heads.old loads.old symbols.old places.old reasons.old) text.old (read (rooms_of (arrays offs.old words.old heads.old loads.old symbols.old places.old reasons.old)) script.now) }
 {
     let answer = after_entry(script, offs, words, heads, loads, symbols, places, reasons);
@@ -101,9 +100,9 @@ pub fn text(
 {
     let checked = entry_tests(script, offs, words, heads, loads, places, reasons);
     match checked {
-        Checked::Fine => read_and_write(
+        Ok(()) => read_and_write(
             script, offs, words, heads, loads, symbols, places, reasons, text,
         ),
-        Checked::Refused(refusal) => Texting::Refused(refusal),
+        Err(refusal) => Texting::Refused(refusal),
     }
 }

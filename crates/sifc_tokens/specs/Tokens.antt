@@ -46,12 +46,15 @@ lex_call script offs words =
     if ltb (length offs) (length (lex script)) then lex_called (Err TokensFull) (zeroed offs) (zeroed words)
     otherwise lex_called (Ok (ended_with (length (lex script)) (ending script) (end_at script))) (padded (offs_of (lex script)) (length offs)) (padded (words_of (lex script)) (length words))
 
--- what a test answers that lets the script pass
-abbrev pub passed : Result ⊤ Refusal
+-- what the tests of entry answer: nothing, or a refusal
+abbrev pub Checked : Type 0
+Checked = Result ⊤ Refusal
+
+abbrev pub passed : Checked
 passed = Ok tt
 
 -- "entry: 1 LongScript, over 65,535 bytes; 2 NotAscii, a byte of 128 or more; the first one's offset"
-unfoldable pub check_of : List ℕ → Result ⊤ Refusal
+unfoldable pub check_of : List ℕ → Checked
 unfolding if◌then◌otherwise◌ span ascii
 check_of script =
     if ltb 65535 (length script) then Err LongScript

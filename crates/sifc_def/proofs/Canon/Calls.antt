@@ -18,10 +18,8 @@ use Rattle.sifc_def.specs.declared.Texting.{Texting}
 use Rattle.sifc_def.specs.declared.Texting.TheVariants.{Wrote, Refused as NoText}
 use Rattle.sifc_def.specs.State.{St, Out, done, fail, refuse}
 use Rattle.sifc_def.specs.Walk.{End, walk}
-use Rattle.sifc_tokens.specs.declared.call.Checked.{Checked}
-use Rattle.sifc_tokens.specs.declared.call.Checked.TheVariants.{Fine}
-use Rattle.sifc_tokens.specs.declared.call.Checked.TheVariants as check
-use Rattle.sifc_tokens.specs.Tokens.{padded, zeroed, check_of}
+use Rattle.std.specs.declared.result.Result.TheVariants as check
+use Rattle.sifc_tokens.specs.Tokens.{passed, Checked, padded, zeroed, check_of}
 use Rattle.sifc_def.specs.Read.{depth_limit, Arrays, Rooms, rooms_of, cleared_arrays, even, entry, Found, Outcome, found, refused, fault_of, ctx_of, ended, read, Called, called, summary, filled, answered, reading, Written, written, text_found, texted, text_call}
 use Rattle.sifc_def.proofs.Canon.Bytes.{Plain}
 use Rattle.sifc_def.specs.Canon.Demand.{size_or_depth, Fits, FitsText, FlagDown, Writes, answered_bytes, bytes_of}
@@ -31,7 +29,7 @@ use Rattle.sifc_def.proofs.Canon.Rooms.{for_room, Alike, same_out, left_out, rig
 
 -- a reading, by what entry says and by what is read
 by_entry : List ℕ → Arrays → Checked → Outcome → Called Reading
-by_entry s a x o = elim x [ check.Refused r ↦ called (Refused r) a | Fine ↦ answered s a o ]
+by_entry s a x o = elim x [ check.Err r ↦ called (Refused r) a | check.Ok _ ↦ answered s a o ]
 
 -- The reading call is that.
 reading-is : (s : List ℕ) (a : Arrays) → reading s a ≡ by_entry s a (entry s a) (read (rooms_of a) s)
@@ -40,7 +38,7 @@ reading-is s a = refl
 
 -- a text call, likewise
 by_entry_text : List ℕ → Arrays → List ℕ → Checked → Outcome → Written
-by_entry_text s a t x o = elim x [ check.Refused r ↦ written (NoText r) a t | Fine ↦ texted s a t o ]
+by_entry_text s a t x o = elim x [ check.Err r ↦ written (NoText r) a t | check.Ok _ ↦ texted s a t o ]
 
 -- The text call is that.
 text-is : (s : List ℕ) (a : Arrays) (t : List ℕ) → text_call s a t ≡ by_entry_text s a t (entry s a) (read (rooms_of a) s)
@@ -60,13 +58,13 @@ read_is r s = refl
 
 -- there is a refusal for size or depth
 unfoldable pub Sized : Checked → Type 0
-Sized Fine = ⊥
-Sized (check.Refused r) = T (size_or_depth r)
+Sized (check.Ok _) = ⊥
+Sized (check.Err r) = T (size_or_depth r)
 
 -- what entry says, by its three tests: over 65,535 bytes, a byte of 128 or more, arrays of one length
 by_tests : List ℕ → Bool → Bool → Bool → Checked
 unfolding if◌then◌otherwise◌
-by_tests s p q e = elim (if p then check.Refused LongScript otherwise if q then check.Refused (NotAscii (span is_ascii s)) otherwise Fine) [ check.Refused r ↦ check.Refused r | Fine ↦ if e then Fine otherwise check.Refused Uneven ]
+by_tests s p q e = elim (if p then check.Err LongScript otherwise if q then check.Err (NotAscii (span is_ascii s)) otherwise passed) [ check.Err r ↦ check.Err r | check.Ok _ ↦ if e then passed otherwise check.Err Uneven ]
 
 -- Entry is that.
 entry-is : (s : List ℕ) (a : Arrays) → entry s a ≡ by_tests s (ltb 65535 (length s)) (ltb (span is_ascii s) (length s)) (even a)
@@ -74,25 +72,25 @@ unfolding entry check_of by_tests
 entry-is s a = refl
 
 -- a refusal is none
-refused-fine : {X : Type 0} (r : Refusal) → check.Refused r ≡ Fine → X
+refused-fine : {X : Type 0} (r : Refusal) → check.Err r ≡ passed → X
 refused-fine r e = absurd (let z : ◌≡◌ {A = ℕ} 0 1 = cc in let y : ⊥ = omega arith in y)
 
 -- a script that is not refused is ASCII
-ascii-only : (s : List ℕ) (a : Arrays) → entry s a ≡ Fine → ltb (span is_ascii s) (length s) ≡ false
+ascii-only : (s : List ℕ) (a : Arrays) → entry s a ≡ passed → ltb (span is_ascii s) (length s) ≡ false
 unfolding by_tests if◌then◌otherwise◌
 ascii-only s a h = go (ltb 65535 (length s)) (ltb (span is_ascii s) (length s)) (even a) (sym (entry-is s a) ∙ h)
   where
-    go : (p q e : Bool) → by_tests s p q e ≡ Fine → q ≡ false
+    go : (p q e : Bool) → by_tests s p q e ≡ passed → q ≡ false
     go true q e h = refused-fine LongScript h
     go false true e h = refused-fine (NotAscii (span is_ascii s)) h
     go false false e h = refl
 
 -- an ASCII script is refused for size, or not at all
-entry-ascii : (s : List ℕ) (a : Arrays) → ltb (span is_ascii s) (length s) ≡ false → (entry s a ≡ Fine) ⊎ Sized (entry s a)
+entry-ascii : (s : List ℕ) (a : Arrays) → ltb (span is_ascii s) (length s) ≡ false → (entry s a ≡ passed) ⊎ Sized (entry s a)
 unfolding by_tests if◌then◌otherwise◌ Sized size_or_depth member
 entry-ascii s a h = rw (entry-is s a) (go (ltb 65535 (length s)) (ltb (span is_ascii s) (length s)) (even a) h)
   where
-    go : (p q e : Bool) → q ≡ false → (by_tests s p q e ≡ Fine) ⊎ Sized (by_tests s p q e)
+    go : (p q e : Bool) → q ≡ false → (by_tests s p q e ≡ passed) ⊎ Sized (by_tests s p q e)
     go true q e h = inr tt
     go false true e h = absurd (subst (λ (x : Bool). T x) h tt)
     go false false true h = inl refl
@@ -214,7 +212,7 @@ refused-too r s x w t = go (ltb r.tokens (length (lex s))) (read_is r s)
 
 -- the call on s with the arrays a enters, and finds f
 pub record Reads (s : List ℕ) (a : Arrays) (f : Found) : Type 0 where
-  pub entered : entry s a ≡ Fine
+  pub entered : entry s a ≡ passed
   pub found_it : read (rooms_of a) s ≡ found f
 
 -- what a reading answers and leaves, then
@@ -233,9 +231,9 @@ pub flag-down : (s : List ℕ) (a : Arrays) → FlagDown (reading s a).answer �
 flag-down s a h = go (entry s a) (read (rooms_of a) s) refl refl (subst (λ (c : Called Reading). FlagDown c.answer) (reading-is s a) h)
   where
     go : (x : Checked) (o : Outcome) → entry s a ≡ x → read (rooms_of a) s ≡ o → FlagDown (by_entry s a x o).answer → Down s a
-    go (check.Refused x) o e k d = absurd (unfold by_entry FlagDown in d)
-    go Fine (refused x) e k d = absurd (unfold by_entry answered FlagDown in d)
-    go Fine (found f) e k d = record { what = f; reads = record { entered = e; found_it = k }; flag = unfold by_entry answered FlagDown in d }
+    go (check.Err x) o e k d = absurd (unfold by_entry FlagDown in d)
+    go (check.Ok _) (refused x) e k d = absurd (unfold by_entry answered FlagDown in d)
+    go (check.Ok _) (found f) e k d = record { what = f; reads = record { entered = e; found_it = k }; flag = unfold by_entry answered FlagDown in d }
 
 -- A call that meets no refusal for size or depth meets not this one.
 spared : (x : Refusal) → T (size_or_depth x) → T (not (size_or_depth x)) → ⊥
@@ -249,11 +247,11 @@ spared x t u = go (size_or_depth x) t u
 pub fits-reads : (s : List ℕ) (a : Arrays) (f : Found) → ltb (span is_ascii s) (length s) ≡ false → Finds (rooms_of a) s f → Fits (reading s a).answer → Reads s a f
 fits-reads s a f b n h = go (entry s a) refl (entry-ascii s a b) n (subst (λ (c : Called Reading). Fits c.answer) (reading-is s a) h)
   where
-    go : (x : Checked) → entry s a ≡ x → (x ≡ Fine) ⊎ Sized x → Finds (rooms_of a) s f → Fits (by_entry s a x (read (rooms_of a) s)).answer → Reads s a f
-    go (check.Refused x) e (inl z) m k = refused-fine x z
-    go (check.Refused x) e (inr z) m k = absurd (spared x (unfold Sized in z) (unfold by_entry Fits in k))
-    go Fine e z (finds m) k = record { entered = e; found_it = m }
-    go Fine e z (cramped x m t) k = absurd (spared x t (unfold by_entry answered Fits in subst (λ (o : Outcome). Fits (answered s a o).answer) m k))
+    go : (x : Checked) → entry s a ≡ x → (x ≡ passed) ⊎ Sized x → Finds (rooms_of a) s f → Fits (by_entry s a x (read (rooms_of a) s)).answer → Reads s a f
+    go (check.Err x) e (inl z) m k = refused-fine x z
+    go (check.Err x) e (inr z) m k = absurd (spared x (unfold Sized in z) (unfold by_entry Fits in k))
+    go (check.Ok _) e z (finds m) k = record { entered = e; found_it = m }
+    go (check.Ok _) e z (cramped x m t) k = absurd (spared x t (unfold by_entry answered Fits in subst (λ (o : Outcome). Fits (answered s a o).answer) m k))
 
 -- Neither of the two refusals, so the text is written.
 chosen : (p q : Bool) (x y z : Written) (t : List ℕ) → p ≡ false → (FitsText y.answer → ⊥) → Writes z t → FitsText (if p then x otherwise if q then y otherwise z).answer → Writes (if p then x otherwise if q then y otherwise z) t
@@ -274,13 +272,13 @@ texted-writes s a t f d k =
 pub fits-text : (s : List ℕ) (a : Arrays) (t : List ℕ) (f : Found) → ltb (span is_ascii s) (length s) ≡ false → f.flag ≡ false → Finds (rooms_of a) s f → FitsText (text_call s a t).answer → Writes (text_call s a t) (text_found s f)
 fits-text s a t f b d n h = rw (text-is s a t) (go (entry s a) (entry-ascii s a b) n (subst (λ (c : Written). FitsText c.answer) (text-is s a t) h))
   where
-    go : (x : Checked) → (x ≡ Fine) ⊎ Sized x → Finds (rooms_of a) s f → FitsText (by_entry_text s a t x (read (rooms_of a) s)).answer → Writes (by_entry_text s a t x (read (rooms_of a) s)) (text_found s f)
-    go (check.Refused x) (inl z) m k = refused-fine x z
-    go (check.Refused x) (inr z) m k = absurd (spared x (unfold Sized in z) (unfold by_entry_text FitsText in k))
-    go Fine z (finds m) k =
+    go : (x : Checked) → (x ≡ passed) ⊎ Sized x → Finds (rooms_of a) s f → FitsText (by_entry_text s a t x (read (rooms_of a) s)).answer → Writes (by_entry_text s a t x (read (rooms_of a) s)) (text_found s f)
+    go (check.Err x) (inl z) m k = refused-fine x z
+    go (check.Err x) (inr z) m k = absurd (spared x (unfold Sized in z) (unfold by_entry_text FitsText in k))
+    go (check.Ok _) z (finds m) k =
         let k' : FitsText (texted s a t (found f)).answer = unfold by_entry_text in subst (λ (o : Outcome). FitsText (texted s a t o).answer) m k in
         unfold by_entry_text in subst (λ (o : Outcome). Writes (texted s a t o) (text_found s f)) (sym m) (texted-writes s a t f d k')
-    go Fine z (cramped x m u) k = absurd (spared x u (unfold by_entry_text texted FitsText in subst (λ (o : Outcome). FitsText (texted s a t o).answer) m k))
+    go (check.Ok _) z (cramped x m u) k = absurd (spared x u (unfold by_entry_text texted FitsText in subst (λ (o : Outcome). FitsText (texted s a t o).answer) m k))
 
 -- The bytes of a call that writes t are t.
 pub writes_bytes : (w : Written) (t : List ℕ) → Writes w t → bytes_of w ≡ t
