@@ -49,7 +49,16 @@ pub fn after_entry(
     let ws = &words[..n];
     let walked = parse(script, os, ws, symbols, heads, loads, places, reasons, lim);
     finish(
-        script, offs, words, heads, loads, symbols, places, reasons, n, walked,
+        script,
+        offs,
+        words,
+        heads,
+        loads,
+        symbols,
+        places,
+        reasons,
+        ended.count,
+        walked,
     )
 }
 

@@ -18,6 +18,7 @@ use Rattle.sifc_records.specs.declared.call.Told.{Told}
 use Rattle.sifc_records.specs.Records.{entry_records}
 use Rattle.sifc_records.proofs.RecordLaws.{entry_by, entry-by, entry_of}
 use Rattle.sifc_records.specs.Words.{told, told_of, Kept, kept, kept_of, read_words}
+use Rattle.sifc_tokens.specs.Tokens.{passed, Checked}
 
 -- ── the tests of entry ──
 

@@ -34,6 +34,7 @@ use Rattle.sifc_lent.specs.Parts.{bare}
 use Rattle.sifc_record.specs.Record.{invalid_tkn, why_by, why_of, record_of, records_in}
 use Rattle.sifc_records.specs.Records.{call_of, errors_of, entry_records, Recorded, recorded, records_of, reading_records}
 use Rattle.sifc_records.proofs.Listed.{Spoken, Listed, walk-lists}
+use Rattle.sifc_tokens.specs.Tokens.{passed, Checked}
 
 -- ── one error ──
 

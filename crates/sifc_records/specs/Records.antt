@@ -9,6 +9,7 @@ use Rattle.sifc_def.specs.State.{Ctx}
 use Rattle.sifc_def.specs.Error.{parse_err}
 use Rattle.sifc_def.specs.Read.{Arrays, rooms_of, ctx_of, Outcome, found, refused, entry, read, Called, called, answered}
 use Rattle.sifc_record.specs.Record.{blank_err}
+use Rattle.sifc_tokens.specs.Tokens.{passed, Checked}
 
 -- ── the call ──
 
