@@ -5,8 +5,8 @@
 mod errors;
 mod kinds;
 
-use sif_show::print;
-use sifc_def::Reading;
+use sif_show::{Buffers, print_refusal};
+use sifc_def::Summary;
 use sifc_err::Refusal;
 use std::io;
 use std::io::{BufWriter, Read, Write};
@@ -15,18 +15,15 @@ use std::io::{BufWriter, Read, Write};
 const MOST: usize = 4096;
 
 // After the errors, whether has_err is up; or a refusal.
-fn print_answer<W: Write>(out: &mut W, said: Reading) -> io::Result<()> {
+fn print_answer<W: Write>(out: &mut W, said: Result<Summary, Refusal>) -> io::Result<()> {
     match said {
-        Reading::Read(summary) => {
-            if summary.flag {
-                print(out, b"flag up\n")
-            } else {
-                print(out, b"flag down\n")
-            }
+        Ok(summary) => {
+            let flag = if summary.flag { "up" } else { "down" };
+            writeln!(out, "flag {flag}")
         }
-        Reading::Refused(refusal) => {
-            sif_show::print_refusal(out, refusal)?;
-            print(out, b"\n")
+        Err(refusal) => {
+            print_refusal(out, refusal)?;
+            writeln!(out)
         }
     }
 }
@@ -34,26 +31,20 @@ fn print_answer<W: Write>(out: &mut W, said: Reading) -> io::Result<()> {
 // Prints what the program prints of a script.
 fn answer<W: Write>(out: &mut W, script: &[u8]) -> io::Result<()> {
     if MOST < script.len() {
-        return print_answer(out, Reading::Refused(Refusal::LongScript));
+        return print_answer(out, Err(Refusal::LongScript));
     }
-    let mut offs = [0u32; 4097];
-    let mut words = [0u32; 4097];
-    let mut heads = [0u32; 4097];
-    let mut loads = [0u32; 4097];
-    let mut symbols = [0u32; 8192];
-    let mut places = [0u32; 1024];
-    let mut reasons = [0u32; 1024];
+    let mut lent = Buffers::new();
     kinds::print_kinds(out, script)?;
     let (said, printed) = errors::show_errors(
         out,
         script,
-        &mut offs,
-        &mut words,
-        &mut heads,
-        &mut loads,
-        &mut symbols,
-        &mut places,
-        &mut reasons,
+        &mut lent.offs,
+        &mut lent.words,
+        &mut lent.heads,
+        &mut lent.loads,
+        &mut lent.symbols,
+        &mut lent.places,
+        &mut lent.reasons,
     );
     printed?;
     print_answer(out, said)

@@ -3,7 +3,7 @@
 // readings are the Rust's.
 #![tactic(auto)]
 
-use sif_show::{after_newline, entry_at};
+use sif_show::{Buffers, Scripts};
 use std::io;
 use std::io::{BufWriter, Read, Write};
 
@@ -20,40 +20,26 @@ fn main(rt: HostRuntime) -> io::Result<()> {
 
 // Prints the answer for one script.
 fn answer<W: Write>(out: &mut W, script: &[u8]) -> io::Result<()> {
-    let mut offs = [0u32; 4097];
-    let mut words = [0u32; 4097];
-    let mut heads = [0u32; 4097];
-    let mut loads = [0u32; 4097];
-    let mut symbols = [0u32; 8192];
-    let mut places = [0u32; 1024];
-    let mut reasons = [0u32; 1024];
+    let mut lent = Buffers::new();
     let (said, printed) = read_show::list(
         out,
         script,
-        &mut offs,
-        &mut words,
-        &mut heads,
-        &mut loads,
-        &mut symbols,
-        &mut places,
-        &mut reasons,
+        &mut lent.offs,
+        &mut lent.words,
+        &mut lent.heads,
+        &mut lent.loads,
+        &mut lent.symbols,
+        &mut lent.places,
+        &mut lent.reasons,
     );
     printed?;
-    read_show::print_rest(out, said, &reasons)
+    read_show::print_rest(out, said, &lent.reasons)
 }
 
-// The entries one after the other; each is longer than nothing, or the list is over.
+// The scripts one after the other.
 fn replay_all<W: Write>(out: &mut W, list: &[u8]) -> io::Result<()> {
-    let mut at = 0;
-    for _ in 0..list.len() {
-        if list.len() <= at {
-            break;
-        }
-        let entry = entry_at(list, at);
-        let from = entry.from;
-        let end = entry.end;
-        answer(out, &list[from..end])?;
-        at = after_newline(list, end);
+    for script in Scripts::new(list) {
+        answer(out, script)?;
     }
     Ok(())
 }

@@ -1,10 +1,9 @@
 -- What a listing reads: document 01, "The listing program reads standard input (4,096 bytes at most, else refusal 1)".
-use Rattle.std.specs.Prelude.{ℕ, ◌≤◌, ◌<◌, ◌≡◌, refl, List, ltb, length}
+use Rattle.std.specs.Prelude.{ℕ, ◌≤◌, ◌<◌, ◌≡◌, refl, List, ltb, length, Err}
 use Rattle.std.proofs.Common.{lt-ltb, le-ltb}
 use Rattle.sifc_word.specs.Base.{if◌then◌otherwise◌}
 use Rattle.sifc_err.specs.declared.Refusal.TheVariants.{LongScript}
-use Rattle.sifc_def.specs.declared.Reading.{Reading}
-use Rattle.sifc_def.specs.declared.Reading.TheVariants.{Refused}
+use Rattle.sifc_def.specs.Answer.{Reading}
 use Rattle.sifc_def.specs.Read.{Arrays, Called, called, reading}
 
 -- the bytes of the longest script that is listed
@@ -14,10 +13,10 @@ most = 4096
 -- the answer of a listing, and the arrays as it leaves them: refusal 1 touches nothing
 unfoldable pub listed : List ℕ → Arrays → Called Reading
 unfolding if◌then◌otherwise◌
-listed s a = if ltb most (length s) then called (Refused LongScript) a otherwise reading s a
+listed s a = if ltb most (length s) then called (Err LongScript) a otherwise reading s a
 
 -- A script that is too long is refused, and nothing is touched.
-pub listed-long : (s : List ℕ) (a : Arrays) → most < length s → listed s a ≡ called (Refused LongScript) a
+pub listed-long : (s : List ℕ) (a : Arrays) → most < length s → listed s a ≡ called (Err LongScript) a
 unfolding listed if◌then◌otherwise◌
 listed-long s a h = rw (lt-ltb most (length s) h) refl
 

@@ -6,8 +6,8 @@ ghost use Rattle.sifc_def.specs.Read.{called};
 ghost use Rattle.sifc_lent.specs.Parts.{arrays};
 ghost use Rattle.read_show.specs.Listing.{listed};
 
-use sif_show::{print, print_number};
-use sifc_def::{Early, Reading, Summary};
+use sif_show::print_refusal;
+use sifc_def::Summary;
 use sifc_err::{ParseErr, ParseErrTy, Refusal};
 use std::io;
 use std::io::Write;
@@ -15,88 +15,60 @@ use std::io::Write;
 // The longest script that is listed.
 const MOST: usize = 4096;
 
-fn wide(word: u32) -> usize {
-    word as usize
-}
-
-fn digit(b: bool) -> usize {
-    if b { 1 } else { 0 }
-}
-
-// A number, and a space before it.
-fn print_next<W: Write>(out: &mut W, n: usize) -> io::Result<()> {
-    print(out, b" ")?;
-    print_number(out, n)
-}
-
 // The first n words of an array on one line, with a space between.
 fn print_words<W: Write>(out: &mut W, words: &[u32], n: usize) -> io::Result<()> {
-    for i in 0..n {
-        if words.len() <= i {
-            break;
-        }
+    for (i, word) in words.iter().take(n).enumerate() {
         if 0 < i {
-            print(out, b" ")?;
+            write!(out, " ")?;
         }
-        print_number(out, wide(words[i]))?;
+        write!(out, "{word}")?;
     }
-    print(out, b"\n")
+    writeln!(out)
 }
 
-// Line, column and reason number of an error, from its two words.
-fn print_error<W: Write>(out: &mut W, place: u32, reason: u32) -> io::Result<()> {
-    print_number(out, wide(place / 65536 + 1))?;
-    print_next(out, wide(place % 65536))?;
-    print_next(out, wide(reason % 16))?;
-    print(out, b"\n")
-}
-
-// The first n errors, a line each.
+// The first n errors, a line each: line, column and reason number, from an error's two words.
 fn print_errors<W: Write>(
     out: &mut W,
     places: &[u32],
     reasons: &[u32],
     n: usize,
 ) -> io::Result<()> {
-    for i in 0..n {
-        if places.len() <= i {
-            break;
-        }
-        if reasons.len() <= i {
-            break;
-        }
-        print_error(out, places[i], reasons[i])?;
+    for (place, reason) in places.iter().zip(reasons).take(n) {
+        let line = *place / 65536 + 1;
+        let column = *place % 65536;
+        let number = *reason % 16;
+        writeln!(out, "{line} {column} {number}")?;
     }
     Ok(())
 }
 
 // The counts and the flag.
 fn print_counts<W: Write>(out: &mut W, summary: Summary) -> io::Result<()> {
-    print_number(out, summary.tokens)?;
-    print_next(out, summary.nodes)?;
-    print_next(out, summary.errors)?;
-    print_next(out, digit(summary.flag))?;
-    print(out, b"\n")
+    let tokens = summary.tokens;
+    let nodes = summary.nodes;
+    let errors = summary.errors;
+    let flag = u32::from(summary.flag);
+    writeln!(out, "{tokens} {nodes} {errors} {flag}")
 }
 
 fn print_answer<W: Write>(
     out: &mut W,
-    said: Reading,
+    said: Result<Summary, Refusal>,
     heads: &[u32],
     loads: &[u32],
     places: &[u32],
     reasons: &[u32],
 ) -> io::Result<()> {
     match said {
-        Reading::Read(summary) => {
+        Ok(summary) => {
             print_counts(out, summary)?;
             print_words(out, heads, summary.nodes)?;
             print_words(out, loads, summary.nodes)?;
             print_errors(out, places, reasons, summary.errors)
         }
-        Reading::Refused(refusal) => {
-            sif_show::print_refusal(out, refusal)?;
-            print(out, b"\n")
+        Err(refusal) => {
+            print_refusal(out, refusal)?;
+            writeln!(out)
         }
     }
 }
@@ -111,14 +83,14 @@ fn read(
     symbols: &mut [u32],
     places: &mut [u32],
     reasons: &mut [u32],
-) -> Reading
+) -> Result<Summary, Refusal>
     ensures { called result (arrays offs.new words.new heads.new loads.new
         symbols.new places.new reasons.new)
         ≡ listed script.now (arrays offs.old words.old heads.old
         loads.old symbols.old places.old reasons.old) }
 {
     if MOST < script.len() {
-        return Reading::Refused(Refusal::LongScript);
+        return Err(Refusal::LongScript);
     }
     sifc_read::reading(script, offs, words, heads, loads, symbols, places, reasons)
 }
@@ -136,7 +108,7 @@ pub fn list<W: Write>(
     symbols: &mut [u32],
     places: &mut [u32],
     reasons: &mut [u32],
-) -> (Reading, io::Result<()>)
+) -> (Result<Summary, Refusal>, io::Result<()>)
     ensures { called result.0 (arrays offs.new words.new heads.new loads.new
         symbols.new places.new reasons.new)
         ≡ listed script.now (arrays offs.old words.old heads.old
@@ -150,40 +122,31 @@ pub fn list<W: Write>(
 // Line, column and reason number of the error that ended a reading; the offset of the token that it
 // carries, else 0; and the kind that it expected, or its count.
 fn print_ending<W: Write>(out: &mut W, err: ParseErr) -> io::Result<()> {
-    let ty = err.ty;
-    print_number(out, err.line)?;
-    print_next(out, err.pos)?;
-    print_next(out, wide(ty.number()))?;
-    match ty {
-        ParseErrTy::TknMismatch(kind, token) => {
-            print_next(out, token.off)?;
-            print_next(out, wide(kind))?;
-        }
-        ParseErrTy::FnParmCntExceeded(count) => {
-            print_next(out, 0)?;
-            print_next(out, count)?;
-        }
+    let line = err.line;
+    let column = err.pos;
+    let number = err.ty.number();
+    write!(out, "{line} {column} {number}")?;
+    match err.ty {
+        ParseErrTy::TknMismatch(kind, token) => write!(out, " {} {kind}", token.off)?,
+        ParseErrTy::FnParmCntExceeded(count) => write!(out, " 0 {count}")?,
         _ => {}
     }
-    print(out, b"\n")
-}
-
-fn print_early<W: Write>(out: &mut W, early: Early) -> io::Result<()> {
-    match early {
-        Early::Never => print(out, b"none\n"),
-        Early::By(err) => print_ending(out, err),
-    }
+    writeln!(out)
 }
 
 // What a listing leaves out: a line with the second words of the errors, whole, and a line for the
 // error that ended the reading.
-pub fn print_rest<W: Write>(out: &mut W, said: Reading, reasons: &[u32]) -> io::Result<()> {
-    match said {
-        Reading::Read(summary) => {
-            let early = summary.early;
-            print_words(out, reasons, summary.errors)?;
-            print_early(out, early)
-        }
-        Reading::Refused(_) => Ok(()),
+pub fn print_rest<W: Write>(
+    out: &mut W,
+    said: Result<Summary, Refusal>,
+    reasons: &[u32],
+) -> io::Result<()> {
+    let Ok(summary) = said else {
+        return Ok(());
+    };
+    print_words(out, reasons, summary.errors)?;
+    match summary.early {
+        None => writeln!(out, "none"),
+        Some(err) => print_ending(out, err),
     }
 }

@@ -4,14 +4,10 @@
 mod deepest;
 mod value;
 
-ghost use Rattle.std.specs.Prelude.{◌≡◌};
-ghost use Rattle.sifc_tokens.specs.Tokens.{tokens_called, tokens_call};
-ghost use Rattle.sifc_def.specs.Read.{called, reading as reading_of, text_call};
 ghost use Rattle.sifc_lent.specs.Parts.{arrays};
-ghost use Rattle.sifc_told.specs.Hosts.{answer, early_numbers, read_answer, told as told_of, text_answer, text_told, told_text};
+ghost use Rattle.sifc_told.specs.Hosts.{answer, early_numbers, read_answer, text_answer, TokensSaid, ReadingSaid, TextSaid};
 
 pub use deepest::sif_deepest;
-use sifc_tokens::TokensAnswer;
 use sifc_told::{told, told_text};
 pub use value::sif_value;
 
@@ -25,17 +21,16 @@ pub fn sif_tokens(
     kind: &mut u32,
     offset: &mut u32,
 ) -> u32
-    ensures { tokens_called (answer count.new result kind.new offset.new) offs.new words.new ≡ tokens_call script.now offs.old words.old }
+    ensures { TokensSaid script.now offs.old words.old (answer count.new result kind.new offset.new) offs.new words.new }
 {
-    let said = sifc_tokens::tokens(script, offs, words);
-    match said {
-        TokensAnswer::Count(n) => {
+    match sifc_tokens::tokens(script, offs, words) {
+        Ok(n) => {
             *count = n as u32;
             *kind = 0;
             *offset = 0;
             0
         }
-        TokensAnswer::Refused(refusal) => {
+        Err(refusal) => {
             *count = 0;
             *kind = refusal.kind();
             *offset = refusal.offset() as u32;
@@ -69,10 +64,13 @@ pub fn sif_reading(
     kind: &mut u32,
     offset: &mut usize,
 ) -> u32
-    ensures { called (read_answer tokens.new nodes.new errors.new flag.new (early_numbers early_line.new early_pos.new early_number.new early_offset.new early_value.new) result kind.new offset.new) (arrays offs.new words.new heads.new loads.new symbols.new places.new reasons.new) ≡ told_of (reading_of script.now (arrays offs.old words.old heads.old loads.old symbols.old places.old reasons.old)) }
+    ensures { ReadingSaid script.now (arrays offs.old words.old heads.old loads.old symbols.old places.old reasons.old)
+        (read_answer tokens.new nodes.new errors.new flag.new (early_numbers early_line.new early_pos.new early_number.new early_offset.new early_value.new) result kind.new offset.new)
+        (arrays offs.new words.new heads.new loads.new symbols.new places.new reasons.new) }
 {
-    let said = sifc_read::reading(script, offs, words, heads, loads, symbols, places, reasons);
-    let numbers = told(said);
+    let numbers = told(sifc_read::reading(
+        script, offs, words, heads, loads, symbols, places, reasons,
+    ));
     let early = numbers.early;
     *tokens = numbers.tokens;
     *nodes = numbers.nodes;
@@ -104,12 +102,13 @@ pub fn sif_text(
     kind: &mut u32,
     offset: &mut usize,
 ) -> u32
-    ensures { text_told (text_answer count.new result kind.new offset.new) (arrays offs.new words.new heads.new loads.new symbols.new places.new reasons.new) text.new ≡ told_text (text_call script.now (arrays offs.old words.old heads.old loads.old symbols.old places.old reasons.old) text.old) }
+    ensures { TextSaid script.now (arrays offs.old words.old heads.old loads.old symbols.old places.old reasons.old) text.old
+        (text_answer count.new result kind.new offset.new)
+        (arrays offs.new words.new heads.new loads.new symbols.new places.new reasons.new) text.new }
 {
-    let said = sifc_text::text(
+    let written = told_text(sifc_text::text(
         script, offs, words, heads, loads, symbols, places, reasons, text,
-    );
-    let written = told_text(said);
+    ));
     *count = written.count;
     *kind = written.kind;
     *offset = written.offset;

@@ -2,13 +2,10 @@
 // is sif_c's call of its name, and promises the same.
 #![tactic(auto)]
 
-ghost use Rattle.std.specs.Prelude.{◌≡◌};
-ghost use Rattle.sifc_tokens.specs.Tokens.{tokens_called, tokens_call};
-ghost use Rattle.sifc_def.specs.Read.{called, reading as reading_of, text_call};
 ghost use Rattle.sifc_lent.specs.Parts.{arrays};
-ghost use Rattle.sifc_told.specs.Hosts.{answer, early_numbers, read_answer, told as told_of, text_answer, text_told, told_text};
-ghost use Rattle.sifc_deepest.specs.Deepest.{deepest_call, deepest_answer, deepest_told, told_deepest};
-ghost use Rattle.sifc_value.specs.Value.{value_of, told, told_value};
+ghost use Rattle.sifc_told.specs.Hosts.{answer, early_numbers, read_answer, text_answer, TokensSaid, ReadingSaid, TextSaid};
+ghost use Rattle.sifc_deepest.specs.Deepest.{deepest_answer, DeepestSaid};
+ghost use Rattle.sifc_value.specs.Value.{told, ValueSaid};
 
 // The tokens call. It returns the refusal's number, 0 for none, and sets count, kind and offset; what
 // they do not say is 0.
@@ -21,7 +18,7 @@ pub extern "C" fn sif_tokens(
     kind: &mut u32,
     offset: &mut u32,
 ) -> u32
-    ensures { tokens_called (answer count.new result kind.new offset.new) offs.new words.new ≡ tokens_call script.now offs.old words.old }
+    ensures { TokensSaid script.now offs.old words.old (answer count.new result kind.new offset.new) offs.new words.new }
 {
     sif_c::sif_tokens(script, offs, words, count, kind, offset)
 }
@@ -52,7 +49,9 @@ pub extern "C" fn sif_reading(
     kind: &mut u32,
     offset: &mut usize,
 ) -> u32
-    ensures { called (read_answer tokens.new nodes.new errors.new flag.new (early_numbers early_line.new early_pos.new early_number.new early_offset.new early_value.new) result kind.new offset.new) (arrays offs.new words.new heads.new loads.new symbols.new places.new reasons.new) ≡ told_of (reading_of script.now (arrays offs.old words.old heads.old loads.old symbols.old places.old reasons.old)) }
+    ensures { ReadingSaid script.now (arrays offs.old words.old heads.old loads.old symbols.old places.old reasons.old)
+        (read_answer tokens.new nodes.new errors.new flag.new (early_numbers early_line.new early_pos.new early_number.new early_offset.new early_value.new) result kind.new offset.new)
+        (arrays offs.new words.new heads.new loads.new symbols.new places.new reasons.new) }
 {
     sif_c::sif_reading(
         script,
@@ -94,7 +93,9 @@ pub extern "C" fn sif_text(
     kind: &mut u32,
     offset: &mut usize,
 ) -> u32
-    ensures { text_told (text_answer count.new result kind.new offset.new) (arrays offs.new words.new heads.new loads.new symbols.new places.new reasons.new) text.new ≡ told_text (text_call script.now (arrays offs.old words.old heads.old loads.old symbols.old places.old reasons.old) text.old) }
+    ensures { TextSaid script.now (arrays offs.old words.old heads.old loads.old symbols.old places.old reasons.old) text.old
+        (text_answer count.new result kind.new offset.new)
+        (arrays offs.new words.new heads.new loads.new symbols.new places.new reasons.new) text.new }
 {
     sif_c::sif_text(
         script, offs, words, heads, loads, symbols, places, reasons, text, count, kind, offset,
@@ -105,8 +106,7 @@ pub extern "C" fn sif_text(
 // a refusal that is 0.
 #[unsafe(no_mangle)]
 pub extern "C" fn sif_deepest(n: usize, script: &mut [u8], depth: &mut usize) -> u32
-    ensures { deepest_told (deepest_answer depth.new result) script.new
-        ≡ told_deepest (deepest_call n script.old) }
+    ensures { DeepestSaid n script.old (deepest_answer depth.new result) script.new }
 {
     sif_c::sif_deepest(n, script, depth)
 }
@@ -115,7 +115,7 @@ pub extern "C" fn sif_deepest(n: usize, script: &mut [u8], depth: &mut usize) ->
 // is 0 where there is none.
 #[unsafe(no_mangle)]
 pub extern "C" fn sif_value(literal: &[u8], value: &mut f64) -> u32
-    ensures { told result value.new ≡ told_value (value_of literal.now) }
+    ensures { ValueSaid literal.now (told result value.new) }
 {
     sif_c::sif_value(literal, value)
 }

@@ -1,7 +1,8 @@
 -- Laws of entries: a number, one byte at a time, and the bounds of an entry's script.
-use Rattle.std.specs.Prelude.{ℕ, ◌+◌, ◌-◌, ◌*◌, ◌%◌, ◌≤◌, ◌<◌, ◌≡◌, refl, List, Bool, true, false, ◌||◌, leb, length, drop, get_or}
+use Rattle.std.specs.Prelude.{ℕ, ◌+◌, ◌-◌, ◌*◌, ◌%◌, ◌≤◌, ◌<◌, ◌≡◌, refl, List, [], ◌∷◌, Bool, true, false, ◌||◌, leb, length, drop, get_or}
 use Rattle.std.proofs.Common.{sym, subst, arith, add-one, le-leb, leb-false, drop_of_length-le, drop-cons}
 use Rattle.std.proofs.lemmas.Bool.{lt-leb}
+use Rattle.std.specs.Char.{is_ascii_digit}
 use Rattle.sifc_word.specs.Base.{if◌then◌otherwise◌, within}
 use Rattle.sifc_word.specs.BaseLaws.{and-false}
 use Rattle.sif_show.specs.declared.entries.Number.{Number}
@@ -13,14 +14,10 @@ pub goes_on : (v b : ℕ) → 48 ≤ b → b ≤ 57 → v ≤ 9999 → goes v b 
 unfolding goes within
 goes_on v b h k m = rw (le-leb 48 b h, le-leb b 57 k, le-leb v 9999 m) refl
 
--- A byte below the digits, one above them, and a number of 10,000 or more end it.
-pub goes-below : (v b : ℕ) → b < 48 → goes v b ≡ false
+-- A byte that is no digit, and a number of 10,000 or more end it.
+pub goes-none : (v b : ℕ) → is_ascii_digit b ≡ false → goes v b ≡ false
 unfolding goes within
-goes-below v b h = rw (lt-leb 48 b h) refl
-
-pub goes_above : (v b : ℕ) → 57 < b → goes v b ≡ false
-unfolding goes within
-goes_above v b h = rw (lt-leb b 57 h, and-false (leb 48 b)) refl
+goes-none v b h = rw h refl
 
 pub goes-full : (v b : ℕ) → 9999 < v → goes v b ≡ false
 unfolding goes
@@ -68,3 +65,26 @@ entry-within l at e h = subst (λ (x : Entry). (x.from ≤ x.end) × (x.end ≤ 
     go true q a b = (omega arith, omega arith)
     go false true a b = (omega arith, omega arith)
     go false false a b = let h₁ = leb-false (length l) n.next a in let h₂ = leb-false (length l - n.next) n.value b in (omega arith, omega arith)
+
+-- What stands behind a number is no earlier than it.
+number-next : (v i : ℕ) (bs : List ℕ) → i ≤ (number_in v i bs).next
+unfolding number_in if◌then◌otherwise◌
+number-next v i [] = omega arith
+number-next v i (b ∷ bs) = go (goes v b) (number-next (v * 10 + b % 16) (i + 1) bs)
+  where
+    go : (t : Bool) → i + 1 ≤ (number_in (v * 10 + b % 16) (i + 1) bs).next → i ≤ (if t then number_in (v * 10 + b % 16) (i + 1) bs otherwise number v i).next
+    go true h = omega arith
+    go false h = omega arith
+
+-- A script ends no earlier than its entry begins.
+pub entry-end : (l : List ℕ) (at : ℕ) (e : Entry) → e ≡ entry_at l at → at < length l → at ≤ e.end
+unfolding entry_at entry_after number_at if◌then◌otherwise◌
+entry-end l at e h k = subst (λ (x : Entry). at ≤ x.end) (sym h) (go (leb (length l) n.next) (leb (length l - n.next) n.value))
+  where
+    n : Number
+    n = number_at l at
+
+    go : (p q : Bool) → at ≤ (if p || q then entry (length l) (length l) otherwise entry (n.next + 1) (n.next + 1 + n.value)).end
+    go true q = omega arith
+    go false true = omega arith
+    go false false = let b : at ≤ n.next = number-next 0 at (drop at l) in omega arith

@@ -2,33 +2,29 @@
 // writer, and a write that fails is the answer.
 #![tactic(auto)]
 
+mod buffers;
 mod entries;
 
-pub use entries::{Entry, after_newline, entry_at};
+pub use buffers::Buffers;
+pub use entries::{Entry, Scripts, after_newline, entry_at};
 use sifc_err::Refusal;
-use sifc_tokens::TokensAnswer;
 use std::io;
 use std::io::Write;
 
 // A token a line, its spelling as it stands; or all tokens on one line with a space between, the
 // spelling in hexadecimal and none for a Val, which is how the stored answers of the Rust are written.
-#[derive(Clone, Copy)]
+#[derive(Clone, Copy, PartialEq, Eq)]
 pub enum Layout {
     Lines,
     List,
 }
 
-pub fn print<W: Write>(out: &mut W, text: &[u8]) -> io::Result<()> {
-    out.write_all(text)
-}
+// The kind of a Val.
+const VAL: u32 = 33;
 
-pub fn print_number<W: Write>(out: &mut W, n: usize) -> io::Result<()> {
-    write!(out, "{n}")
-}
-
+// The bytes of a spelling in hexadecimal.
 fn print_hex<W: Write>(out: &mut W, text: &[u8]) -> io::Result<()> {
-    for b in text {
-        let byte = *b;
+    for byte in text {
         write!(out, "{byte:02x}")?;
     }
     Ok(())
@@ -36,36 +32,17 @@ fn print_hex<W: Write>(out: &mut W, text: &[u8]) -> io::Result<()> {
 
 // The bytes of a spelling, with a point for a byte that is no sign.
 fn print_plain<W: Write>(out: &mut W, text: &[u8]) -> io::Result<()> {
-    for b in text {
-        if *b < 32 {
-            print(out, b".")?;
-        } else {
-            print(out, &[*b])?;
-        }
+    for byte in text {
+        let sign = if *byte < b' ' { b'.' } else { *byte };
+        out.write_all(&[sign])?;
     }
     Ok(())
 }
 
-fn print_spelling<W: Write>(out: &mut W, text: &[u8], kind: u32, layout: Layout) -> io::Result<()> {
-    match layout {
-        Layout::Lines => {
-            print_plain(out, text)?;
-            print(out, b"\n")
-        }
-        Layout::List => {
-            if kind == 33 {
-                return Ok(());
-            }
-            print_hex(out, text)
-        }
-    }
-}
-
 // KIND:LINE:COLUMN:SPELLING of one token.
-fn print_token<'a, W: Write>(
+fn print_token<W: Write>(
     out: &mut W,
-    script: &'a [u8],
-    fixed: &'a [u8],
+    script: &[u8],
     off: u32,
     word: u32,
     layout: Layout,
@@ -74,36 +51,24 @@ fn print_token<'a, W: Write>(
     let len = (word / 64) as usize;
     let at = off as usize;
     let place = sifc_tokens::place_at(script, at);
-    print_number(out, kind as usize)?;
-    print(out, b":")?;
-    print_number(out, place.line)?;
-    print(out, b":")?;
-    print_number(out, place.pos)?;
-    print(out, b":")?;
-    let text = sifc_word::spelling(script, fixed, kind, at, len);
-    print_spelling(out, text, kind, layout)
+    write!(out, "{kind}:{}:{}:", place.line, place.pos)?;
+    let text = sifc_word::spelling(script, kind, at, len);
+    match layout {
+        Layout::Lines => {
+            print_plain(out, text)?;
+            writeln!(out)
+        }
+        Layout::List if kind == VAL => Ok(()),
+        Layout::List => print_hex(out, text),
+    }
 }
 
 // `refused`, number, kind, offset.
 pub fn print_refusal<W: Write>(out: &mut W, refusal: Refusal) -> io::Result<()> {
-    print(out, b"refused ")?;
-    print_number(out, refusal.number() as usize)?;
-    print(out, b" ")?;
-    print_number(out, refusal.kind() as usize)?;
-    print(out, b" ")?;
-    print_number(out, refusal.offset())
-}
-
-fn print_gap<W: Write>(out: &mut W, i: usize, layout: Layout) -> io::Result<()> {
-    match layout {
-        Layout::Lines => Ok(()),
-        Layout::List => {
-            if i == 0 {
-                return Ok(());
-            }
-            print(out, b" ")
-        }
-    }
+    let number = refusal.number();
+    let kind = refusal.kind();
+    let offset = refusal.offset();
+    write!(out, "refused {number} {kind} {offset}")
 }
 
 fn print_tokens<W: Write>(
@@ -114,16 +79,11 @@ fn print_tokens<W: Write>(
     n: usize,
     layout: Layout,
 ) -> io::Result<()> {
-    let fixed = sifc_word::spellings();
-    for i in 0..n {
-        if offs.len() <= i {
-            break;
+    for (i, (off, word)) in offs.iter().zip(words).take(n).enumerate() {
+        if 0 < i && layout == Layout::List {
+            write!(out, " ")?;
         }
-        if words.len() <= i {
-            break;
-        }
-        print_gap(out, i, layout)?;
-        print_token(out, script, &fixed, offs[i], words[i], layout)?;
+        print_token(out, script, *off, *word, layout)?;
     }
     Ok(())
 }
@@ -132,9 +92,8 @@ fn print_tokens<W: Write>(
 pub fn show<W: Write>(out: &mut W, script: &[u8], layout: Layout) -> io::Result<()> {
     let mut offs = [0u32; 4097];
     let mut words = [0u32; 4097];
-    let said = sifc_tokens::tokens(script, &mut offs, &mut words);
-    match said {
-        TokensAnswer::Count(n) => print_tokens(out, script, &offs, &words, n, layout),
-        TokensAnswer::Refused(refusal) => print_refusal(out, refusal),
+    match sifc_tokens::tokens(script, &mut offs, &mut words) {
+        Ok(n) => print_tokens(out, script, &offs, &words, n, layout),
+        Err(refusal) => print_refusal(out, refusal),
     }
 }

@@ -2,8 +2,7 @@
 // line, as the listing program has it.
 #![tactic(auto)]
 
-use sif_show::print;
-use sifc_def::Texting;
+use sif_show::{Buffers, print_refusal};
 use sifc_err::Refusal;
 use sifc_word::part;
 use std::io;
@@ -14,72 +13,39 @@ const MOST: usize = 4096;
 
 fn main(rt: HostRuntime) -> io::Result<()> {
     let mut script = Vec::new(rt.alloc());
-    let mut offs = [0u32; 4097];
-    let mut words = [0u32; 4097];
-    let mut heads = [0u32; 4097];
-    let mut loads = [0u32; 4097];
-    let mut symbols = [0u32; 8192];
-    let mut places = [0u32; 1024];
-    let mut reasons = [0u32; 1024];
-    let mut text = [0u8; 16384];
     rt.stdin().take(MOST as u64 + 1).read_to_end(&mut script)?;
     let mut out = BufWriter::new(rt.alloc(), rt.stdout())?;
-    write(
-        &mut out,
-        script.as_slice(),
-        &mut offs,
-        &mut words,
-        &mut heads,
-        &mut loads,
-        &mut symbols,
-        &mut places,
-        &mut reasons,
-        &mut text,
-    )?;
+    answer(&mut out, script.as_slice())?;
     out.flush()
 }
 
 // The text of a script of at most 4,096 bytes.
-fn text_of(
-    script: &[u8],
-    offs: &mut [u32],
-    words: &mut [u32],
-    heads: &mut [u32],
-    loads: &mut [u32],
-    symbols: &mut [u32],
-    places: &mut [u32],
-    reasons: &mut [u32],
-    text: &mut [u8],
-) -> Texting {
+fn text_of(script: &[u8], lent: &mut Buffers, text: &mut [u8]) -> Result<usize, Refusal> {
     if MOST < script.len() {
-        return Texting::Refused(Refusal::LongScript);
+        return Err(Refusal::LongScript);
     }
     sifc_text::text(
-        script, offs, words, heads, loads, symbols, places, reasons, text,
+        script,
+        &mut lent.offs,
+        &mut lent.words,
+        &mut lent.heads,
+        &mut lent.loads,
+        &mut lent.symbols,
+        &mut lent.places,
+        &mut lent.reasons,
+        text,
     )
 }
 
 // Prints the text of a script, or its refusal.
-fn write<W: Write>(
-    out: &mut W,
-    script: &[u8],
-    offs: &mut [u32],
-    words: &mut [u32],
-    heads: &mut [u32],
-    loads: &mut [u32],
-    symbols: &mut [u32],
-    places: &mut [u32],
-    reasons: &mut [u32],
-    text: &mut [u8],
-) -> io::Result<()> {
-    let said = text_of(
-        script, offs, words, heads, loads, symbols, places, reasons, text,
-    );
-    match said {
-        Texting::Wrote(n) => print(out, part(text, 0, n)),
-        Texting::Refused(refusal) => {
-            sif_show::print_refusal(out, refusal)?;
-            print(out, b"\n")
+fn answer<W: Write>(out: &mut W, script: &[u8]) -> io::Result<()> {
+    let mut lent = Buffers::new();
+    let mut text = [0; 16384];
+    match text_of(script, &mut lent, &mut text) {
+        Ok(n) => out.write_all(part(&text, 0, n)),
+        Err(refusal) => {
+            print_refusal(out, refusal)?;
+            writeln!(out)
         }
     }
 }

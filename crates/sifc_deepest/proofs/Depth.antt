@@ -1,6 +1,6 @@
 -- The theorem of ask 14: 3 * n + 3 is the greatest number of counted calls active in a walk over n bytes, flagged ones included, whatever the rooms. The definition
 -- has a limit and no counter, so the number is the least limit at which the walk is not refusal 6.
-use Rattle.std.specs.Prelude.{ℕ, ◌≤◌, ◌<◌, List, [], ◌∷◌, ◌++◌, map, Bool, true, false, ◌≡◌, refl, eqb, ltb, length, take, replicate}
+use Rattle.std.specs.Prelude.{ℕ, ◌≤◌, ◌<◌, List, [], ◌∷◌, ◌++◌, map, Bool, true, false, ◌≡◌, refl, eqb, ltb, length, take, replicate, Some, None}
 use Rattle.std.proofs.Common.{subst, arith, take_at, ltb-true, ltb-false, le-ltb, eqb-true}
 use Rattle.std.proofs.lemmas.List.{length-replicate}
 use Rattle.std.proofs.lemmas.Bool.{eqb-false}
@@ -13,7 +13,6 @@ use Rattle.sifc_def.specs.State.{Out, done, fail, refuse}
 use Rattle.sifc_def.specs.Walk.{End, walk}
 use Rattle.sifc_def.specs.Read.{Rooms, Outcome, refused, ctx_of, depth_limit, ended, read}
 use Rattle.sifc_def.proofs.TokLaws.{worth, lexed-toks}
-use Rattle.sifc_deepest.specs.declared.DeepestAnswer.TheVariants.{Depth, NoLength}
 use Rattle.sifc_deepest.specs.Deepest.{opening, longest, depth_of, openings, deepest_called, deepest_call}
 use Rattle.sifc_deepest.proofs.DeepestLaws.{call-zero, call_long, call-small, call-given}
 use Rattle.sifc_deepest.specs.Signs.{signs}
@@ -68,11 +67,11 @@ pub record Given (n : ℕ) (b : List ℕ) (d : ℕ) : Type 0 where
   pub greatest : (r : Rooms) (s : List ℕ) (e : ℕ) → length s ≡ n → Active r s e → e ≤ d
 
 -- A depth that the call answers is the greatest for its length, and the bytes that it leaves in front have it.
-pub deepest-given : (n : ℕ) (b : List ℕ) (d : ℕ) → (deepest_call n b).answer ≡ Depth d → Given n b d
+pub deepest-given : (n : ℕ) (b : List ℕ) (d : ℕ) → (deepest_call n b).answer ≡ Some d → Given n b d
 unfolding padded
 deepest-given n b d h = go (eqb n 0) refl (ltb longest n) refl (ltb (length b) n) refl
   where
-    none : deepest_call n b ≡ deepest_called NoLength b → Given n b d
+    none : deepest_call n b ≡ deepest_called None b → Given n b d
     none e = let z : ◌≡◌ {A = ℕ} 0 1 = cc in absurd (omega arith)
 
     go : (x : Bool) → eqb n 0 ≡ x → (y : Bool) → ltb longest n ≡ y → (z : Bool) → ltb (length b) n ≡ z → Given n b d
@@ -128,12 +127,12 @@ long-read r n l h = go (ltb r.tokens (length (lex (openings n)))) (le-ltb r.toke
 
 -- The numbers of ask 14: 1 and 255 bytes, a buffer that is just long enough, and what has no answer.
 pub worked : map (λ (n : ℕ). deepest_call n (9 ∷ 9 ∷ 9 ∷ [])) (0 ∷ 1 ∷ 3 ∷ 4 ∷ []) ++ map (λ (n : ℕ). deepest_call n (replicate 256 9)) (255 ∷ 256 ∷ [])
-    ≡ deepest_called NoLength (9 ∷ 9 ∷ 9 ∷ [])
-    ∷ deepest_called (Depth 6) (40 ∷ 0 ∷ 0 ∷ [])
-    ∷ deepest_called (Depth 12) (40 ∷ 40 ∷ 40 ∷ [])
-    ∷ deepest_called NoLength (9 ∷ 9 ∷ 9 ∷ [])
-    ∷ deepest_called (Depth 768) (replicate 255 40 ++ 0 ∷ [])
-    ∷ deepest_called NoLength (replicate 256 9)
+    ≡ deepest_called None (9 ∷ 9 ∷ 9 ∷ [])
+    ∷ deepest_called (Some 6) (40 ∷ 0 ∷ 0 ∷ [])
+    ∷ deepest_called (Some 12) (40 ∷ 40 ∷ 40 ∷ [])
+    ∷ deepest_called None (9 ∷ 9 ∷ 9 ∷ [])
+    ∷ deepest_called (Some 768) (replicate 255 40 ++ 0 ∷ [])
+    ∷ deepest_called None (replicate 256 9)
     ∷ []
 unfolding deepest_call
 worked = refl

@@ -1,10 +1,8 @@
 -- Document 02, ask 14: the deepest script of a length. "For a length of n bytes, 1 to 255, give a script with the greatest number of counted calls active (as in
 -- TooDeep), and that number." That the number is the greatest is shown in Depth.antt.
-use Rattle.std.specs.Prelude.{ℕ, ◌+◌, ◌*◌, List, eqb, ltb, length, replicate}
+use Rattle.std.specs.Prelude.{ℕ, ◌≡◌, ◌+◌, ◌*◌, List, eqb, ltb, length, replicate, Option, Some, None}
 use Rattle.sifc_word.specs.Base.{if◌then◌otherwise◌}
 use Rattle.sifc_tokens.specs.Tokens.{padded}
-use Rattle.sifc_deepest.specs.declared.DeepestAnswer.{DeepestAnswer}
-use Rattle.sifc_deepest.specs.declared.DeepestAnswer.TheVariants.{Depth, NoLength}
 
 -- the byte of `(`
 abbrev pub opening : ℕ
@@ -22,17 +20,12 @@ depth_of n = 3 * n + 3
 abbrev pub openings : ℕ → List ℕ
 openings n = replicate n opening
 
--- the byte at an index of the buffer after a success
-unfoldable pub byte_at : ℕ → ℕ → ℕ
-unfolding if◌then◌otherwise◌
-byte_at n i = if ltb i n then opening otherwise 0
-
--- an answer, and the buffer afterwards
+-- an answer, the depth or none for "NoLength", and the buffer afterwards
 pub record DeepestCall : Type 0 where
-  pub answer : DeepestAnswer
+  pub answer : Option ℕ
   pub script : List ℕ
 
-abbrev pub deepest_called : DeepestAnswer → List ℕ → DeepestCall
+abbrev pub deepest_called : Option ℕ → List ℕ → DeepestCall
 deepest_called x b = record { answer = x; script = b }
 
 -- The call: from a length and the lent buffer to the answer and the buffer as it leaves it. "20 NoLength, at entry, for n of 0 or over 255 or a buffer shorter than
@@ -40,10 +33,10 @@ deepest_called x b = record { answer = x; script = b }
 unfoldable pub deepest_call : ℕ → List ℕ → DeepestCall
 unfolding if◌then◌otherwise◌ padded
 deepest_call n b =
-    if eqb n 0 then deepest_called NoLength b
-    otherwise if ltb longest n then deepest_called NoLength b
-    otherwise if ltb (length b) n then deepest_called NoLength b
-    otherwise deepest_called (Depth (depth_of n)) (padded (openings n) (length b))
+    if eqb n 0 then deepest_called None b
+    otherwise if ltb longest n then deepest_called None b
+    otherwise if ltb (length b) n then deepest_called None b
+    otherwise deepest_called (Some (depth_of n)) (padded (openings n) (length b))
 
 -- ── the answer in numbers, as a host sees it ──
 
@@ -55,9 +48,9 @@ pub record DeepestNumbers : Type 0 where
 abbrev pub deepest_answer : ℕ → ℕ → DeepestNumbers
 deepest_answer d n = record { depth = d; number = n }
 
-abbrev pub deepest_numbers : DeepestAnswer → DeepestNumbers
-deepest_numbers (Depth d) = deepest_answer d 0
-deepest_numbers NoLength = deepest_answer 0 20
+abbrev pub deepest_numbers : Option ℕ → DeepestNumbers
+deepest_numbers (Some d) = deepest_answer d 0
+deepest_numbers None = deepest_answer 0 20
 
 -- the numbers, and the buffer as it is
 pub record DeepestTold : Type 0 where
@@ -69,3 +62,7 @@ deepest_told n b = record { answer = n; script = b }
 
 unfoldable pub told_deepest : DeepestCall → DeepestTold
 told_deepest c = deepest_told (deepest_numbers c.answer) c.script
+
+-- what the call for hosts promises: what it says and leaves, of the length and the lent buffer
+abbrev pub DeepestSaid : ℕ → List ℕ → DeepestNumbers → List ℕ → Type 0
+DeepestSaid n lent said left = deepest_told said left ≡ told_deepest (deepest_call n lent)

@@ -1,11 +1,10 @@
 -- Corners of the reference that a reader of document 01 can miss, each checked by running the Rust.
-use Rattle.std.specs.Prelude.{ℕ, zero, suc, ◌≡◌, refl, List, [], ◌∷◌, ◌++◌, map, true, false}
+use Rattle.std.specs.Prelude.{ℕ, zero, suc, ◌≡◌, refl, List, [], ◌∷◌, ◌++◌, map, true, false, None, Some}
 use Prim.Native.String.{String}
 use Rattle.sifc_err.specs.declared.Refusal.TheVariants.{SourceFault, TooDeep, NodesFull, SymbolsFull, ErrorsFull}
 use Rattle.sifc_err.specs.declared.parse_err.ParseErrTy.TheVariants.{TknMismatch}
 use Rattle.sifc_word.specs.Kind.{LeftParen, RightParen, Semicolon, Eq, Star, Percent, Ident, Str, Val, Var, Eof, LexPanic}
 use Rattle.sifc_lex.specs.Lex.{token}
-use Rattle.sifc_def.specs.declared.Early.TheVariants.{Never, By}
 use Rattle.sifc_def.specs.Ast.{Program, ExprStmt, VarDecl, FnCallExpr, BinaryExpr, PrimaryExpr}
 use Rattle.sifc_def.specs.State.{node}
 use Rattle.sifc_def.specs.Ascii.{ascii}
@@ -89,16 +88,16 @@ corners =
     (token Val 0 1 ∷ token Star 1 1 ∷ token Val 2 1 ∷ token Percent 3 1 ∷ token Val 4 1 ∷ token Semicolon 5 1 ∷ token Eof 6 0 ∷ [])
     (node PrimaryExpr false 0 0 ∷ node PrimaryExpr false 0 2 ∷ node PrimaryExpr false 0 4 ∷ node BinaryExpr false 2 3 ∷ node BinaryExpr false 2 1 ∷ node ExprStmt false 1 0
     ∷ node Program false 1 0 ∷ [])
-    [] false Never)
+    [] false None)
     ∷ reads "5 5 // c"
     (answers (token Val 0 1 ∷ token Val 2 1 ∷ token LexPanic 4 0 ∷ []) (node Program false 0 0 ∷ []) [] true
-    (By (record { line = 1; pos = 2; ty = TknMismatch Semicolon (token Val 2 1) })))
+    (Some (record { line = 1; pos = 2; ty = TknMismatch Semicolon (token Val 2 1) })))
     ∷ reads "\"print\"(1);"
     (answers (token Str 0 7 ∷ token LeftParen 7 1 ∷ token Val 8 1 ∷ token RightParen 9 1 ∷ token Semicolon 10 1 ∷ token Eof 11 0 ∷ [])
-    (node PrimaryExpr false 0 0 ∷ node PrimaryExpr false 0 2 ∷ node FnCallExpr true 2 0 ∷ node ExprStmt false 1 0 ∷ node Program false 1 0 ∷ []) [] false Never)
+    (node PrimaryExpr false 0 0 ∷ node PrimaryExpr false 0 2 ∷ node FnCallExpr true 2 0 ∷ node ExprStmt false 1 0 ∷ node Program false 1 0 ∷ []) [] false None)
     ∷ reads "var a = 1;\n"
     (answers (token Var 0 3 ∷ token Ident 4 1 ∷ token Eq 6 1 ∷ token Val 8 1 ∷ token Semicolon 9 1 ∷ token Eof 11 0 ∷ [])
-    (node PrimaryExpr false 0 3 ∷ node VarDecl true 1 1 ∷ node Program false 1 0 ∷ []) [] false Never)
+    (node PrimaryExpr false 0 3 ∷ node VarDecl true 1 1 ∷ node Program false 1 0 ∷ []) [] false None)
     -- where the rooms end: nodes, symbols, errors
     ∷ says 0 20 10 (ascii "1// c") (no NodesFull)
     ∷ says 0 20 10 (ascii "fn f(a// c") (no (SourceFault 1 6))

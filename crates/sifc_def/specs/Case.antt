@@ -1,5 +1,5 @@
 -- How a case is written: a script, and what the papers say of it. `ran` is what the definitions give.
-use Rattle.std.specs.Prelude.{ℕ, suc, ◌+◌, ◌-◌, ◌*◌, ◌/◌, ◌%◌, List, [], ◌∷◌, map, Bool, length, replicate, get_or}
+use Rattle.std.specs.Prelude.{ℕ, suc, ◌+◌, ◌-◌, ◌*◌, ◌/◌, ◌%◌, List, [], ◌∷◌, map, Bool, length, replicate, get_or, Err, None, Ok, Some}
 use Prim.Native.String.{String}
 use Rattle.sifc_err.specs.declared.Token.{Token}
 use Rattle.sifc_err.specs.declared.Refusal.{Refusal}
@@ -9,12 +9,7 @@ use Rattle.sifc_word.specs.Kind.{Eof}
 use Rattle.sifc_lex.specs.Lex.{token, lex}
 use Rattle.sifc_tokens.specs.Place.{place_of, place}
 use Rattle.sifc_tokens.specs.Tokens.{offs_of, words_of, padded, zeroed}
-use Rattle.sifc_def.specs.declared.Early.{Early}
-use Rattle.sifc_def.specs.declared.Early.TheVariants.{Never, By}
-use Rattle.sifc_def.specs.declared.Reading.{Reading}
-use Rattle.sifc_def.specs.declared.Reading.TheVariants.{Read, Refused}
-use Rattle.sifc_def.specs.declared.Texting.{Texting}
-use Rattle.sifc_def.specs.declared.Texting.TheVariants.{Wrote, Refused as NoText}
+use Rattle.sifc_def.specs.Answer.{Early, Reading, Texting}
 use Rattle.sifc_def.specs.Ascii.{ascii}
 use Rattle.sifc_def.specs.State.{Node}
 use Rattle.sifc_def.specs.Read.{Arrays, Called, called, Written, cleared_arrays, head_word, reading, text_call}
@@ -49,7 +44,7 @@ listed l p n a b = record { line = l; column = p; number = n; first = a; second 
 -- the whole answer and all arrays of a reading in `lent` with these tokens, nodes, errors, flag and ending error
 abbrev pub answers : List Token → List Node → List Listed → Bool → Early → Called Reading
 answers ts ns es f e =
-    called (Read (record { tokens = length ts; nodes = length ns; errors = length es; flag = f; early = e })) (record {
+    called (Ok (record { tokens = length ts; nodes = length ns; errors = length es; flag = f; early = e })) (record {
       offs = padded (offs_of ts) 40;
       words = padded (words_of ts) 40;
       heads = padded (map head_word ns) 40;
@@ -60,7 +55,7 @@ answers ts ns es f e =
     })
 
 abbrev pub refuses : Refusal → Called Reading
-refuses r = called (Refused r) (cleared_arrays lent)
+refuses r = called (Err r) (cleared_arrays lent)
 
 -- a reading in short: a refusal, or the node count, the errors, the flag, and the place and number of the ending error
 pub data Short : Type 0 where
@@ -89,13 +84,13 @@ errors (suc n) (p ∷ ps) [] = []
 errors (suc n) (p ∷ ps) (w ∷ ws) = listed (suc (p / 65536)) (p % 65536) (w % 16) (w / 16 % 65536) (w / 1048576) ∷ errors n ps ws
 
 unfoldable pub short_end : ℕ → List Listed → Bool → Early → Short
-short_end n es f Never = ok n es f
-short_end n es f (By x) = early n es x.line x.pos (values_of x.ty).number
+short_end n es f None = ok n es f
+short_end n es f (Some x) = early n es x.line x.pos (values_of x.ty).number
 
 unfoldable pub short_of : Arrays → Reading → Short
 unfolding errors short_end
-short_of a (Refused r) = no r
-short_of a (Read m) = short_end m.nodes (errors m.errors a.places a.reasons) m.flag m.early
+short_of a (Err r) = no r
+short_of a (Ok m) = short_end m.nodes (errors m.errors a.places a.reasons) m.flag m.early
 
 unfoldable pub last_place : List ℕ → Place
 unfolding lex place_of
@@ -104,8 +99,8 @@ last_place s = place_of s (get_or (lex s) (length (lex s) - 1) (token Eof 0 0)).
 -- a call leaves its text, or zeros
 unfoldable pub text_left : ℕ → Texting → String → List ℕ
 unfolding padded
-text_left n (Wrote m) t = padded (ascii t) n
-text_left n (NoText r) t = replicate n 0
+text_left n (Ok m) t = padded (ascii t) n
+text_left n (Err r) t = replicate n 0
 
 unfoldable pub ran : Case → Result
 unfolding reading text_call last_place short_of

@@ -9,6 +9,7 @@ pub mod Walk
 pub mod Label
 pub mod Tree
 pub mod Text
+pub mod Answer
 pub mod Read
 pub mod Canon
 pub mod Typed

@@ -1,5 +1,5 @@
 -- The calls' answers and what they leave in the lent arrays: reading, and canonical text.
-use Rattle.std.specs.Prelude.{ℕ, ◌+◌, ◌*◌, ◌/◌, List, map, reverse, Bool, true, false, ◌&&◌, eqb, ltb, length}
+use Rattle.std.specs.Prelude.{ℕ, ◌+◌, ◌*◌, ◌/◌, List, map, reverse, Bool, true, false, ◌&&◌, eqb, ltb, length, Err, None, Ok, Some}
 use Rattle.std.proofs.Math.Option.{Option, none, some}
 use Rattle.sifc_err.specs.declared.Token.{Token}
 use Rattle.sifc_err.specs.declared.Ending.{Ending}
@@ -7,20 +7,12 @@ use Rattle.sifc_err.specs.declared.Ending.TheVariants.{TrueEnd, UnknownChar, Unt
 use Rattle.sifc_err.specs.declared.Refusal.{Refusal}
 use Rattle.sifc_err.specs.declared.Refusal.TheVariants.{Uneven, TokensFull, Flagged, TextFull}
 use Rattle.sifc_err.specs.Refusal.{number_of, kind_of, offset_of}
-use Rattle.sifc_tokens.specs.declared.call.Checked.{Checked}
-use Rattle.sifc_tokens.specs.declared.call.Checked.TheVariants.{Fine}
-use Rattle.sifc_tokens.specs.declared.call.Checked.TheVariants as check
 use Rattle.sifc_word.specs.Base.{if◌then◌otherwise◌}
 use Rattle.sifc_lex.specs.Lex.{lex, ending}
-use Rattle.sifc_tokens.specs.Tokens.{offs_of, words_of, padded, zeroed, check_of}
-use Rattle.sifc_def.specs.declared.Err.{Err}
-use Rattle.sifc_def.specs.declared.Early.{Early}
-use Rattle.sifc_def.specs.declared.Early.TheVariants.{Never, By}
+use Rattle.sifc_tokens.specs.Tokens.{Checked, passed, offs_of, words_of, padded, zeroed, check_of}
+use Rattle.sifc_def.specs.declared.Err.{Err as WalkErr}
+use Rattle.sifc_def.specs.Answer.{Early, Reading, Texting}
 use Rattle.sifc_def.specs.declared.Summary.{Summary}
-use Rattle.sifc_def.specs.declared.Reading.{Reading}
-use Rattle.sifc_def.specs.declared.Reading.TheVariants.{Read, Refused}
-use Rattle.sifc_def.specs.declared.Texting.{Texting}
-use Rattle.sifc_def.specs.declared.Texting.TheVariants.{Wrote, Refused as NoText}
 use Rattle.sifc_def.specs.Error.{parse_err, err_place, err_reason}
 use Rattle.sifc_def.specs.Label.{has_token, scope_of, text_of, labels}
 use Rattle.sifc_def.specs.State.{Node, Ctx, Out, done, fail, refuse}
@@ -77,7 +69,7 @@ unfoldable pub even : Arrays → Bool
 even a = eqb (length a.offs) (length a.words) && (eqb (length a.heads) (length a.loads) && eqb (length a.places) (length a.reasons))
 
 unfoldable pub entry : List ℕ → Arrays → Checked
-entry s a = elim (check_of s) [ check.Refused r ↦ check.Refused r | Fine ↦ if even a then Fine otherwise check.Refused Uneven ]
+entry s a = elim (check_of s) [ Err r ↦ Err r | Ok _ ↦ if even a then passed otherwise Err Uneven ]
 
 -- ── the token list and the walk: refusals 4 to 9 ──
 
@@ -85,9 +77,9 @@ entry s a = elim (check_of s) [ check.Refused r ↦ check.Refused r | Fine ↦ i
 pub record Found : Type 0 where
   pub toks : List Token
   pub nodes : List Node
-  pub errs : List Err
+  pub errs : List WalkErr
   pub flag : Bool
-  pub early : Option Err
+  pub early : Option WalkErr
 
 pub data Outcome : Type 0 where
   found : Found → Outcome
@@ -131,9 +123,9 @@ abbrev pub called : {A : Type 0} → A → Arrays → Called A
 called x a = record { answer = x; arrays = a }
 
 module _ (c : Ctx) where
-  abbrev pub early_of : Option Err → Early
-  early_of none = Never
-  early_of (some e) = By (parse_err c e)
+  abbrev pub early_of : Option WalkErr → Early
+  early_of none = None
+  early_of (some e) = Some (parse_err c e)
 
   abbrev pub summary : Found → Summary
   summary f = record { tokens = length f.toks; nodes = length f.nodes; errors = length f.errs; flag = f.flag; early = early_of f.early }
@@ -151,13 +143,13 @@ module _ (c : Ctx) where
       }
 
 unfoldable pub answered : List ℕ → Arrays → Outcome → Called Reading
-answered s a (found f) = called (Read (summary (ctx_of (rooms_of a) s) f)) (filled (ctx_of (rooms_of a) s) f a)
-answered s a (refused r) = called (Refused r) (cleared_arrays a)
+answered s a (found f) = called (Ok (summary (ctx_of (rooms_of a) s) f)) (filled (ctx_of (rooms_of a) s) f a)
+answered s a (refused r) = called (Err r) (cleared_arrays a)
 
 -- The reading call: from the script and the lent arrays to the answer and the arrays as it leaves them. "1 to 3 touch nothing".
 unfoldable pub reading : List ℕ → Arrays → Called Reading
 unfolding even entry ended read answered walk lex ending offs_of words_of padded zeroed check_of parse_err err_place if◌then◌otherwise◌
-reading s a = elim (entry s a) [ check.Refused r ↦ called (Refused r) a | Fine ↦ answered s a (read (rooms_of a) s) ]
+reading s a = elim (entry s a) [ Err r ↦ called (Err r) a | Ok _ ↦ answered s a (read (rooms_of a) s) ]
 
 -- ── the text call ──
 
@@ -176,16 +168,16 @@ text_found s f = text (labels s f.toks f.nodes)
 
 -- refusals 10 and 11: "the reading's flag is up", "the text is longer than its buffer"
 unfoldable pub texted : List ℕ → Arrays → List ℕ → Outcome → Written
-texted s a t (refused r) = written (NoText r) (cleared_arrays a) (zeroed t)
+texted s a t (refused r) = written (Err r) (cleared_arrays a) (zeroed t)
 texted s a t (found f) =
-    if f.flag then written (NoText Flagged) (cleared_arrays a) (zeroed t)
-    otherwise if ltb (length t) (length (text_found s f)) then written (NoText TextFull) (cleared_arrays a) (zeroed t)
-    otherwise written (Wrote (length (text_found s f))) (filled (ctx_of (rooms_of a) s) f a) (padded (text_found s f) (length t))
+    if f.flag then written (Err Flagged) (cleared_arrays a) (zeroed t)
+    otherwise if ltb (length t) (length (text_found s f)) then written (Err TextFull) (cleared_arrays a) (zeroed t)
+    otherwise written (Ok (length (text_found s f))) (filled (ctx_of (rooms_of a) s) f a) (padded (text_found s f) (length t))
 
 -- The text call, with a text buffer. After a success the arrays hold what the reading leaves in them.
 unfoldable pub text_call : List ℕ → Arrays → List ℕ → Written
 unfolding even entry ended read text_found texted walk lex ending offs_of words_of padded zeroed check_of parse_err err_place text has_token scope_of text_of if◌then◌otherwise◌
-text_call s a t = elim (entry s a) [ check.Refused r ↦ written (NoText r) a t | Fine ↦ texted s a t (read (rooms_of a) s) ]
+text_call s a t = elim (entry s a) [ Err r ↦ written (Err r) a t | Ok _ ↦ texted s a t (read (rooms_of a) s) ]
 
 -- ── the answers in this paper's numbers: "The answer is number, kind, offset, else zeros." ──
 
@@ -200,8 +192,8 @@ pub record ReadNumbers : Type 0 where
   pub offset : ℕ
 
 abbrev pub read_numbers : Reading → ReadNumbers
-read_numbers (Read m) = record { tokens = m.tokens; nodes = m.nodes; errors = m.errors; flag = m.flag; early = m.early; number = 0; kind = 0; offset = 0 }
-read_numbers (Refused r) = record { tokens = 0; nodes = 0; errors = 0; flag = false; early = Never; number = number_of r; kind = kind_of r; offset = offset_of r }
+read_numbers (Ok m) = record { tokens = m.tokens; nodes = m.nodes; errors = m.errors; flag = m.flag; early = m.early; number = 0; kind = 0; offset = 0 }
+read_numbers (Err r) = record { tokens = 0; nodes = 0; errors = 0; flag = false; early = None; number = number_of r; kind = kind_of r; offset = offset_of r }
 
 pub record TextNumbers : Type 0 where
   pub count : ℕ
@@ -210,5 +202,5 @@ pub record TextNumbers : Type 0 where
   pub offset : ℕ
 
 abbrev pub text_numbers : Texting → TextNumbers
-text_numbers (Wrote n) = record { count = n; number = 0; kind = 0; offset = 0 }
-text_numbers (NoText r) = record { count = 0; number = number_of r; kind = kind_of r; offset = offset_of r }
+text_numbers (Ok n) = record { count = n; number = 0; kind = 0; offset = 0 }
+text_numbers (Err r) = record { count = 0; number = number_of r; kind = kind_of r; offset = offset_of r }

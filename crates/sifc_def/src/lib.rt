@@ -1,7 +1,7 @@
 // The types that the reading's definition (specs/) and its code share.
 #![tactic(auto)]
 
-use sifc_err::{ParseErr, Refusal};
+use sifc_err::ParseErr;
 
 // Why a declaration fails, in terms of token indices: ParseErrTy, with the index of a token where that
 // has the token.
@@ -39,32 +39,13 @@ pub enum What {
     Other,
 }
 
-// The error that ended a reading before its script's end.
-#[derive(Clone, Copy)]
-pub enum Early {
-    Never,
-    By(ParseErr),
-}
-
-// What a reading answers: how many tokens, nodes and errors, has_err, and the error that ended it.
+// What a reading answers: how many tokens, nodes and errors, has_err, and the error that ended it before
+// its script's end, if one did.
 #[derive(Clone, Copy)]
 pub struct Summary {
     pub tokens: usize,
     pub nodes: usize,
     pub errors: usize,
     pub flag: bool,
-    pub early: Early,
-}
-
-#[derive(Clone, Copy)]
-pub enum Reading {
-    Read(Summary),
-    Refused(Refusal),
-}
-
-// What a text call answers: how many bytes.
-#[derive(Clone, Copy)]
-pub enum Texting {
-    Wrote(usize),
-    Refused(Refusal),
+    pub early: Option<ParseErr>,
 }

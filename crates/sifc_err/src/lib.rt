@@ -10,7 +10,8 @@ ghost use Rattle.sifc_err.specs.Refusal.{number_of, kind_of, offset_of};
 pub use parse_err::{ParseErr, ParseErrTy};
 
 // A token: its kind (the order of TokenTy, from 1), where its text begins in the script, and how
-// many bytes the text has. 47 is Eof, 48 a lexing panic; both have length 0.
+// many bytes the text has. 47 is Eof, 48 a lexing panic; both have length 0. The kind stays a number,
+// since the lent words and the hosts hold it as one.
 #[derive(Clone, Copy)]
 pub struct Token {
     pub kind: u32,
@@ -20,7 +21,7 @@ pub struct Token {
 
 // Why the tokens of a script end. UnknownChar and UnterminatedString are the cases of LexErrTy.
 // Panic holds the kind of the lexing panic: 1 is `//` with no newline after it, 2 a number with a
-// point that runs to the script's end.
+// point that runs to the script's end; a number, since hosts are told it as one.
 #[derive(Clone, Copy)]
 pub enum Ending {
     TrueEnd,
@@ -72,16 +73,7 @@ impl Refusal {
     {
         match self {
             Refusal::SourceFault(kind, _) => kind,
-            Refusal::LongScript => 0,
-            Refusal::NotAscii(_) => 0,
-            Refusal::Uneven => 0,
-            Refusal::TokensFull => 0,
-            Refusal::TooDeep => 0,
-            Refusal::NodesFull => 0,
-            Refusal::SymbolsFull => 0,
-            Refusal::ErrorsFull => 0,
-            Refusal::Flagged => 0,
-            Refusal::TextFull => 0,
+            _ => 0,
         }
     }
 
@@ -90,17 +82,8 @@ impl Refusal {
         ensures { result ≡ offset_of self }
     {
         match self {
-            Refusal::NotAscii(offset) => offset,
-            Refusal::SourceFault(_, offset) => offset,
-            Refusal::LongScript => 0,
-            Refusal::Uneven => 0,
-            Refusal::TokensFull => 0,
-            Refusal::TooDeep => 0,
-            Refusal::NodesFull => 0,
-            Refusal::SymbolsFull => 0,
-            Refusal::ErrorsFull => 0,
-            Refusal::Flagged => 0,
-            Refusal::TextFull => 0,
+            Refusal::NotAscii(offset) | Refusal::SourceFault(_, offset) => offset,
+            _ => 0,
         }
     }
 }

@@ -7,7 +7,8 @@ use crate::Token;
 // Why a declaration did not parse, or was listed all the same. Where the Rust carries a token's
 // spelling, the token stands here. TknMismatch holds the expected kind first, WrongFnParmCnt the
 // expected count. The Rust's InvalidTkn carries a spelling or a fixed message, so it has two cases here:
-// message 1 is `expected either '=' or ';`, 2 `unexpected end of file`, 3 `expected identifier`.
+// message 1 is `expected either '=' or ';`, 2 `unexpected end of file`, 3 `expected identifier`. Kinds and
+// messages stay numbers, since the lent error words hold them so.
 // A blank record has no reason.
 #[derive(Clone, Copy)]
 pub enum ParseErrTy {
@@ -42,8 +43,7 @@ impl ParseErrTy {
         match self {
             ParseErrTy::NoReason => 0,
             ParseErrTy::InvalidIdent(_) => 1,
-            ParseErrTy::InvalidTkn(_) => 2,
-            ParseErrTy::InvalidTknMsg(_) => 2,
+            ParseErrTy::InvalidTkn(_) | ParseErrTy::InvalidTknMsg(_) => 2,
             ParseErrTy::InvalidAssign(_) => 3,
             ParseErrTy::InvalidForStmt => 4,
             ParseErrTy::InvalidIfStmt => 5,

@@ -1,24 +1,29 @@
 -- What clearing leaves of an array, and the tests of entry.
+use Rattle.std.specs.Prelude.{Ok, Err}
 use Prim.Native.Nat.{ℕ, ◌+◌, ◌-◌, ◌/◌, ◌%◌, ◌≤◌, ◌<◌}
 use mathlib.Core.Path.{◌≡◌, refl, sym, ap, ap₂, ◌∙◌}
-use mathlib.Core.List.{List, [], ◌++◌, map}
+use mathlib.Core.List.{List, [], ◌++◌, map, append-nil}
 use mathlib.Core.Bool.{Bool, true, false}
 use native.Mathlib.Omega.{arith}
 use lib.ListN.{length, take, drop, get_or, replicate, length-append, length-drop, length-map}
-use lib.Seq.{length-take-le, take_at}
+use lib.Seq.{length-take-le, take_at, drop-length}
+use borrow.Rule.Slice.PartMut.{put_mid, Post-is}
 use Rattle.sifc_err.specs.declared.Refusal.{Refusal}
 use Rattle.sifc_err.specs.declared.Refusal.TheVariants.{Uneven}
-use Rattle.sifc_tokens.specs.declared.call.Checked.{Checked}
-use Rattle.sifc_tokens.specs.declared.call.Checked.TheVariants.{Fine}
-use Rattle.sifc_tokens.specs.declared.call.Checked.TheVariants as check
 use Rattle.sifc_word.specs.Base.{if◌then◌otherwise◌}
 use Rattle.sifc_lex.specs.Lex.{token}
-use Rattle.sifc_tokens.specs.Tokens.{padded, zeroed, check_of}
+use Rattle.sifc_tokens.specs.Tokens.{Checked, passed, padded, zeroed, check_of}
 use Rattle.sifc_def.specs.State.{token_at}
 use Rattle.sifc_def.specs.Read.{Arrays, cleared_arrays, even, entry}
 use Rattle.sifc_symtab.specs.Toks.{toks_of, toks-at}
 use Rattle.sifc_lent.specs.Parts.{arrays}
 use Rattle.sifc_lent.proofs.PartLaws.{same-arrays}
+
+-- what is left of a list whose end is filled
+pub fill_tail : {X : Type 0} (n : ℕ) (xs ys : List X) (v : X) → n ≤ length xs → ys ≡ replicate (length (take (length xs - n) (drop n xs))) v → put_mid n (length xs - n) xs ys ≡ take n xs ++ replicate (length xs - n) v
+fill_tail {X} n xs ys v h e =
+    let m : length (take (length xs - n) (drop n xs)) ≡ length xs - n = length-take-le (length xs - n) (drop n xs) (omega (arith, length-drop n xs)) in
+    ap (λ (z : List X). take n xs ++ z) (ap₂ (λ (a b : List X). a ++ b) (e ∙ ap (λ (k : ℕ). replicate k v) m) (Post-is n (length xs) xs h ∙ drop-length xs) ∙ append-nil (replicate (length xs - n) v))
 
 pub front_kept : (a a' : List ℕ) (n : ℕ) → n ≤ length a → a' ≡ take n a ++ replicate (length a - n) 0 → a' ≡ padded (take n a) (length a)
 unfolding padded
@@ -43,21 +48,21 @@ six-cleared o w h l p r eo ew eh el ep er = same-arrays eo ew eh el refl ep er
 
 -- what the tests of entry come to, by that of the script and that of the lengths
 abbrev by_tests : Checked → Bool → Checked
-by_tests k b = elim k [ check.Refused r ↦ check.Refused r | Fine ↦ if b then Fine otherwise check.Refused Uneven ]
+by_tests k b = elim k [ Err r ↦ Err r | Ok _ ↦ if b then passed otherwise Err Uneven ]
 
 entry-is : (s : List ℕ) (a : Arrays) → by_tests (check_of s) (even a) ≡ entry s a
 unfolding entry
 entry-is s a = refl
 
-pub entry-passed : (s : List ℕ) (a : Arrays) → check_of s ≡ Fine → even a ≡ true → Fine ≡ entry s a
+pub entry-passed : (s : List ℕ) (a : Arrays) → check_of s ≡ passed → even a ≡ true → passed ≡ entry s a
 unfolding if◌then◌otherwise◌
 entry-passed s a e f = sym (ap₂ by_tests e f) ∙ entry-is s a
 
-pub entry-uneven : (s : List ℕ) (a : Arrays) → check_of s ≡ Fine → even a ≡ false → check.Refused Uneven ≡ entry s a
+pub entry-uneven : (s : List ℕ) (a : Arrays) → check_of s ≡ passed → even a ≡ false → Err Uneven ≡ entry s a
 unfolding if◌then◌otherwise◌
 entry-uneven s a e f = sym (ap₂ by_tests e f) ∙ entry-is s a
 
-pub entry-refused : (s : List ℕ) (a : Arrays) (f : Refusal) → check_of s ≡ check.Refused f → check.Refused f ≡ entry s a
+pub entry-refused : (s : List ℕ) (a : Arrays) (f : Refusal) → check_of s ≡ Err f → Err f ≡ entry s a
 entry-refused s a f e = sym (ap (λ (k : Checked). by_tests k (even a)) e) ∙ entry-is s a
 
 -- the token of two words

@@ -1,5 +1,5 @@
 -- The parts of the reading call together leave what the definition says.
-use Rattle.std.specs.Prelude.{ℕ, zero, suc, ◌-◌, ◌/◌, ◌%◌, ◌≤◌, ◌<◌, ◌≡◌, Bool, true, false, eqb, ltb, get_or, replicate}
+use Rattle.std.specs.Prelude.{ℕ, zero, suc, ◌-◌, ◌/◌, ◌%◌, ◌≤◌, ◌<◌, ◌≡◌, Bool, true, false, eqb, ltb, get_or, replicate, Err, Ok, Some}
 use Rattle.std.proofs.Math.Path.{refl, sym, ap, ap₂}
 use Rattle.std.proofs.Common.{◌∙◌, subst, arith, le-ltb, eqb-true, ltb-true, ltb-false, length-append, take-suc}
 use mathlib.Core.List.{List, [], ◌∷◌, ◌++◌, map, reverse, reverse-cons, map-append}
@@ -16,9 +16,7 @@ use Rattle.sifc_tokens.specs.Place.{place_of}
 use Rattle.sifc_tokens.specs.Tokens.{offs_of, words_of, padded, zeroed}
 use Rattle.sifc_tokens.specs.Loaded.{Used}
 use Rattle.sifc_tokens.proofs.TokensLaws.{padded-used}
-use Rattle.sifc_def.specs.declared.Early.TheVariants.{By}
-use Rattle.sifc_def.specs.declared.Err.{Err}
-use Rattle.sifc_def.specs.declared.Reading.TheVariants as reading
+use Rattle.sifc_def.specs.declared.Err.{Err as WalkErr}
 use Rattle.sifc_def.specs.declared.Summary.{Summary}
 use Rattle.sifc_def.specs.declared.Why.{Why}
 use Rattle.sifc_def.specs.declared.Why.TheVariants.{InvalidIdent, InvalidTkn, InvalidTknMsg, InvalidAssign, InvalidForStmt, InvalidIfStmt, TknMismatch, FnParmCntExceeded, WrongFnParmCnt, UndeclSym, UnassignedVar, ExpectedIdent}
@@ -76,7 +74,7 @@ loads-back (suc n) hs ls h =
 
 -- ── errors ──
 
-pub reasons-back : (c : Ctx) (ps rs : List ℕ) (E : List Err) → Notes ps rs E → length E ≤ length rs → map (err_reason c) (reverse E) ≡ take (length E) rs
+pub reasons-back : (c : Ctx) (ps rs : List ℕ) (E : List WalkErr) → Notes ps rs E → length E ≤ length rs → map (err_reason c) (reverse E) ≡ take (length E) rs
 unfolding Notes
 reasons-back c ps rs [] a h = refl
 reasons-back c ps rs (e ∷ E) a h =
@@ -92,11 +90,11 @@ off_of os ws i e = go (ltb i (length os)) refl
         let h : length os ≤ i = ltb-false i (length os) f in
         ap (λ (t : Token). t.off) (toks-past-offs os ws i h) ∙ sym (get_or-eq_default os 0 h)
 
-place-word : (c : Ctx) (e : Err) → err_place c e ≡ place_word (place_of c.script (tok_at c e.place).off)
+place-word : (c : Ctx) (e : WalkErr) → err_place c e ≡ place_word (place_of c.script (tok_at c e.place).off)
 unfolding err_place place_at
 place-word c e = refl
 
-place_is : (c : Ctx) (os ws : List ℕ) (e : Err) → length os ≡ length ws → c.toks ≡ toks_of os ws → err_place c e ≡ place_word_at c.script os e.place
+place_is : (c : Ctx) (os ws : List ℕ) (e : WalkErr) → length os ≡ length ws → c.toks ≡ toks_of os ws → err_place c e ≡ place_word_at c.script os e.place
 unfolding place_word_at
 place_is c os ws e l t =
     place-word c e ∙ ap (λ (o : ℕ). place_word (place_of c.script o)) (ap (λ (ts : List Token). (token_at ts e.place).off) t ∙ off_of os ws e.place l)
@@ -104,7 +102,7 @@ place_is c os ws e l t =
 map_more : (f : ℕ → ℕ) (a : List ℕ) (n : ℕ) → n < length a → map f (take (suc n) a) ≡ map f (take n a) ++ (f (get_or a n 0) ∷ [])
 map_more f a n h = ap (map f) (take-suc a n 0 h) ∙ map-append f (take n a) (get_or a n 0 ∷ [])
 
-pub places-back : (c : Ctx) (os ws ps rs : List ℕ) (E : List Err) → length os ≡ length ws → c.toks ≡ toks_of os ws → Notes ps rs E → length E ≤ length ps
+pub places-back : (c : Ctx) (os ws ps rs : List ℕ) (E : List WalkErr) → length os ≡ length ws → c.toks ≡ toks_of os ws → Notes ps rs E → length E ≤ length ps
     → map (err_place c) (reverse E) ≡ map (place_word_at c.script os) (take (length E) ps)
 unfolding Notes
 places-back c os ws ps rs [] l t a h = refl
@@ -128,22 +126,22 @@ ty_same c c' (UndeclSym i) e = rw e
 ty_same c c' (UnassignedVar i) e = rw e
 ty_same c c' (ExpectedIdent i) e = rw e
 
-parsed-err : (c : Ctx) (e : Err) (t : Token) (q : Place) (ty : ParseErrTy) → t ≡ tok_at c e.place → q ≡ place_of c.script t.off → ty ≡ ty_of c e.why → record { line = q.line; pos = q.pos; ty = ty } ≡ parse_err c e
+parsed-err : (c : Ctx) (e : WalkErr) (t : Token) (q : Place) (ty : ParseErrTy) → t ≡ tok_at c e.place → q ≡ place_of c.script t.off → ty ≡ ty_of c e.why → record { line = q.line; pos = q.pos; ty = ty } ≡ parse_err c e
 unfolding parse_err place_at
 parsed-err c e t q ty et eq ey =
     let at : q ≡ place_of c.script (tok_at c e.place).off = eq ∙ ap (λ (x : Token). place_of c.script x.off) et in
     ap₂ (λ (p : Place) (y : ParseErrTy). record { line = p.line; pos = p.pos; ty = y }) at ey
 
 -- the same of what was read off the script and the tokens
-pub parsed-bare : (s : List ℕ) (ts : List Token) (e : Err) (t : Token) (q : Place) (ty : ParseErrTy) → t ≡ token_at ts e.place → q ≡ place_of s t.off → ty ≡ ty_of (bare [] ts) e.why
+pub parsed-bare : (s : List ℕ) (ts : List Token) (e : WalkErr) (t : Token) (q : Place) (ty : ParseErrTy) → t ≡ token_at ts e.place → q ≡ place_of s t.off → ty ≡ ty_of (bare [] ts) e.why
     → record { line = q.line; pos = q.pos; ty = ty } ≡ parse_err (bare s ts) e
 parsed-bare s ts e t q ty et eq ey = parsed-err (bare s ts) e t q ty et eq (ey ∙ ty_same (bare [] ts) (bare s ts) e.why refl)
 
-early-same : (c : Ctx) (s : List ℕ) (ts : List Token) (o : Option Err) → c.script ≡ s → c.toks ≡ ts → early_of (bare s ts) o ≡ early_of c o
+early-same : (c : Ctx) (s : List ℕ) (ts : List Token) (o : Option WalkErr) → c.script ≡ s → c.toks ≡ ts → early_of (bare s ts) o ≡ early_of c o
 unfolding parse_err place_at
 early-same c s ts none es et = refl
 early-same c s ts (some e) es et =
-    ap By (parsed-err c e (token_at ts e.place) (place_of s (token_at ts e.place).off) (ty_of (bare s ts) e.why) (rw et) (rw es) (ty_same (bare s ts) c e.why (sym et)))
+    ap Some (parsed-err c e (token_at ts e.place) (place_of s (token_at ts e.place).off) (ty_of (bare s ts) e.why) (rw et) (rw es) (ty_same (bare s ts) c e.why (sym et)))
 
 -- ── the arrays ──
 
@@ -211,7 +209,7 @@ module _ (s : List ℕ) (a b : Arrays) (d : Held s a b) where
 
       finish-refused : (f : Refusal) → walk (abstraction.ctx_of I (mem a.symbols a.heads a.loads)) depth_limit ≡ refuse f → finish_of s n (Refused f) b ≡ answered s a (read (rooms_of a) s)
       unfolding finish_of answered ended
-      finish-refused f e = ap (called (reading.Refused f)) cleared-long ∙ ap (answered s a) (sym (read_is (refuse f) e))
+      finish-refused f e = ap (called (Err f)) cleared-long ∙ ap (answered s a) (sym (read_is (refuse f) e))
 
       module _ (x : Walk) (flag : Bool) (last : Last) (w : Ending I (mem a.symbols a.heads a.loads) flag last x (mem b.symbols b.heads b.loads) b.places b.reasons) where
         abbrev what : Found
@@ -252,7 +250,7 @@ module _ (s : List ℕ) (a b : Arrays) (d : Held s a b) where
 
         finish-found : length b.places ≡ length b.reasons → finish_of s n (Finished x flag last) b ≡ answered s a (read (rooms_of a) s)
         unfolding finish_of answered
-        finish-found even = ap₂ (λ (m : Summary) (z : Arrays). called (reading.Read m) z) told (left even) ∙ ap (answered s a) (sym read_found)
+        finish-found even = ap₂ (λ (m : Summary) (z : Arrays). called (Ok m) z) told (left even) ∙ ap (answered s a) (sym read_found)
 
       -- what the walk gave lies in the arrays
       pub fits-is : (r : Walked) → length s < 65536 → length a.places ≡ length a.reasons → Walks I (mem a.symbols a.heads a.loads) r (mem b.symbols b.heads b.loads) b.places b.reasons → Fits s b n r

@@ -1,12 +1,11 @@
 -- What the parts of the reading call are to leave, in terms of what each is lent.
-use Rattle.std.specs.Prelude.{ℕ, ◌+◌, ◌-◌, ◌*◌, ◌≤◌, ◌<◌, ◌≡◌, List, map, Bool, length, take, get_or}
+use Rattle.std.specs.Prelude.{ℕ, ◌+◌, ◌-◌, ◌*◌, ◌≤◌, ◌<◌, ◌≡◌, List, map, Bool, length, take, get_or, Err, Ok}
 use Rattle.sifc_err.specs.declared.Token.{Token}
 use Rattle.sifc_tokens.specs.declared.place.Place.{Place}
 use Rattle.sifc_tokens.specs.Place.{place_of, walked_to}
 use Rattle.sifc_tokens.specs.Tokens.{padded, zeroed}
 use Rattle.sifc_tokens.specs.Loaded.{Used}
-use Rattle.sifc_def.specs.declared.Reading.{Reading}
-use Rattle.sifc_def.specs.declared.Reading.TheVariants as reading
+use Rattle.sifc_def.specs.Answer.{Reading}
 use Rattle.sifc_def.specs.declared.Summary.{Summary}
 use Rattle.sifc_def.specs.State.{Ctx}
 use Rattle.sifc_def.specs.Read.{Arrays, cleared_arrays, Called, called, early_of}
@@ -103,5 +102,5 @@ settled_of s os x a =
 
 -- the answer and the arrays, where the first n elements of the token arrays are the tokens
 unfoldable pub finish_of : List ℕ → ℕ → Walked → Arrays → Called Reading
-finish_of s n (Refused f) a = called (reading.Refused f) (cleared_arrays a)
-finish_of s n (Finished x flag last) a = called (reading.Read (summary_of s (take n a.offs) (take n a.words) x flag last)) (settled_of s (take n a.offs) x a)
+finish_of s n (Refused f) a = called (Err f) (cleared_arrays a)
+finish_of s n (Finished x flag last) a = called (Ok (summary_of s (take n a.offs) (take n a.words) x flag last)) (settled_of s (take n a.offs) x a)

@@ -4,7 +4,7 @@ ghost use Rattle.sifc_def.specs.Read.{entry as entry_of, even as even_of};
 ghost use Rattle.sifc_lent.specs.Parts.{arrays};
 
 use sifc_err::Refusal;
-use sifc_tokens::{Checked, check_script};
+use sifc_tokens::check_script;
 
 // Whether each two parallel arrays have one length.
 fn even(
@@ -17,13 +17,7 @@ fn even(
 ) -> bool
     ensures { result ≡ even_of (arrays offs.now words.now heads.now loads.now [] places.now reasons.now) }
 {
-    if offs.len() != words.len() {
-        return false;
-    }
-    if heads.len() != loads.len() {
-        return false;
-    }
-    places.len() == reasons.len()
+    offs.len() == words.len() && heads.len() == loads.len() && places.len() == reasons.len()
 }
 
 // The tests of entry, refusals 1 to 3 in order.
@@ -35,17 +29,12 @@ pub fn entry(
     loads: &[u32],
     places: &[u32],
     reasons: &[u32],
-) -> Checked
+) -> Result<(), Refusal>
     ensures { result ≡ entry_of script.now (arrays offs.now words.now heads.now loads.now [] places.now reasons.now) }
 {
-    let checked = check_script(script);
-    match checked {
-        Checked::Refused(refusal) => Checked::Refused(refusal),
-        Checked::Fine => {
-            if even(offs, words, heads, loads, places, reasons) {
-                return Checked::Fine;
-            }
-            Checked::Refused(Refusal::Uneven)
-        }
+    check_script(script)?;
+    if even(offs, words, heads, loads, places, reasons) {
+        return Ok(());
     }
+    Err(Refusal::Uneven)
 }

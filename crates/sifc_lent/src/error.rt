@@ -8,9 +8,9 @@ ghost use Rattle.sifc_symtab.specs.Toks.{toks_of};
 ghost use Rattle.sifc_step.specs.Book.{last_of};
 ghost use Rattle.sifc_lent.specs.Parts.{bare};
 
-use sifc_def::{Early, Err, Why};
+use sifc_def::{Err, Why};
 use sifc_err::{ParseErr, ParseErrTy, Token};
-use sifc_step::{Last, wide};
+use sifc_step::Last;
 use sifc_tokens::place_at;
 
 const EOF: u32 = 47;
@@ -19,14 +19,7 @@ const EOF: u32 = 47;
 fn token_at(offs: &[u32], words: &[u32], i: usize) -> Token
     ensures { result ≡ token_at (toks_of offs.now words.now) i }
 {
-    if i >= offs.len() {
-        return Token {
-            kind: EOF,
-            off: 0,
-            len: 0,
-        };
-    }
-    if i >= words.len() {
+    if i >= offs.len() || i >= words.len() {
         return Token {
             kind: EOF,
             off: 0,
@@ -36,8 +29,8 @@ fn token_at(offs: &[u32], words: &[u32], i: usize) -> Token
     let word = words[i];
     Token {
         kind: word % 64,
-        off: wide(offs[i]),
-        len: wide(word / 64),
+        off: offs[i] as usize,
+        len: (word / 64) as usize,
     }
 }
 
@@ -77,11 +70,11 @@ fn parse_err(script: &[u8], offs: &[u32], words: &[u32], e: Err) -> ParseErr
 }
 
 // The error that ended the reading, if one did.
-pub fn early_of(script: &[u8], offs: &[u32], words: &[u32], last: Last) -> Early
+pub fn early_of(script: &[u8], offs: &[u32], words: &[u32], last: Last) -> Option<ParseErr>
     ensures { result ≡ early_of (bare script.now (toks_of offs.now words.now)) (last_of last) }
 {
     match last {
-        Last::Never => Early::Never,
-        Last::By(e) => Early::By(parse_err(script, offs, words, e)),
+        Last::Never => None,
+        Last::By(e) => Some(parse_err(script, offs, words, e)),
     }
 }

@@ -4,7 +4,6 @@ ghost use Rattle.sifc_tokens.specs.Place.{place_of};
 ghost use Rattle.sifc_def.specs.Error.{PlaceFits};
 ghost use Rattle.sifc_lent.specs.Parts.{Reached, SpotOf, place_word, place_word_at};
 
-use sifc_step::wide;
 use sifc_tokens::{Place, walk_place};
 
 // How many bytes of the script are passed, and the place after them.
@@ -20,7 +19,7 @@ fn spot_at(script: &[u8], from: Spot, off: usize) -> Spot
     requires { Reached script.now from }
     ensures { SpotOf script.now off result }
 {
-    let to = within(off, script.len());
+    let to = off.min(script.len());
     let at = from.at;
     if to < at {
         let first = Place { line: 1, pos: 0 };
@@ -34,16 +33,6 @@ fn spot_at(script: &[u8], from: Spot, off: usize) -> Spot
         at: to,
         place: walk_place(script, at, reached, to),
     }
-}
-
-// The smaller of two numbers.
-fn within(off: usize, len: usize) -> usize
-    ensures { (result ≤ len) × (off < len → result ≡ off) × (len ≤ off → result ≡ len) }
-{
-    if off < len {
-        return off;
-    }
-    len
 }
 
 // The place of the token at an offset, out of the offset's spot, with the rule for an Eof at the
@@ -78,10 +67,7 @@ fn place_word(place: Place) -> u32
 fn off_at(offs: &[u32], i: usize) -> usize
     ensures { result ≡ get_or offs.now i 0 }
 {
-    if i < offs.len() {
-        return wide(offs[i]);
-    }
-    0
+    offs.get(i).map_or(0, |off| *off as usize)
 }
 
 // Each of the first n words, the index of an error's token, becomes the word of that token's place.
@@ -89,17 +75,14 @@ pub fn set_places(script: &[u8], offs: &[u32], places: &mut [u32], n: usize)
     requires { (length script.now < 65536) × (n ≤ length places.old) }
     ensures { places.new ≡ map (place_word_at script.now offs.now) (take n places.old) ++ drop n places.old }
 {
-    let first = Place { line: 1, pos: 0 };
     let mut spot = Spot {
         at: 0,
-        place: first,
+        place: Place { line: 1, pos: 0 },
     };
-    let mut i = 0;
-    while i < n {
-        let off = off_at(offs, wide(places[i]));
+    for i in 0..n {
+        let off = off_at(offs, places[i] as usize);
         spot = spot_at(script, spot, off);
         let place = token_place(script, spot, off);
         places[i] = place_word(place);
-        i += 1;
     }
 }

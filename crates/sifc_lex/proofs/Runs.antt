@@ -1,19 +1,22 @@
 -- The steps of Lex.antt on the bytes from an index on, by where a run of bytes ends.
-use Prim.Native.Nat.{ℕ, suc, ◌+◌, ◌-◌, ◌≤◌, ◌<◌}
+use Prim.Native.Nat.{ℕ, zero, suc, ◌+◌, ◌-◌, ◌≤◌, ◌<◌}
 use mathlib.Core.Path.{◌≡◌, refl, sym, ap, ap₂, ◌∙◌}
 use mathlib.Core.List.{List, [], ◌∷◌}
 use mathlib.Core.Bool.{Bool, true, false}
 use native.Mathlib.Omega.{arith}
+use native.Mathlib.Numerals.{add-one}
 use borrow.Author.Tests.{eq-eqb, ne_eqb, ltb-true, ltb-false}
 use lib.Dec.{ltb}
 use lib.ListN.{take, drop, length, get_or, drop_of_length-le, get_or-eq_default}
 use lib.Seq.{drop-cons, drop-drop}
-use Rattle.sifc_err.specs.declared.Ending.TheVariants.{TrueEnd, UnterminatedString, Panic}
+use Rattle.std.specs.Prelude.{Some, None}
+use Rattle.sifc_err.specs.declared.Ending.TheVariants.{TrueEnd, UnknownChar, UnterminatedString, Panic}
 use Rattle.sifc_lex.specs.declared.lex.Step.TheVariants.{Skip, Word, Stop}
-use Rattle.sifc_word.specs.Base.{if◌then◌otherwise◌, span}
+use Rattle.sifc_word.specs.Base.{if◌then◌otherwise◌, within, span}
 use Rattle.sifc_word.specs.BaseLaws.{and-false}
 use Rattle.sifc_word.specs.Reserved.{name_kind}
-use Rattle.sifc_lex.specs.Lex.{white, letter, step, alnum, digit, in_line, in_str, hash_comment, line_end, slash_comment, next_is, lex_slash, closed, lex_str, pointed, fraction, lex_num, lex_ident, one_sign, doubles, double_kind, lex_sign}
+use Rattle.sifc_lex.specs.Lex.{white, letter, step, alnum, digit, in_line, in_str, hash_comment, line_end, slash_comment, next_is, lex_slash, closed, lex_str, pointed, fraction, lex_num, lex_ident, one_sign, singles, single_kind, doubles, double_kind, lex_sign}
+use Rattle.sifc_lex.specs.Bytes.{kind_if_any}
 
 -- what is left after a run
 run-rest : (p : ℕ → Bool) (s : List ℕ) (at end : ℕ) → end ≡ at + span p (drop at s) → drop (span p (drop at s)) (drop at s) ≡ drop end s
@@ -100,59 +103,79 @@ pub none-at : (s : List ℕ) (at b : ℕ) → length s ≤ at → double_kind do
 unfolding double_kind doubles if◌then◌otherwise◌
 none-at s at b h = rw (get_or-eq_default s 0 h) (simp (and-false))
 
-pub sign-one : (s : List ℕ) (at b : ℕ) → double_kind doubles b (get_or s at 0) ≡ 0 → lex_sign b (drop at s) ≡ one_sign b
+-- what the code answers for a kind: none where it is 0, else the kind
+none-is : (k : ℕ) → None ≡ kind_if_any k → k ≡ 0
+none-is zero e = refl
+none-is (suc k) e = cc
+
+some-is : (k n : ℕ) → Some k ≡ kind_if_any n → (n ≡ k) × (n ≡ 0 → ⊥)
+some-is k zero e = cc
+some-is k (suc n) e = (cc, λ z. absurd (omega arith))
+
+pub sign-known : (b kind : ℕ) → Some kind ≡ kind_if_any (single_kind singles b) → Word kind 1 ≡ one_sign b
+unfolding one_sign if◌then◌otherwise◌
+sign-known b kind e = let z = some-is kind (single_kind singles b) e in rw (ne_eqb (single_kind singles b) 0 z.1) (ap (λ (k : ℕ). Word k 1) (sym z.0))
+
+pub sign-unknown : (b : ℕ) → None ≡ kind_if_any (single_kind singles b) → Stop 0 UnknownChar ≡ one_sign b
+unfolding one_sign if◌then◌otherwise◌
+sign-unknown b e = rw (eq-eqb (single_kind singles b) 0 (none-is (single_kind singles b) e)) refl
+
+pub sign-one : (s : List ℕ) (at b : ℕ) → None ≡ kind_if_any (double_kind doubles b (get_or s at 0)) → lex_sign b (drop at s) ≡ one_sign b
 unfolding lex_sign if◌then◌otherwise◌
 sign-one s at b e = go (ltb at (length s)) refl
   where
     go : (t : Bool) → ltb at (length s) ≡ t → lex_sign b (drop at s) ≡ one_sign b
-    go true z = rw (drop-cons s at 0 (ltb-true at (length s) z)) (rw (eq-eqb (double_kind doubles b (get_or s at 0)) 0 e) refl)
+    go true z = rw (drop-cons s at 0 (ltb-true at (length s) z)) (rw (eq-eqb (double_kind doubles b (get_or s at 0)) 0 (none-is (double_kind doubles b (get_or s at 0)) e)) refl)
     go false z = rw (drop_of_length-le s (ltb-false at (length s) z)) refl
 
-pub sign-two : (s : List ℕ) (at b : ℕ) → (double_kind doubles b (get_or s at 0) ≡ 0 → ⊥) → lex_sign b (drop at s) ≡ Word (double_kind doubles b (get_or s at 0)) 2
+pub sign-two : (s : List ℕ) (at b kind : ℕ) → Some kind ≡ kind_if_any (double_kind doubles b (get_or s at 0)) → Word kind 2 ≡ lex_sign b (drop at s)
 unfolding lex_sign if◌then◌otherwise◌
-sign-two s at b n = go (ltb at (length s)) refl
+sign-two s at b kind e = go (ltb at (length s)) refl
   where
-    go : (t : Bool) → ltb at (length s) ≡ t → lex_sign b (drop at s) ≡ Word (double_kind doubles b (get_or s at 0)) 2
-    go true z = rw (drop-cons s at 0 (ltb-true at (length s) z)) (rw (ne_eqb (double_kind doubles b (get_or s at 0)) 0 n) refl)
-    go false z = absurd (n (none-at s at b (ltb-false at (length s) z)))
+    n : (double_kind doubles b (get_or s at 0) ≡ kind) × (double_kind doubles b (get_or s at 0) ≡ 0 → ⊥)
+    n = some-is kind (double_kind doubles b (get_or s at 0)) e
+
+    go : (t : Bool) → ltb at (length s) ≡ t → Word kind 2 ≡ lex_sign b (drop at s)
+    go true z = rw (drop-cons s at 0 (ltb-true at (length s) z)) (rw (ne_eqb (double_kind doubles b (get_or s at 0)) 0 n.1) (ap (λ (k : ℕ). Word k 2) (sym n.0)))
+    go false z = absurd (n.1 (none-at s at b (ltb-false at (length s) z)))
 
 -- The turn at an index of the script, arm by arm.
 pub turn_end : (s : List ℕ) (at : ℕ) → length s ≤ at → step (drop at s) ≡ Stop 0 TrueEnd
 unfolding step
 turn_end s at h = rw (drop_of_length-le s h) refl
 
-module _ (s : List ℕ) (at : ℕ) (h : at < length s) where
-  turn-cons : step (drop at s) ≡ step (get_or s at 0 ∷ drop (suc at) s)
-  turn-cons = ap step (drop-cons s at 0 h)
+module _ (s : List ℕ) (at b : ℕ) (h : at < length s) (e : get_or s at 0 ≡ b) where
+  turn-cons : step (drop at s) ≡ step (b ∷ drop (at + 1) s)
+  turn-cons = ap step (drop-cons s at 0 h ∙ ap₂ (λ (x : ℕ) (i : ℕ). x ∷ drop i s) e (sym (add-one at)))
 
-  pub turn-white : white (get_or s at 0) ≡ true → step (drop at s) ≡ Skip 1
+  pub turn-white : white b ≡ true → step (drop at s) ≡ Skip 1
   unfolding step if◌then◌otherwise◌
   turn-white w = turn-cons ∙ rw w refl
 
-  pub turn-hash : white (get_or s at 0) ≡ false → get_or s at 0 ≡ 35 → step (drop at s) ≡ hash_comment (drop (suc at) s)
-  unfolding step if◌then◌otherwise◌
-  turn-hash w e = turn-cons ∙ rw (w, eq-eqb (get_or s at 0) 35 e) refl
+  pub turn-hash : b ≡ 35 → step (drop at s) ≡ hash_comment (drop (at + 1) s)
+  unfolding step white within if◌then◌otherwise◌
+  turn-hash f = turn-cons ∙ rw f refl
 
-  pub turn-slash : white (get_or s at 0) ≡ false → (get_or s at 0 ≡ 35 → ⊥) → get_or s at 0 ≡ 47 → step (drop at s) ≡ lex_slash (drop (suc at) s)
-  unfolding step if◌then◌otherwise◌
-  turn-slash w n e = turn-cons ∙ rw (w, ne_eqb (get_or s at 0) 35 n, eq-eqb (get_or s at 0) 47 e) refl
+  pub turn-slash : b ≡ 47 → step (drop at s) ≡ lex_slash (drop (at + 1) s)
+  unfolding step white within if◌then◌otherwise◌
+  turn-slash f = turn-cons ∙ rw f refl
 
-  -- no white space, `#` or `/`
+  pub turn-str : b ≡ 34 → step (drop at s) ≡ lex_str (drop (at + 1) s)
+  unfolding step white within if◌then◌otherwise◌
+  turn-str f = turn-cons ∙ rw f refl
+
+  -- no `#`, `/`, quote or white space
   abbrev pub Plain : Type 0
-  Plain = (white (get_or s at 0) ≡ false) × (get_or s at 0 ≡ 35 → ⊥) × (get_or s at 0 ≡ 47 → ⊥)
+  Plain = (b ≡ 35 → ⊥) × (b ≡ 47 → ⊥) × (b ≡ 34 → ⊥) × (white b ≡ false)
 
-  pub turn-str : Plain → get_or s at 0 ≡ 34 → step (drop at s) ≡ lex_str (drop (suc at) s)
+  pub turn-num : Plain → digit b ≡ true → step (drop at s) ≡ lex_num (drop (at + 1) s)
   unfolding step if◌then◌otherwise◌
-  turn-str p e = turn-cons ∙ rw (p.0, ne_eqb (get_or s at 0) 35 p.1, ne_eqb (get_or s at 0) 47 p.2, eq-eqb (get_or s at 0) 34 e) refl
+  turn-num p d = turn-cons ∙ rw (p.3, ne_eqb b 35 p.0, ne_eqb b 47 p.1, ne_eqb b 34 p.2, d) refl
 
-  pub turn-num : Plain → (get_or s at 0 ≡ 34 → ⊥) → digit (get_or s at 0) ≡ true → step (drop at s) ≡ lex_num (drop (suc at) s)
+  pub turn-ident : Plain → digit b ≡ false → letter b ≡ true → step (drop at s) ≡ lex_ident b (drop (at + 1) s)
   unfolding step if◌then◌otherwise◌
-  turn-num p n d = turn-cons ∙ rw (p.0, ne_eqb (get_or s at 0) 35 p.1, ne_eqb (get_or s at 0) 47 p.2, ne_eqb (get_or s at 0) 34 n, d) refl
+  turn-ident p d l = turn-cons ∙ rw (p.3, ne_eqb b 35 p.0, ne_eqb b 47 p.1, ne_eqb b 34 p.2, d, l) refl
 
-  pub turn-ident : Plain → (get_or s at 0 ≡ 34 → ⊥) → digit (get_or s at 0) ≡ false → letter (get_or s at 0) ≡ true → step (drop at s) ≡ lex_ident (get_or s at 0) (drop (suc at) s)
+  pub turn-sign : Plain → digit b ≡ false → letter b ≡ false → step (drop at s) ≡ lex_sign b (drop (at + 1) s)
   unfolding step if◌then◌otherwise◌
-  turn-ident p n d l = turn-cons ∙ rw (p.0, ne_eqb (get_or s at 0) 35 p.1, ne_eqb (get_or s at 0) 47 p.2, ne_eqb (get_or s at 0) 34 n, d, l) refl
-
-  pub turn-sign : Plain → (get_or s at 0 ≡ 34 → ⊥) → digit (get_or s at 0) ≡ false → letter (get_or s at 0) ≡ false → step (drop at s) ≡ lex_sign (get_or s at 0) (drop (suc at) s)
-  unfolding step if◌then◌otherwise◌
-  turn-sign p n d l = turn-cons ∙ rw (p.0, ne_eqb (get_or s at 0) 35 p.1, ne_eqb (get_or s at 0) 47 p.2, ne_eqb (get_or s at 0) 34 n, d, l) refl
+  turn-sign p d l = turn-cons ∙ rw (p.3, ne_eqb b 35 p.0, ne_eqb b 47 p.1, ne_eqb b 34 p.2, d, l) refl

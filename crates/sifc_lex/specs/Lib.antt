@@ -1,2 +1,2 @@
 pub mod Lex
-pub mod Class
+pub mod Bytes

@@ -1,47 +1,48 @@
--- Commas, and a token by its place in the arrays.
-use Prim.Native.Nat.{ℕ, zero, suc, ◌+◌, ◌/◌, ◌≤◌}
-use mathlib.Core.Path.{◌≡◌, refl, sym, ap, subst}
+-- Words, commas, and a token by its place in the arrays.
+use Prim.Native.Nat.{ℕ, zero, suc, ◌-◌, ◌/◌, ◌≤◌}
+use native.Mathlib.Omega.{arith}
+use mathlib.Core.Path.{◌≡◌, refl, sym, subst}
 use mathlib.Core.List.{List, [], ◌∷◌, ◌++◌}
 use lib.ListN.{length, get_or}
-use lib.Seq.{take-length}
+use Rattle.std.specs.Prelude.{Result, Ok}
 use Rattle.sifc_word.specs.Base.{part}
-use Rattle.sifc_def.specs.State.{W}
-use Rattle.sifc_put.specs.declared.write.Put.{Put}
-use Rattle.sifc_put.specs.Place.{Carries, token_of}
-use Rattle.sifc_put.specs.Post.{Wrote, WritesOf, fixed, comma, token_l}
-use Rattle.sifc_put.specs.Frame.{fixed-writes}
-use Rattle.sifc_put.specs.Bytes.{worded}
+use Rattle.sifc_put.specs.declared.write.Full.{Full}
+use Rattle.sifc_put.specs.declared.write.Writer.{Writer}
+use Rattle.sifc_put.specs.Place.{token_of}
+use Rattle.sifc_put.specs.Post.{Placed, Wrote, Writes, fixed, comma, token_l, leaf_l}
+use Rattle.sifc_put.proofs.Frame.{fixed-writes}
+use Rattle.sifc_put.proofs.Stores.{placed-long}
+
+-- Bytes that are placed are written.
+pub placed-writes : {b : List ℕ} {p q : Writer} → p.at ≤ length p.text.now → q.tree ≡ p.tree → q.text.ghost_name ≡ p.text.ghost_name → Placed b p.text.now p.node p.at q.node q.at q.text.now → Writes (fixed b) p (Ok tt) q
+placed-writes h t g w = fixed-writes (record { tree = t; buffer = g; long = placed-long h w; node = omega (arith, w.node); at = omega (arith, w.room) }) (record { by = w })
 
 -- No comma stands before nothing.
-pub comma-none : (n : ℕ) → n ≡ 0 → comma n ≡ []
+pub comma-none : (n : ℕ) {p : Writer} → n ≡ 0 → Writes (fixed []) p (Ok tt) p → Writes (fixed (comma n)) p (Ok tt) p
 unfolding comma
-comma-none n e = ap comma e
+comma-none n {p} e w = subst (λ (i : ℕ). Writes (fixed (comma i)) p (Ok tt) p) (sym e) w
 
 -- One stands behind something.
-pub comma-some : (n : ℕ) → (n ≡ 0 → ⊥) → comma n ≡ 44 ∷ 32 ∷ []
+pub comma-some : (n : ℕ) {p q : Writer} {r : Result Unit Full} → (n ≡ 0 → ⊥) → Writes (fixed (44 ∷ 32 ∷ [])) p r q → Writes (fixed (comma n)) p r q
 unfolding comma
-comma-some zero h = absurd (h refl)
-comma-some (suc n) h = refl
+comma-some zero h w = absurd (h refl)
+comma-some (suc n) h w = w
 
--- A sign that is written is a comma behind something.
-pub comma-writes : (n : ℕ) {text t : List ℕ} {h a : ℕ} {r : Put} → (n ≡ 0 → ⊥) → WritesOf (fixed (44 ∷ 32 ∷ [])) text h a r t → WritesOf (fixed (comma n)) text h a r t
-comma-writes n {text} {t} {h} {a} {r} k q = subst (λ (b : List ℕ). WritesOf (fixed b) text h a r t) (sym (comma-some n k)) q
+-- The token that the node before hi carries is written.
+pub token-writes : (hi : ℕ) {p q : Writer} {r : Result Unit Full} {tok : ℕ} → tok ≡ token_of p.tree.loads.now hi
+    → {from len n : ℕ} → from ≡ get_or p.tree.offs.now tok 0 → len ≡ get_or p.tree.words.now tok 0 / 64 → n ≡ len → Writes (fixed (part from n p.tree.script.now ++ (32 ∷ []))) p r q → Writes (token_l hi) p r q
+token-writes hi {p} {q} {r} e f g h w =
+    record {
+      goes = w.goes;
+      does = λ x lo s.
+          subst (λ (b : List ℕ). Wrote (b ++ (32 ∷ [])) lo p r q)
+          (rw (h, g, f, e) (sym s.1.spells.text)) (w.does tt lo s.0);
+    }
 
--- The whole of a word is written.
-pub whole-writes : (w : List ℕ) {text t : List ℕ} {h a : ℕ} {r : Put} → Wrote (part 0 (length w) w ++ (32 ∷ [])) text h a r t → WritesOf (fixed (w ++ (32 ∷ []))) text h a r t
-whole-writes w {text} {t} {h} {a} {r} q = fixed-writes (subst (λ (y : List ℕ). Wrote (y ++ (32 ∷ [])) text h a r t) (take-length w) q)
-
-module _ (script offs words loads : List ℕ) where
-  -- The token's bytes lie in the script.
-  pub token-within : (hi : ℕ) (w : W) {tok from len : ℕ} → Carries script offs words loads hi w → tok ≡ token_of loads hi → from ≡ get_or offs tok 0 → len ≡ get_or words tok 0 / 64 → from + len ≤ length script
-  token-within hi w c e f g = rw (f, g, e) c.spells.within
-
-  -- They are written, and a space.
-  pub token-part : (hi : ℕ) {h a : ℕ} {text t : List ℕ} {r : Put} {tok from len : ℕ} → tok ≡ token_of loads hi → from ≡ get_or offs tok 0 → len ≡ get_or words tok 0 / 64
-      → Wrote (part from len script ++ (32 ∷ [])) text h a r t → WritesOf (token_l script offs words loads hi) text h a r t
-  token-part hi {h} {a} {text} {t} {r} {tok} {from} {len} e f g q =
-      record {
-        does = λ w lo s.
-            let z : part from len script ≡ w.text = rw (f, g, e) (sym s.1.spells.text) in
-            subst (λ (y : ℕ). Wrote (worded w) text y a r t) (sym s.0) (subst (λ (y : List ℕ). Wrote (y ++ (32 ∷ [])) text h a r t) z q);
-      }
+-- A leaf is its token, and the node goes down.
+pub leaf-writes : {p q : Writer} {r : Result Unit Full} → Writes (token_l p.node) (record p { node = p.node - 1 }) r q → Writes leaf_l p r q
+leaf-writes {p} w =
+    record {
+      goes = record { tree = w.goes.tree; buffer = w.goes.buffer; long = w.goes.long; node = omega (arith, w.goes.node); at = w.goes.at };
+      does = λ x lo s. record { by = (w.does x lo s).by };
+    }

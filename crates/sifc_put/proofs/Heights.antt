@@ -1,33 +1,30 @@
 -- How loosely a node binds, by its kind.
-use Prim.Native.Nat.{ℕ, ◌-◌, ◌%◌}
-use mathlib.Core.Path.{◌≡◌, refl, sym, ap, ◌∙◌}
+use Prim.Native.Nat.{ℕ, ◌%◌}
+use mathlib.Core.Path.{◌≡◌, refl, sym, ◌∙◌}
 use mathlib.Core.Logic.{◌⊎◌, inl, inr}
-use mathlib.Core.List.{List}
 use lib.ListN.{get_or}
 use borrow.Author.Tests.{eq-eqb, ne_eqb}
 use Rattle.sifc_word.specs.Base.{if◌then◌otherwise◌, member}
 use Rattle.sifc_def.specs.Expr.{looseness}
+use Rattle.sifc_put.specs.declared.write.Writer.{Writer}
 use Rattle.sifc_put.specs.Place.{token_of}
-use Rattle.sifc_put.specs.Post.{height_at}
+use Rattle.sifc_put.specs.Post.{height_at, height_of, kind_of}
 
-module _ (words heads loads : List ℕ) (hi : ℕ) where
-  -- the kind of the node before hi
-  abbrev kind : ℕ
-  kind = get_or heads (hi - 1) 0 % 32
-
+module _ (p : Writer) where
   -- two operands: by the operator's token
-  pub of-binary : {tok r : ℕ} → kind ≡ 22 → tok ≡ token_of loads hi → r ≡ looseness (get_or words tok 0 % 64) → r ≡ height_at words heads loads hi
+  pub of-binary : {r : ℕ} → kind_of p ≡ 22 → r ≡ looseness (get_or p.tree.words.now (token_of p.tree.loads.now p.node) 0 % 64) → r ≡ height_of p
   unfolding height_at if◌then◌otherwise◌
-  of-binary {tok} {r} k e f = f ∙ ap (λ (i : ℕ). looseness (get_or words i 0 % 64)) e ∙ sym (rw (eq-eqb kind 22 k) refl)
+  of-binary {r} k f = f ∙ sym (rw (eq-eqb (kind_of p) 22 k) refl)
 
   -- assignments and table accesses
-  pub of-eight : (kind ≡ 15) ⊎ ((kind ≡ 19) ⊎ (kind ≡ 21)) → 8 ≡ height_at words heads loads hi
+  pub of-eight : {k : ℕ} → k ≡ kind_of p → (k ≡ 15) ⊎ (((k ≡ 15 → ⊥) × (k ≡ 19)) ⊎ ((k ≡ 15 → ⊥) × (k ≡ 19 → ⊥) × (k ≡ 21))) → 8 ≡ height_of p
   unfolding height_at if◌then◌otherwise◌ member
-  of-eight (inl k) = rw k refl
-  of-eight (inr (inl k)) = rw k refl
-  of-eight (inr (inr k)) = rw k refl
+  of-eight e (inl k) = rw (sym e ∙ k) refl
+  of-eight e (inr (inl k)) = rw (sym e ∙ k.1) refl
+  of-eight e (inr (inr k)) = rw (sym e ∙ k.2) refl
 
   -- the rest
-  pub of_none : (kind ≡ 22 → ⊥) → (kind ≡ 15 → ⊥) → (kind ≡ 19 → ⊥) → (kind ≡ 21 → ⊥) → 0 ≡ height_at words heads loads hi
+  pub of_none : {k : ℕ} → k ≡ kind_of p → (k ≡ 22 → ⊥) → (k ≡ 15 → ⊥) → (k ≡ 19 → ⊥) → (k ≡ 21 → ⊥) → 0 ≡ height_of p
   unfolding height_at if◌then◌otherwise◌ member
-  of_none a b c d = rw (ne_eqb kind 22 a, ne_eqb kind 15 b, ne_eqb kind 19 c, ne_eqb kind 21 d) refl
+  of_none {k} e a b c d =
+      rw (ne_eqb (kind_of p) 22 (λ x. a (e ∙ x)), ne_eqb (kind_of p) 15 (λ x. b (e ∙ x)), ne_eqb (kind_of p) 19 (λ x. c (e ∙ x)), ne_eqb (kind_of p) 21 (λ x. d (e ∙ x))) refl

@@ -1,3 +1,6 @@
+pub mod Steps
+pub mod Frame
+pub mod Rows
 pub mod Stores
 pub mod Commas
 pub mod Heights

@@ -2,6 +2,7 @@
 // place of the buffer, with a space after it.
 #![tactic(auto)]
 
+pub mod kind;
 mod write;
 
-pub use write::{Put, height, keyword, leaf, put_sign, put_token, separator, wide};
+pub use write::{Full, Tree, Writer};

@@ -1,145 +1,126 @@
 // What is written at a leaf of the tree or between its parts.
-ghost use Rattle.std.specs.Prelude.{◌≡◌, [], ◌∷◌, ◌++◌, ◌+◌, ◌≤◌, length};
-ghost use Rattle.sifc_word.specs.Base.{part};
-ghost use Rattle.sifc_put.specs.Post.{Wrote, SpotOf, WritesOf, fixed, token_l, leaf_l, comma, height_at, Readable};
+ghost use Rattle.std.specs.Prelude.{◌≡◌, ◌∷◌, [], ◌++◌, ◌/◌, ◌≤◌, length, get_or};
+ghost use Rattle.sifc_put.specs.Post.{Writes, At, InHeads, CanRead, fixed, token_l, leaf_l, comma, kind_of, children_of, height_of};
 
+use crate::kind::{ARRAY_MUT_EXPR, BINARY_EXPR, TABLE_ACCESS, VAR_ASSIGN_EXPR};
 use sifc_step::looseness;
 
-const SPACE: u8 = 32;
-
-const COMMA: u8 = 44;
-
-// Kinds of nodes.
-const TABLE_ACCESS: u32 = 15;
-
-const ARRAY_MUT_EXPR: u32 = 19;
-
-const VAR_ASSIGN_EXPR: u32 = 21;
-
-const BINARY_EXPR: u32 = 22;
-
-// Where the writing stands: the node before which it goes on, and the first byte that is written. Or
-// there is no room for what was to be written.
+// What is read and never written: a script, its tokens and its tree, as document 01 lays them out.
 #[derive(Clone, Copy)]
-pub enum Put {
-    Done(usize, usize),
-    Full,
+pub struct Tree<'a> {
+    pub script: &'a [u8],
+    pub offs: &'a [u32],
+    pub words: &'a [u32],
+    pub heads: &'a [u32],
+    pub loads: &'a [u32],
 }
 
-// A word of an array as an index.
-pub fn wide(x: u32) -> usize
-    ensures { result ≡ x }
-{
-    x as usize
+// Where the writing stands: the node before which it goes on, and the first byte that is written.
+#[derive(Drop)]
+pub struct Writer<'a> {
+    pub tree: Tree<'a>,
+    pub text: &'a mut [u8],
+    pub node: usize,
+    pub at: usize,
 }
 
-// The bytes of the script from an offset on, so many, and a space.
-fn put_part(script: &[u8], from: usize, len: usize, text: &mut [u8], node: usize, at: usize) -> Put
-    requires { (from + len ≤ length script.now) × (at ≤ length text.old) }
-    ensures { Wrote (part from len script.now ++ (32 ∷ [])) text.old node at result text.new }
-{
-    if at <= len {
-        return Put::Full;
-    }
-    let space = at - 1;
-    let start = space - len;
-    text[space] = SPACE;
-    let mut i = 0;
-    while i < len {
-        text[start + i] = script[from + i];
-        i += 1;
-    }
-    Put::Done(node, start)
-}
+// There is no room for what was to be written.
+#[derive(Clone, Copy)]
+pub struct Full;
 
-// A fixed word and a space.
-pub fn keyword(word: &[u8], text: &mut [u8], node: usize, at: usize) -> Put
-    requires { at ≤ length text.old }
-    ensures { WritesOf (fixed (word.now ++ (32 ∷ []))) text.old node at result text.new }
-{
-    put_part(word, 0, word.len(), text, node, at)
-}
+impl<'a> Writer<'a> {
+    // The kind of the node before which the writing goes on.
+    pub fn kind(&self) -> u32
+        requires { InHeads self.now }
+        ensures { result ≡ kind_of self.now }
+    {
+        self.tree.heads[self.node - 1] % 32
+    }
 
-// A sign and a space.
-pub fn put_sign(text: &mut [u8], sign: u8, node: usize, at: usize) -> Put
-    requires { at ≤ length text.old }
-    ensures { WritesOf (fixed (sign ∷ 32 ∷ [])) text.old node at result text.new }
-{
-    if at < 2 {
-        return Put::Full;
+    // How many children it has.
+    pub fn children(&self) -> usize
+        requires { InHeads self.now }
+        ensures { result ≡ children_of self.now }
+    {
+        (self.tree.heads[self.node - 1] / 64) as usize
     }
-    text[at - 2] = sign;
-    text[at - 1] = SPACE;
-    Put::Done(node, at - 2)
-}
 
-// A comma, where things stand before it.
-pub fn separator(text: &mut [u8], left: usize, node: usize, at: usize) -> Put
-    requires { at ≤ length text.old }
-    ensures { WritesOf (fixed (comma left)) text.old node at result text.new }
-{
-    if left == 0 {
-        return Put::Done(node, at);
+    // How loosely it binds: 8 less the strength of document 01, and 0 for what binds tighter.
+    pub fn height(&self) -> usize
+        requires { CanRead self.now }
+        ensures { result ≡ height_of self.now }
+    {
+        let kind = self.kind();
+        if kind == BINARY_EXPR {
+            let tok = self.tree.loads[self.node - 1] as usize;
+            return looseness(self.tree.words[tok] % 64);
+        }
+        if kind == TABLE_ACCESS || kind == ARRAY_MUT_EXPR || kind == VAR_ASSIGN_EXPR {
+            return 8;
+        }
+        0
     }
-    put_sign(text, COMMA, node, at)
-}
 
-// The token of the node before `hi`.
-pub fn put_token(
-    script: &[u8],
-    offs: &[u32],
-    words: &[u32],
-    loads: &[u32],
-    text: &mut [u8],
-    hi: usize,
-    node: usize,
-    at: usize,
-) -> Put
-    requires { SpotOf (token_l script.now offs.now words.now loads.now hi) text.old node at }
-    ensures { WritesOf (token_l script.now offs.now words.now loads.now hi) text.old node at result text.new }
-{
-    let tok = wide(loads[hi - 1]);
-    let from = wide(offs[tok]);
-    let len = wide(words[tok] / 64);
-    put_part(script, from, len, text, node, at)
-}
+    // A word and a space.
+    pub fn keyword(&mut self, word: &[u8]) -> Result<(), Full>
+        requires { self.old.at ≤ length self.old.text.now }
+        ensures { Writes (fixed (word.now ++ (32 ∷ []))) self.old result self.new }
+    {
+        if self.at <= word.len() {
+            return Err(Full);
+        }
+        let space = self.at - 1;
+        let start = space - word.len();
+        self.text[start..space].copy_from_slice(word);
+        self.text[space] = b' ';
+        self.at = start;
+        Ok(())
+    }
 
-// The single token that is the node before `hi`.
-pub fn leaf(
-    script: &[u8],
-    offs: &[u32],
-    words: &[u32],
-    loads: &[u32],
-    text: &mut [u8],
-    hi: usize,
-    at: usize,
-) -> Put
-    requires { SpotOf (leaf_l script.now offs.now words.now loads.now) text.old hi at }
-    ensures { WritesOf (leaf_l script.now offs.now words.now loads.now) text.old hi at result text.new }
-{
-    put_token(script, offs, words, loads, text, hi, hi - 1, at)
-}
+    // A sign and a space.
+    pub fn put_sign(&mut self, sign: u8) -> Result<(), Full>
+        requires { self.old.at ≤ length self.old.text.now }
+        ensures { Writes (fixed (sign ∷ 32 ∷ [])) self.old result self.new }
+    {
+        self.keyword(&[sign])
+    }
 
-// How loosely the node before `hi` binds: 8 less the strength of document 01, and 0 for what binds
-// tighter.
-pub fn height(words: &[u32], heads: &[u32], loads: &[u32], hi: usize) -> usize
-    requires { Readable words.now heads.now loads.now hi }
-    ensures { result ≡ height_at words.now heads.now loads.now hi }
-{
-    let m = hi - 1;
-    let kind = heads[m] % 32;
-    if kind == BINARY_EXPR {
-        let tok = wide(loads[m]);
-        return looseness(words[tok] % 64);
+    // A comma, where things stand before it.
+    pub fn separator(&mut self, left: usize) -> Result<(), Full>
+        requires { self.old.at ≤ length self.old.text.now }
+        ensures { Writes (fixed (comma left)) self.old result self.new }
+    {
+        if left == 0 {
+            return Ok(());
+        }
+        self.put_sign(b',')
     }
-    if kind == TABLE_ACCESS {
-        return 8;
+
+    // The token of the node before `hi`.
+    pub fn put_token(&mut self, hi: usize) -> Result<(), Full>
+        requires { At (token_l hi) self.old }
+        ensures { Writes (token_l hi) self.old result self.new }
+    {
+        let Tree {
+            script,
+            offs,
+            words,
+            loads,
+            ..
+        } = self.tree;
+        let tok = loads[hi - 1] as usize;
+        let from = offs[tok] as usize;
+        let len = (words[tok] / 64) as usize;
+        self.keyword(&script[from..from + len])
     }
-    if kind == ARRAY_MUT_EXPR {
-        return 8;
+
+    // The single token that is the node before which the writing goes on.
+    pub fn leaf(&mut self) -> Result<(), Full>
+        requires { At leaf_l self.old }
+        ensures { Writes leaf_l self.old result self.new }
+    {
+        let hi = self.node;
+        self.node = hi - 1;
+        self.put_token(hi)
     }
-    if kind == VAR_ASSIGN_EXPR {
-        return 8;
-    }
-    0
 }

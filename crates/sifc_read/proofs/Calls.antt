@@ -1,5 +1,6 @@
 -- The reading call behind the tests of entry, out of what lexing and the walk gave.
-use Prim.Native.Nat.{ℕ, ◌-◌, ◌≤◌, ◌<◌}
+use Rattle.std.specs.Prelude.{Err, Ok, Result}
+use Prim.Native.Nat.{ℕ, ◌≤◌, ◌<◌}
 use mathlib.Core.Path.{◌≡◌, refl, sym, ap, ◌∙◌, subst}
 use mathlib.Core.List.{List, []}
 use mathlib.Core.Bool.{Bool, true, false}
@@ -10,19 +11,14 @@ use lib.ListN.{length, take, length-replicate}
 use Rattle.sifc_err.specs.declared.Ending.{Ending}
 use Rattle.sifc_err.specs.declared.Refusal.{Refusal}
 use Rattle.sifc_err.specs.declared.Refusal.TheVariants.{TokensFull}
-use Rattle.sifc_tokens.specs.declared.call.Checked.{Checked}
-use Rattle.sifc_tokens.specs.declared.call.Checked.TheVariants.{Fine}
-use Rattle.sifc_tokens.specs.declared.call.Checked.TheVariants as check
-use Rattle.sifc_lex.specs.declared.lex.LexAnswer.{LexAnswer}
-use Rattle.sifc_lex.specs.declared.lex.LexAnswer.TheVariants.{Ended, Full}
+use Rattle.sifc_lex.specs.declared.lex.Ended.{Ended}
 use Rattle.sifc_word.specs.Base.{if◌then◌otherwise◌}
 use Rattle.sifc_lex.specs.Lex.{lex, ending, end_at}
-use Rattle.sifc_tokens.specs.Tokens.{offs_of, words_of, padded, zeroed, LexCall, lex_called, lex_call}
+use Rattle.sifc_tokens.specs.Tokens.{Checked, passed, ended_with, offs_of, words_of, padded, zeroed, LexCall, lex_called, lex_call}
 use Rattle.sifc_tokens.specs.Loaded.{Used}
 use Rattle.sifc_tokens.proofs.TokensLaws.{zeroed-used}
-use Rattle.sifc_def.specs.declared.Reading.{Reading}
-use Rattle.sifc_def.specs.declared.Reading.TheVariants as reading
-use Rattle.sifc_def.specs.Read.{Arrays, rooms_of, cleared_arrays, even, entry, refused, fault_of, read, Called, called, answered, reading as reading_of}
+use Rattle.sifc_def.specs.Answer.{Reading}
+use Rattle.sifc_def.specs.Read.{Arrays, rooms_of, cleared_arrays, entry, refused, fault_of, read, Called, called, answered, reading as reading_of}
 use Rattle.sifc_step.specs.declared.walk.Walked.{Walked}
 use Rattle.sifc_step.specs.Abs.{Tokens, inp, mem}
 use Rattle.sifc_step.specs.Book.{Walks}
@@ -34,8 +30,8 @@ use Rattle.sifc_lent.proofs.PartLaws.{Held, used-offs, used-words, used-toks, sa
 
 -- ── lexing ──
 
-never : {X : Type 0} (n at : ℕ) (e : Ending) → Full ≡ Ended n e at → X
-never n at e p = absurd (let z : ◌≡◌ {A = ℕ} 0 1 = cc in let y : ⊥ = omega arith in y)
+never : {X : Type 0} (f : Refusal) (e : Ended) → ◌≡◌ {A = Result Ended Refusal} (Err f) (Ok e) → X
+never f e p = absurd (let z : ⊥ = cc in z)
 
 -- what lexing leaves where the tokens fit
 pub record Loaded (s o w : List ℕ) (n : ℕ) (e : Ending) (o' w' : List ℕ) : Type 0 where
@@ -53,31 +49,31 @@ pub record Over (s o w o' w' : List ℕ) : Type 0 where
 
 abbrev lex_call_by : Bool → List ℕ → List ℕ → List ℕ → LexCall
 lex_call_by b s o w =
-    if b then lex_called Full (zeroed o) (zeroed w)
-    otherwise lex_called (Ended (length (lex s)) (ending s) (end_at s)) (padded (offs_of (lex s)) (length o)) (padded (words_of (lex s)) (length w))
+    if b then lex_called (Err TokensFull) (zeroed o) (zeroed w)
+    otherwise lex_called (Ok (ended_with (length (lex s)) (ending s) (end_at s))) (padded (offs_of (lex s)) (length o)) (padded (words_of (lex s)) (length w))
 
 lex-is : (s o w : List ℕ) → lex_call s o w ≡ lex_call_by (ltb (length o) (length (lex s))) s o w
 unfolding lex_call
 lex-is s o w = refl
 
-module _ (s o w : List ℕ) {o' w' : List ℕ} {r : LexAnswer} (c : lex_called r o' w' ≡ lex_call s o w) where
-  pub loaded : {n at : ℕ} {e : Ending} → r ≡ Ended n e at → Loaded s o w n e o' w'
+module _ (s o w : List ℕ) {o' w' : List ℕ} {r : Result Ended Refusal} (c : lex_called r o' w' ≡ lex_call s o w) where
+  pub loaded : {e : Ended} → r ≡ Ok e → Loaded s o w e.count e.ending o' w'
   unfolding if◌then◌otherwise◌
-  loaded {n} {at} {e} is = go (ltb (length o) (length (lex s))) refl (c ∙ lex-is s o w)
+  loaded {e} is = go (ltb (length o) (length (lex s))) refl (c ∙ lex-is s o w)
     where
-      go : (q : Bool) → ltb (length o) (length (lex s)) ≡ q → lex_called r o' w' ≡ lex_call_by q s o w → Loaded s o w n e o' w'
-      go true t d = never n at e (sym (ap (λ (x : LexCall). x.answer) d) ∙ is)
+      go : (q : Bool) → ltb (length o) (length (lex s)) ≡ q → lex_called r o' w' ≡ lex_call_by q s o w → Loaded s o w e.count e.ending o' w'
+      go true t d = never TokensFull e (sym (ap (λ (x : LexCall). x.answer) d) ∙ is)
       go false t d =
-          let a : Ended n e at ≡ Ended (length (lex s)) (ending s) (end_at s) = sym is ∙ ap (λ (x : LexCall). x.answer) d in
+          let a : ◌≡◌ {A = Result Ended Refusal} (Ok e) (Ok (ended_with (length (lex s)) (ending s) (end_at s))) = sym is ∙ ap (λ (x : LexCall). x.answer) d in
           record { fits = ltb-false (length o) (length (lex s)) t; count = cc; ends = cc; offs = ap (λ (x : LexCall). x.offs) d; words = ap (λ (x : LexCall). x.words) d }
 
-  pub over : r ≡ Full → Over s o w o' w'
+  pub over : {f : Refusal} → r ≡ Err f → Over s o w o' w'
   unfolding if◌then◌otherwise◌
-  over is = go (ltb (length o) (length (lex s))) refl (c ∙ lex-is s o w)
+  over {f} is = go (ltb (length o) (length (lex s))) refl (c ∙ lex-is s o w)
     where
       go : (q : Bool) → ltb (length o) (length (lex s)) ≡ q → lex_called r o' w' ≡ lex_call_by q s o w → Over s o w o' w'
       go true t d = record { over = ltb-true (length o) (length (lex s)) t; offs = ap (λ (x : LexCall). x.offs) d; words = ap (λ (x : LexCall). x.words) d }
-      go false t d = never (length (lex s)) (end_at s) (ending s) (sym is ∙ ap (λ (x : LexCall). x.answer) d)
+      go false t d = never f (ended_with (length (lex s)) (ending s) (end_at s)) (sym is ∙ ap (λ (x : LexCall). x.answer) d)
 
 module _ {s o w : List ℕ} {n : ℕ} {e : Ending} {o' w' : List ℕ} (d : Loaded s o w n e o' w') where
   pub in-offs : length o' ≡ length o → n ≤ length o'
@@ -131,25 +127,25 @@ read-over : (s : List ℕ) (a : Arrays) → length a.offs < length (lex s) → r
 unfolding read
 read-over s a h = rw (lt-ltb (length a.offs) (length (lex s)) h, read) refl
 
-pub full : (s o w h l y p r : List ℕ) {o' w' : List ℕ} {b : Arrays} → Over s o w o' w' → b ≡ cleared_arrays (arrays o' w' h l y p r) → called (reading.Refused TokensFull) b ≡ answered s (arrays o w h l y p r) (read (rooms_of (arrays o w h l y p r)) s)
+pub full : (s o w h l y p r : List ℕ) {o' w' : List ℕ} {b : Arrays} → Over s o w o' w' → b ≡ cleared_arrays (arrays o' w' h l y p r) → called (Err TokensFull) b ≡ answered s (arrays o w h l y p r) (read (rooms_of (arrays o w h l y p r)) s)
 unfolding answered
 full s o w h l y p r {o'} {w'} d e =
-    ap (called (reading.Refused TokensFull)) (e ∙ same-arrays (zeroed-again o o' d.offs) (zeroed-again w w' d.words) refl refl refl refl refl)
+    ap (called (Err TokensFull)) (e ∙ same-arrays (zeroed-again o o' d.offs) (zeroed-again w w' d.words) refl refl refl refl refl)
     ∙ ap (answered s (arrays o w h l y p r)) (sym (read-over s (arrays o w h l y p r) d.over))
 
 -- ── entry ──
 
 module _ (s : List ℕ) (a : Arrays) where
   abbrev read_by : Checked → Called Reading
-  read_by k = elim k [ check.Refused r ↦ called (reading.Refused r) a | Fine ↦ answered s a (read (rooms_of a) s) ]
+  read_by k = elim k [ Err r ↦ called (Err r) a | Ok _ ↦ answered s a (read (rooms_of a) s) ]
 
   reading-by : read_by (entry s a) ≡ reading_of s a
   unfolding reading_of
   reading-by = refl
 
 module _ (s o w h l y p r : List ℕ) {k : Checked} (e : k ≡ entry s (arrays o w h l [] p r)) where
-  pub read-on : {x : Called Reading} → k ≡ Fine → x ≡ answered s (arrays o w h l y p r) (read (rooms_of (arrays o w h l y p r)) s) → x ≡ reading_of s (arrays o w h l y p r)
+  pub read-on : {x : Called Reading} → k ≡ passed → x ≡ answered s (arrays o w h l y p r) (read (rooms_of (arrays o w h l y p r)) s) → x ≡ reading_of s (arrays o w h l y p r)
   read-on f g = g ∙ sym (ap (read_by s (arrays o w h l y p r)) (sym (e ∙ entry-same s o w h l y p r) ∙ f)) ∙ reading-by s (arrays o w h l y p r)
 
-  pub read-not : {f : Refusal} → k ≡ check.Refused f → called (reading.Refused f) (arrays o w h l y p r) ≡ reading_of s (arrays o w h l y p r)
+  pub read-not : {f : Refusal} → k ≡ Err f → called (Err f) (arrays o w h l y p r) ≡ reading_of s (arrays o w h l y p r)
   read-not g = sym (ap (read_by s (arrays o w h l y p r)) (sym (e ∙ entry-same s o w h l y p r) ∙ g)) ∙ reading-by s (arrays o w h l y p r)

@@ -1,12 +1,12 @@
 -- What a walk came to, made into the answer.
+use Rattle.std.specs.Prelude.{Err, Ok}
 use Prim.Native.Nat.{ℕ}
 use mathlib.Core.Path.{◌≡◌, sym, ap, ap₂, ◌∙◌, subst}
 use mathlib.Core.List.{List, []}
 use mathlib.Core.Bool.{Bool}
 use lib.ListN.{take}
 use Rattle.sifc_err.specs.declared.Refusal.{Refusal}
-use Rattle.sifc_def.specs.declared.Early.{Early}
-use Rattle.sifc_def.specs.declared.Reading.TheVariants as reading
+use Rattle.sifc_def.specs.Answer.{Early}
 use Rattle.sifc_def.specs.declared.Summary.{Summary}
 use Rattle.sifc_def.specs.Read.{Arrays, cleared_arrays, called}
 use Rattle.sifc_step.specs.declared.walk.Walk.{Walk}
@@ -26,15 +26,15 @@ settled-with s os x o w h l y p r e = ap (λ (z : Arrays). arrays o w z.heads z.
 module _ (s : List ℕ) (n : ℕ) (o w h l y p r : List ℕ) {walked : Walked} where
   pub finished : {x : Walk} {flag : Bool} {last : Last} {m : Summary} {h' l' y' p' r' : List ℕ} → walked ≡ Finished x flag last
       → m ≡ summary_of s (take n o) (take n w) x flag last → arrays [] [] h' l' y' p' r' ≡ settled_of s (take n o) x (arrays [] [] h l y p r)
-      → called (reading.Read m) (arrays o w h' l' y' p' r') ≡ finish_of s n walked (arrays o w h l y p r)
+      → called (Ok m) (arrays o w h' l' y' p' r') ≡ finish_of s n walked (arrays o w h l y p r)
   unfolding finish_of
   finished {x} ew em ea =
-      ap₂ (λ (z : Summary) (a : Arrays). called (reading.Read z) a) em (settled-with s (take n o) x o w h l y p r ea)
+      ap₂ (λ (z : Summary) (a : Arrays). called (Ok z) a) em (settled-with s (take n o) x o w h l y p r ea)
       ∙ ap (λ (z : Walked). finish_of s n z (arrays o w h l y p r)) (sym ew)
 
-  pub refused : {f : Refusal} {a : Arrays} → walked ≡ Refused f → a ≡ cleared_arrays (arrays o w h l y p r) → called (reading.Refused f) a ≡ finish_of s n walked (arrays o w h l y p r)
+  pub refused : {f : Refusal} {a : Arrays} → walked ≡ Refused f → a ≡ cleared_arrays (arrays o w h l y p r) → called (Err f) a ≡ finish_of s n walked (arrays o w h l y p r)
   unfolding finish_of
-  refused {f} {a} ew ea = ap (called (reading.Refused f)) ea ∙ ap (λ (z : Walked). finish_of s n z (arrays o w h l y p r)) (sym ew)
+  refused {f} {a} ew ea = ap (called (Err f)) ea ∙ ap (λ (z : Walked). finish_of s n z (arrays o w h l y p r)) (sym ew)
 
 pub within-found : (a : Arrays) {walked : Walked} {x : Walk} {flag : Bool} {last : Last} → WithinOf a walked → walked ≡ Finished x flag last → Within x.nodes x.errors a.heads a.loads a.places a.reasons
 within-found a q e = subst (λ (z : Walked). WithinOf a z) e q

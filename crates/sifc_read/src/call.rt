@@ -4,22 +4,19 @@ ghost use Rattle.sifc_def.specs.Read.{fault_of, rooms_of, read, called, answered
 ghost use Rattle.sifc_lent.specs.Parts.{arrays, Entered};
 
 use crate::finish::finish;
-use sifc_def::Reading;
+use sifc_def::Summary;
 use sifc_err::{Ending, Refusal};
 use sifc_lent::{clear_all, entry_tests};
-use sifc_lex::LexAnswer;
 use sifc_program::parse;
 use sifc_step::Limits;
-use sifc_tokens::{Checked, lex_tokens};
+use sifc_tokens::lex_tokens;
 
 // The kind of the lexing panic that ends the tokens, if one does.
 fn fault_of(ending: Ending) -> u32
     ensures { result ≡ fault_of ending }
 {
     match ending {
-        Ending::TrueEnd => 0,
-        Ending::UnknownChar => 0,
-        Ending::UnterminatedString => 0,
+        Ending::TrueEnd | Ending::UnknownChar | Ending::UnterminatedString => 0,
         Ending::Panic(kind) => kind,
     }
 }
@@ -34,24 +31,34 @@ pub fn after_entry(
     symbols: &mut [u32],
     places: &mut [u32],
     reasons: &mut [u32],
-) -> Reading
+) -> Result<Summary, Refusal>
     requires { Entered script.now (arrays offs.old words.old heads.old loads.old symbols.old places.old reasons.old) }
     ensures { called result (arrays offs.new words.new heads.new loads.new symbols.new places.new reasons.new) ≡ answered script.now (arrays offs.old words.old heads.old loads.old symbols.old places.old reasons.old) (read (rooms_of (arrays offs.old words.old heads.old loads.old symbols.old places.old reasons.old)) script.now) }
 {
     let lexed = lex_tokens(script, offs, words);
-    let LexAnswer::Ended(n, ending, _) = lexed else {
+    let Ok(ended) = lexed else {
         clear_all(offs, words, heads, loads, symbols, places, reasons, 0);
-        return Reading::Refused(Refusal::TokensFull);
+        return Err(Refusal::TokensFull);
     };
     let lim = Limits {
         errors: places.len(),
-        fault: fault_of(ending),
+        fault: fault_of(ended.ending),
     };
+    let n = ended.count;
     let os = &offs[..n];
     let ws = &words[..n];
     let walked = parse(script, os, ws, symbols, heads, loads, places, reasons, lim);
     finish(
-        script, offs, words, heads, loads, symbols, places, reasons, n, walked,
+        script,
+        offs,
+        words,
+        heads,
+        loads,
+        symbols,
+        places,
+        reasons,
+        ended.count,
+        walked,
     )
 }
 
@@ -70,12 +77,9 @@ pub fn reading(
     symbols: &mut [u32],
     places: &mut [u32],
     reasons: &mut [u32],
-) -> Reading
+) -> Result<Summary, Refusal>
     ensures { called result (arrays offs.new words.new heads.new loads.new symbols.new places.new reasons.new) ≡ reading_of script.now (arrays offs.old words.old heads.old loads.old symbols.old places.old reasons.old) }
 {
-    let checked = entry_tests(script, offs, words, heads, loads, places, reasons);
-    match checked {
-        Checked::Fine => after_entry(script, offs, words, heads, loads, symbols, places, reasons),
-        Checked::Refused(refusal) => Reading::Refused(refusal),
-    }
+    entry_tests(script, offs, words, heads, loads, places, reasons)?;
+    after_entry(script, offs, words, heads, loads, symbols, places, reasons)
 }

@@ -3,7 +3,8 @@ ghost use Rattle.std.specs.Prelude.{◌≡◌, [], ◌<◌, length};
 ghost use Rattle.sifc_def.specs.Read.{called};
 ghost use Rattle.sifc_lent.specs.Parts.{arrays, Within, Fits, summary_of, settled_of, finish_of};
 
-use sifc_def::{Reading, Summary};
+use sifc_def::Summary;
+use sifc_err::Refusal;
 use sifc_lent::{clear_all, clear_array, early_of, keep, set_places};
 use sifc_step::{Last, Walk, Walked};
 
@@ -18,13 +19,12 @@ fn summary_of(
 ) -> Summary
     ensures { result ≡ summary_of script.now offs.now words.now w flag last }
 {
-    let early = early_of(script, offs, words, last);
     Summary {
         tokens: offs.len(),
         nodes: w.nodes,
         errors: w.errors,
         flag,
-        early,
+        early: early_of(script, offs, words, last),
     }
 }
 
@@ -63,7 +63,7 @@ pub fn finish(
     reasons: &mut [u32],
     n: usize,
     walked: Walked,
-) -> Reading
+) -> Result<Summary, Refusal>
     requires { Fits script.now (arrays offs.old words.old heads.old loads.old symbols.old places.old reasons.old) n walked }
     ensures { called result (arrays offs.new words.new heads.new loads.new symbols.new places.new reasons.new) ≡ finish_of script.now n walked (arrays offs.old words.old heads.old loads.old symbols.old places.old reasons.old) }
 {
@@ -72,11 +72,11 @@ pub fn finish(
             let os = &offs[..n];
             let ws = &words[..n];
             settle(script, os, heads, loads, symbols, places, reasons, w);
-            Reading::Read(summary_of(script, os, ws, w, flag, last))
+            Ok(summary_of(script, os, ws, w, flag, last))
         }
         Walked::Refused(refusal) => {
             clear_all(offs, words, heads, loads, symbols, places, reasons, n);
-            Reading::Refused(refusal)
+            Err(refusal)
         }
     }
 }

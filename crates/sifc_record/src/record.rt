@@ -6,7 +6,6 @@ ghost use Rattle.sifc_record.specs.Record.{blank_err, invalid_tkn, why_of, recor
 use sifc_def::Why;
 use sifc_err::{ParseErr, ParseErrTy};
 use sifc_lent::ty_of;
-use sifc_step::wide;
 
 // The record of no error: line 0, column 0, no reason.
 pub fn blank() -> ParseErr
@@ -24,9 +23,10 @@ fn invalid_tkn(first: usize, second: u32) -> Why
     ensures { result ≡ invalid_tkn first second }
 {
     if second == 0 {
-        return Why::InvalidTkn(first);
+        Why::InvalidTkn(first)
+    } else {
+        Why::InvalidTknMsg(second)
     }
-    Why::InvalidTknMsg(second)
 }
 
 // Why an error stands, out of its second word: reason + 16 * first + 1048576 * second of what the reason
@@ -34,7 +34,7 @@ fn invalid_tkn(first: usize, second: u32) -> Why
 fn why_of(word: u32) -> Why
     ensures { result ≡ why_of word }
 {
-    let first = wide(word / 16 % 65536);
+    let first = (word / 16 % 65536) as usize;
     let second = word / 1048576;
     let number = word % 16;
     match number {
@@ -45,7 +45,7 @@ fn why_of(word: u32) -> Why
         5 => Why::InvalidIfStmt,
         6 => Why::TknMismatch(second, first),
         7 => Why::FnParmCntExceeded(first),
-        8 => Why::WrongFnParmCnt(first, wide(second)),
+        8 => Why::WrongFnParmCnt(first, second as usize),
         9 => Why::UndeclSym(first),
         10 => Why::UnassignedVar(first),
         _ => Why::ExpectedIdent(first),
@@ -68,8 +68,8 @@ pub fn record_at(
     let why = why_of(reasons[i]);
     let ty = ty_of(&offs[..tokens], &words[..tokens], why);
     ParseErr {
-        line: wide(place / 65536) + 1,
-        pos: wide(place % 65536),
+        line: (place / 65536) as usize + 1,
+        pos: (place % 65536) as usize,
         ty,
     }
 }

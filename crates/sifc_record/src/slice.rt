@@ -19,12 +19,7 @@ pub fn clear(errors: &mut [ParseErr], from: usize)
     requires { from ≤ length errors.old }
     ensures { errors.new ≡ blank_from from errors.old }
 {
-    let e = blank();
-    let mut i = from;
-    while i < errors.len() {
-        errors[i] = e;
-        i = i + 1;
-    }
+    errors[from..].fill(blank());
 }
 
 // The records of the first n errors, in order, from their words; then every record from one on is
@@ -42,11 +37,9 @@ pub fn fill(
     requires { Fillable offs.now words.now places.now reasons.now tokens n from (length errors.old) }
     ensures { errors.new ≡ filled_of (toks_of (take tokens offs.now) (take tokens words.now)) places.now reasons.now n from errors.old }
 {
-    let mut i = 0;
-    while i < n {
+    for i in 0..n {
         let e = record_at(offs, words, places, reasons, tokens, i);
         push(errors, i, e);
-        i = i + 1;
     }
     clear(errors, from);
 }

@@ -1,28 +1,25 @@
 -- The two words of a listed error say its record; and the reading call on records agrees with the call on words.
-use Rattle.std.specs.Prelude.{ℕ, ◌+◌, ◌*◌, ◌/◌, ◌%◌, ◌≤◌, ◌<◌, Bool, ◌⊎◌, ◌≡◌, eqb, length}
+use Rattle.std.specs.Prelude.{ℕ, ◌+◌, ◌*◌, ◌/◌, ◌%◌, ◌≤◌, ◌<◌, Bool, ◌⊎◌, ◌≡◌, eqb, length, Err, Ok}
 use mathlib.Core.List.{List, [], ◌∷◌, map, reverse, reverse_aux}
 use Rattle.std.proofs.Math.Bool.{true, false}
 use Rattle.std.proofs.Common.{inl, inr, sym, ap, ap₂, ◌∙◌, subst, arith, ltb-false, eqb-true, eq-eqb, ne_eqb}
 use Rattle.std.proofs.Math.Path.{refl}
 use Rattle.std.proofs.Math.Dec.{ltb}
 use Rattle.std.proofs.Math.ListN.{length-reverse}
+use Rattle.sifc_tokens.specs.Tokens.{Checked, passed}
 use Rattle.sifc_err.specs.declared.Refusal.{Refusal}
 use Rattle.sifc_err.specs.declared.Refusal.TheVariants.{Uneven, TokensFull}
 use Rattle.sifc_err.specs.declared.parse_err.ParseErr.{ParseErr}
 use Rattle.sifc_err.specs.ParseErr.{values_of}
 use Rattle.sifc_tokens.specs.declared.place.Place.{Place}
-use Rattle.sifc_tokens.specs.declared.call.Checked.{Checked}
-use Rattle.sifc_tokens.specs.declared.call.Checked.TheVariants.{Fine}
-use Rattle.sifc_tokens.specs.declared.call.Checked.TheVariants as check
 use Rattle.sifc_word.specs.Base.{if◌then◌otherwise◌}
 use Rattle.sifc_lex.specs.Lex.{lex}
 use Rattle.sifc_lex.proofs.LexLaws.{lex-count}
 use Rattle.sifc_tokens.specs.Place.{place_of}
-use Rattle.sifc_def.specs.declared.Err.{Err}
+use Rattle.sifc_def.specs.declared.Err.{Err as WalkErr}
 use Rattle.sifc_def.specs.declared.Why.{Why}
 use Rattle.sifc_def.specs.declared.Why.TheVariants.{InvalidIdent, InvalidTkn, InvalidTknMsg, InvalidAssign, InvalidForStmt, InvalidIfStmt, TknMismatch, FnParmCntExceeded, WrongFnParmCnt, UndeclSym, UnassignedVar, ExpectedIdent}
-use Rattle.sifc_def.specs.declared.Reading.{Reading}
-use Rattle.sifc_def.specs.declared.Reading.TheVariants.{Refused}
+use Rattle.sifc_def.specs.Answer.{Reading}
 use Rattle.sifc_def.specs.Error.{ty_of, carried, carried_too, place_at, parse_err, err_place, err_reason}
 use Rattle.sifc_def.specs.State.{Ctx, Out, done, fail, refuse, tok_at}
 use Rattle.sifc_def.specs.Walk.{End, walk}
@@ -37,6 +34,7 @@ use Rattle.sifc_lent.specs.Parts.{bare}
 use Rattle.sifc_record.specs.Record.{invalid_tkn, why_by, why_of, record_of, records_in}
 use Rattle.sifc_records.specs.Records.{call_of, errors_of, entry_records, Recorded, recorded, records_of, reading_records}
 use Rattle.sifc_records.proofs.Listed.{Spoken, Listed, walk-lists}
+use Rattle.sifc_tokens.specs.Tokens.{passed, Checked}
 
 -- ── one error ──
 
@@ -85,7 +83,7 @@ ty-bare c (UnassignedVar i) = refl
 ty-bare c (ExpectedIdent i) = refl
 
 -- The two words of an error are its record's.
-pub record-back : (c : Ctx) (e : Err) → length c.script ≤ 65535 → carried e.why < 65536 → Spoken e.why → record_of c.toks (err_place c e) (err_reason c e) ≡ parse_err c e
+pub record-back : (c : Ctx) (e : WalkErr) → length c.script ≤ 65535 → carried e.why < 65536 → Spoken e.why → record_of c.toks (err_place c e) (err_reason c e) ≡ parse_err c e
 unfolding err_place parse_err place_at
 record-back c e s h p =
     let q : Place = place_of c.script (tok_at c e.place).off in
@@ -98,17 +96,17 @@ record-back c e s h p =
 -- ── all errors of a reading ──
 
 -- so it is of each listed error
-abbrev Sound : Ctx → Err → Type 0
+abbrev Sound : Ctx → WalkErr → Type 0
 Sound c e = record_of c.toks (err_place c e) (err_reason c e) ≡ parse_err c e
 
 -- So the words of all errors are their records'.
-pub records-back : (c : Ctx) (es : List Err) → Each (Sound c) es → records_in c.toks (map (err_place c) es) (map (err_reason c) es) ≡ map (parse_err c) es
+pub records-back : (c : Ctx) (es : List WalkErr) → Each (Sound c) es → records_in c.toks (map (err_place c) es) (map (err_reason c) es) ≡ map (parse_err c) es
 unfolding records_in Each
 records-back c [] h = refl
 records-back c (e ∷ es) h = ap₂ (λ (x : ParseErr) (xs : List ParseErr). x ∷ xs) h.0 (records-back c es h.1)
 
 -- it holds of errors that stand at one of the tokens and whose messages are not 0
-each-sound : (c : Ctx) (es : List Err) → length c.script ≤ 65535 → length c.toks ≤ 65536 → Each (FairErr (length c.toks)) es → Each (λ (e : Err). Spoken e.why) es → Each (Sound c) es
+each-sound : (c : Ctx) (es : List WalkErr) → length c.script ≤ 65535 → length c.toks ≤ 65536 → Each (FairErr (length c.toks)) es → Each (λ (e : WalkErr). Spoken e.why) es → Each (Sound c) es
 unfolding Each
 each-sound c [] s t f p = tt
 each-sound c (e ∷ es) s t f p = (record-back c e s (small f.0.first) p.0, each-sound c es s t f.1 p.1)
@@ -168,7 +166,7 @@ module _ (r : Rooms) (s : List ℕ) where
 
 -- the tests of entry, by those of the call on words and whether there are as many records
 abbrev pub entry_by : Checked → Bool → Checked
-entry_by k b = elim k [ check.Refused r ↦ check.Refused r | Fine ↦ if b then Fine otherwise check.Refused Uneven ]
+entry_by k b = elim k [ Err r ↦ Err r | Ok _ ↦ if b then passed otherwise Err Uneven ]
 
 -- it is the definition's
 pub entry-by : (s : List ℕ) (a : Arrays) (n : ℕ) → entry_by (entry s a) (eqb (length a.places) n) ≡ entry_records s a n
@@ -179,8 +177,8 @@ entry-by s a n = refl
 abbrev pub records_by : List ℕ → Arrays → List ParseErr → Checked → Recorded
 records_by s a rs k =
     elim k [
-      | check.Refused r ↦ recorded (Refused r) a rs
-      | Fine ↦ recorded (answered s a (read (rooms_of a) s)).answer (answered s a (read (rooms_of a) s)).arrays (records_of (ctx_of (rooms_of a) s) (length rs) (read (rooms_of a) s))
+      | Err r ↦ recorded (Err r) a rs
+      | Ok _ ↦ recorded (answered s a (read (rooms_of a) s)).answer (answered s a (read (rooms_of a) s)).arrays (records_of (ctx_of (rooms_of a) s) (length rs) (read (rooms_of a) s))
     ]
 
 -- it is the definition's
@@ -197,28 +195,28 @@ pub records-agree : (s : List ℕ) (a : Arrays) (rs : List ParseErr) → length 
 unfolding reading if◌then◌otherwise◌
 records-agree s a rs l = ap call_of (records-even s a rs l) ∙ go (entry s a)
   where
-    go : (k : Checked) → call_of (records_by s a rs (entry_by k true)) ≡ elim k as (λ z. Called Reading) [ check.Refused r ↦ called (Refused r) a | Fine ↦ answered s a (read (rooms_of a) s) ]
-    go (check.Refused f) = refl
-    go Fine = refl
+    go : (k : Checked) → call_of (records_by s a rs (entry_by k true)) ≡ elim k as (λ z. Called Reading) [ Err r ↦ called (Err r) a | Ok _ ↦ answered s a (read (rooms_of a) s) ]
+    go (Err f) = refl
+    go (Ok _) = refl
 
 -- Where there are not, and the call on words would pass its tests of entry, it is refusal 3 and nothing is touched.
-pub records-uneven : (s : List ℕ) (a : Arrays) (rs : List ParseErr) → entry s a ≡ Fine → (length a.places ≡ length rs → ⊥) → reading_records s a rs ≡ recorded (Refused Uneven) a rs
+pub records-uneven : (s : List ℕ) (a : Arrays) (rs : List ParseErr) → entry s a ≡ passed → (length a.places ≡ length rs → ⊥) → reading_records s a rs ≡ recorded (Err Uneven) a rs
 unfolding if◌then◌otherwise◌
 records-uneven s a rs e l = sym (records-by s a rs) ∙ ap (records_by s a rs) (sym (entry-by s a (length rs)) ∙ ap₂ entry_by e (ne_eqb (length a.places) (length rs) l))
 
 -- a refusal does not pass
-never-refused : {X : Type 0} (f : Refusal) → check.Refused f ≡ Fine → X
+never-refused : {X : Type 0} (f : Refusal) → Err f ≡ passed → X
 never-refused f p = absurd (let z : ◌≡◌ {A = ℕ} 0 1 = cc in let y : ⊥ = omega arith in y)
 
 -- what lets a script and the arrays pass
-pub entry_of : (s : List ℕ) (a : Arrays) (n : ℕ) → entry_records s a n ≡ Fine → (entry s a ≡ Fine) × (length a.places ≡ n)
+pub entry_of : (s : List ℕ) (a : Arrays) (n : ℕ) → entry_records s a n ≡ passed → (entry s a ≡ passed) × (length a.places ≡ n)
 unfolding if◌then◌otherwise◌
 entry_of s a n e = go (entry s a) (eqb (length a.places) n) refl (entry-by s a n ∙ e)
   where
-    go : (k : Checked) (b : Bool) → eqb (length a.places) n ≡ b → entry_by k b ≡ Fine → (k ≡ Fine) × (length a.places ≡ n)
-    go (check.Refused f) b t d = never-refused f d
-    go Fine true t d = (refl, eqb-true (length a.places) n t)
-    go Fine false t d = never-refused Uneven d
+    go : (k : Checked) (b : Bool) → eqb (length a.places) n ≡ b → entry_by k b ≡ passed → (k ≡ passed) × (length a.places ≡ n)
+    go (Err f) b t d = never-refused f d
+    go (Ok _) true t d = (refl, eqb-true (length a.places) n t)
+    go (Ok _) false t d = never-refused Uneven d
 
 -- what a reading counts
 fits-found : (s : List ℕ) (a : Arrays) (f : Found) (n : ℕ) → length f.errs ≤ n → errors_of (answered s a (found f)).answer ≤ n
@@ -239,5 +237,5 @@ errors-fit s a rs = subst (λ (x : Recorded). errors_of x.answer ≤ length rs) 
     counted l (refused r) h = fits_refused s a r (length rs)
 
     go : (k : Checked) → entry_records s a (length rs) ≡ k → errors_of (records_by s a rs k).answer ≤ length rs
-    go (check.Refused f) e = omega arith
-    go Fine e = counted (entry_of s a (length rs) e).1 (read (rooms_of a) s) (read-sound (rooms_of a) s)
+    go (Err f) e = omega arith
+    go (Ok _) e = counted (entry_of s a (length rs) e).1 (read (rooms_of a) s) (read-sound (rooms_of a) s)

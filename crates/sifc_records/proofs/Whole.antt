@@ -1,4 +1,5 @@
 -- The call on words and the filling of the records together are the reading call on records.
+use Rattle.std.specs.Prelude.{Ok, Err}
 use Prim.Native.Nat.{ℕ, ◌-◌, ◌≤◌}
 use mathlib.Core.Path.{◌≡◌, refl, sym, ap, ap₂, ◌∙◌, subst}
 use mathlib.Core.List.{List, [], ◌++◌, map, append-nil}
@@ -8,11 +9,8 @@ use lib.ListN.{length, take, drop, replicate, length-append, length-map}
 use lib.Seq.{take-length, take-append_seam, length-take-le, length_front}
 use Rattle.sifc_err.specs.declared.Token.{Token}
 use Rattle.sifc_err.specs.declared.parse_err.ParseErr.{ParseErr}
-use Rattle.sifc_tokens.specs.declared.call.Checked.{Checked}
-use Rattle.sifc_tokens.specs.declared.call.Checked.TheVariants.{Fine}
-use Rattle.sifc_tokens.specs.declared.call.Checked.TheVariants as check
 use Rattle.sifc_lex.specs.Lex.{lex}
-use Rattle.sifc_tokens.specs.Tokens.{offs_of, words_of, padded}
+use Rattle.sifc_tokens.specs.Tokens.{Checked, passed, offs_of, words_of, padded}
 use Rattle.sifc_def.specs.State.{Ctx}
 use Rattle.sifc_def.specs.Error.{parse_err, err_place, err_reason}
 use Rattle.sifc_def.specs.Read.{Arrays, rooms_of, Found, Outcome, found, refused, ctx_of, filled, read, answered}
@@ -85,7 +83,7 @@ module _ (s : List ℕ) (a : Arrays) (f : Found) (h : Sounds (rooms_of a) s f) w
 -- ── the call ──
 
 -- what passes the tests of entry is short
-short-of : (s : List ℕ) (a : Arrays) (n : ℕ) → entry_records s a n ≡ Fine → length s ≤ 65535
+short-of : (s : List ℕ) (a : Arrays) (n : ℕ) → entry_records s a n ≡ passed → length s ≤ 65535
 short-of s a n e =
     let t = entered s a.offs a.words a.heads a.loads [] a.places a.reasons n {k = entry_records s (arrays a.offs a.words a.heads a.loads [] a.places a.reasons) n} refl (entry-same s a.offs a.words a.heads a.loads a.symbols a.places a.reasons n ∙ e) in
     omega (arith, t.short)
@@ -109,8 +107,8 @@ module _ (s : List ℕ) (a : Arrays) where
   words-fill n = subst (FillableOf n) (read-by s a n) (go (entry_records s a n) refl)
     where
       go : (k : Checked) → entry_records s a n ≡ k → FillableOf n (read_by s a n k)
-      go (check.Refused f) e = record { offs = omega arith; words = omega arith; places = omega arith; reasons = omega arith; used = omega arith; room = le_refl n }
-      go Fine e = outcome-fills n (entry_of s a n e).1 (read (rooms_of a) s) (read-sound (rooms_of a) s)
+      go (Err f) e = record { offs = omega arith; words = omega arith; places = omega arith; reasons = omega arith; used = omega arith; room = le_refl n }
+      go (Ok _) e = outcome-fills n (entry_of s a n e).1 (read (rooms_of a) s) (read-sound (rooms_of a) s)
 
   module _ (rs : List ParseErr) where
     outcome-records : length s ≤ 65535 → length a.places ≡ length rs → (o : Outcome) → SoundsOf (rooms_of a) s o
@@ -124,8 +122,8 @@ module _ (s : List ℕ) (a : Arrays) where
     words-records = ap (filled_by rs) (sym (read-by s a (length rs))) ∙ go (entry_records s a (length rs)) refl ∙ records-by s a rs
       where
         go : (k : Checked) → entry_records s a (length rs) ≡ k → filled_by rs (read_by s a (length rs) k) ≡ records_by s a rs k
-        go (check.Refused f) e = ap (recorded _ a) (untouched _ _ _ rs)
-        go Fine e = outcome-records (short-of s a (length rs) e) (entry_of s a (length rs) e).1 (read (rooms_of a) s) (read-sound (rooms_of a) s)
+        go (Err f) e = ap (recorded _ a) (untouched _ _ _ rs)
+        go (Ok _) e = outcome-records (short-of s a (length rs) e) (entry_of s a (length rs) e).1 (read (rooms_of a) s) (read-sound (rooms_of a) s)
 
 module _ (s : List ℕ) (a : Arrays) (rs : List ParseErr) (t : Told) (b : Arrays) (e : kept t b ≡ read_words s a (length rs)) where
   -- What is told can be filled in.

@@ -1,17 +1,15 @@
 -- The reading call over a lent slice of error records, on top of the call on words (Read.antt of sifc_def). "Errors go to a lent slice of error records."
-use Rattle.std.specs.Prelude.{ℕ, ◌-◌, List, ◌++◌, map, eqb, length, replicate}
+use Rattle.std.specs.Prelude.{ℕ, ◌-◌, List, ◌++◌, map, eqb, length, replicate, Err, Ok}
+use Rattle.sifc_tokens.specs.Tokens.{Checked, passed}
 use Rattle.sifc_err.specs.declared.Refusal.TheVariants.{Uneven}
 use Rattle.sifc_err.specs.declared.parse_err.ParseErr.{ParseErr}
-use Rattle.sifc_tokens.specs.declared.call.Checked.{Checked}
-use Rattle.sifc_tokens.specs.declared.call.Checked.TheVariants.{Fine}
-use Rattle.sifc_tokens.specs.declared.call.Checked.TheVariants as check
 use Rattle.sifc_word.specs.Base.{if◌then◌otherwise◌}
-use Rattle.sifc_def.specs.declared.Reading.{Reading}
-use Rattle.sifc_def.specs.declared.Reading.TheVariants.{Read, Refused}
+use Rattle.sifc_def.specs.Answer.{Reading}
 use Rattle.sifc_def.specs.State.{Ctx}
 use Rattle.sifc_def.specs.Error.{parse_err}
 use Rattle.sifc_def.specs.Read.{Arrays, rooms_of, ctx_of, Outcome, found, refused, entry, read, Called, called, answered}
 use Rattle.sifc_record.specs.Record.{blank_err}
+use Rattle.sifc_tokens.specs.Tokens.{passed, Checked}
 
 -- ── the call ──
 
@@ -25,7 +23,7 @@ padded_errs used n = used ++ replicate (n - length used) blank_err
 
 -- refusals 1 to 3: the slice is parallel to the two error word arrays
 unfoldable pub entry_records : List ℕ → Arrays → ℕ → Checked
-entry_records s a n = elim (entry s a) [ check.Refused r ↦ check.Refused r | Fine ↦ if eqb (length a.places) n then Fine otherwise check.Refused Uneven ]
+entry_records s a n = elim (entry s a) [ Err r ↦ Err r | Ok _ ↦ if eqb (length a.places) n then passed otherwise Err Uneven ]
 
 -- the records after a reading behind the tests of entry: those of its errors in order, blank past them; all blank after a refusal
 unfoldable pub records_of : Ctx → ℕ → Outcome → List ParseErr
@@ -47,8 +45,8 @@ recorded x a rs = record { answer = x; arrays = a; records = rs }
 unfoldable pub reading_records : List ℕ → Arrays → List ParseErr → Recorded
 reading_records s a rs =
     elim (entry_records s a (length rs)) [
-      | check.Refused r ↦ recorded (Refused r) a rs
-      | Fine ↦ recorded (answered s a (read (rooms_of a) s)).answer (answered s a (read (rooms_of a) s)).arrays (records_of (ctx_of (rooms_of a) s) (length rs) (read (rooms_of a) s))
+      | Err r ↦ recorded (Err r) a rs
+      | Ok _ ↦ recorded (answered s a (read (rooms_of a) s)).answer (answered s a (read (rooms_of a) s)).arrays (records_of (ctx_of (rooms_of a) s) (length rs) (read (rooms_of a) s))
     ]
 
 -- the answer and the arrays of a call on records
@@ -57,5 +55,5 @@ call_of x = called x.answer x.arrays
 
 -- how many errors an answer counts
 abbrev pub errors_of : Reading → ℕ
-errors_of (Read m) = m.errors
-errors_of (Refused r) = 0
+errors_of (Ok m) = m.errors
+errors_of (Err r) = 0

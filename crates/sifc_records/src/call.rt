@@ -4,36 +4,35 @@ ghost use Rattle.sifc_lent.specs.Parts.{arrays};
 ghost use Rattle.sifc_records.specs.Records.{entry_records, recorded, reading_records};
 ghost use Rattle.sifc_records.specs.Words.{told_of, kept, read_words};
 
-use sifc_def::Reading;
+use sifc_def::Summary;
 use sifc_err::{ParseErr, Refusal};
 use sifc_lent::entry_tests;
 use sifc_read::after_entry;
 use sifc_record::fill;
-use sifc_tokens::Checked;
 
 // What the call on words says to who fills the records: the answer, how many tokens and errors there are,
 // and the first record to blank.
 #[derive(Clone, Copy)]
 pub struct Told {
-    pub reading: Reading,
+    pub reading: Result<Summary, Refusal>,
     pub tokens: usize,
     pub errors: usize,
     pub from: usize,
 }
 
 // After a reading the records past its errors are blank, after a refusal behind the tests of entry all.
-fn told_of(reading: Reading) -> Told
+fn told_of(reading: Result<Summary, Refusal>) -> Told
     ensures { result ≡ told_of reading }
 {
     match reading {
-        Reading::Read(m) => Told {
-            reading: Reading::Read(m),
+        Ok(m) => Told {
+            reading,
             tokens: m.tokens,
             errors: m.errors,
             from: m.errors,
         },
-        Reading::Refused(refusal) => Told {
-            reading: Reading::Refused(refusal),
+        Err(_) => Told {
+            reading,
             tokens: 0,
             errors: 0,
             from: 0,
@@ -51,19 +50,14 @@ fn entry_records(
     places: &[u32],
     reasons: &[u32],
     records: usize,
-) -> Checked
+) -> Result<(), Refusal>
     ensures { result ≡ entry_records script.now (arrays offs.now words.now heads.now loads.now [] places.now reasons.now) records }
 {
-    let checked = entry_tests(script, offs, words, heads, loads, places, reasons);
-    match checked {
-        Checked::Refused(refusal) => Checked::Refused(refusal),
-        Checked::Fine => {
-            if places.len() == records {
-                return Checked::Fine;
-            }
-            Checked::Refused(Refusal::Uneven)
-        }
+    entry_tests(script, offs, words, heads, loads, places, reasons)?;
+    if places.len() == records {
+        return Ok(());
     }
+    Err(Refusal::Uneven)
 }
 
 // The call on words, where so many records are lent beside them. A refusal of the tests of entry leaves
@@ -83,12 +77,9 @@ pub fn read_words(
 {
     let checked = entry_records(script, offs, words, heads, loads, places, reasons, records);
     match checked {
-        Checked::Fine => {
-            let r = after_entry(script, offs, words, heads, loads, symbols, places, reasons);
-            told_of(r)
-        }
-        Checked::Refused(refusal) => Told {
-            reading: Reading::Refused(refusal),
+        Ok(()) => told_of(after_entry(script, offs, words, heads, loads, symbols, places, reasons)),
+        Err(refusal) => Told {
+            reading: Err(refusal),
             tokens: 0,
             errors: 0,
             from: records,
@@ -110,7 +101,7 @@ pub fn reading_records(
     places: &mut [u32],
     reasons: &mut [u32],
     errors: &mut [ParseErr],
-) -> Reading
+) -> Result<Summary, Refusal>
     ensures { recorded result (arrays offs.new words.new heads.new loads.new symbols.new places.new reasons.new) errors.new ≡ reading_records script.now (arrays offs.old words.old heads.old loads.old symbols.old places.old reasons.old) errors.old }
 {
     let told = read_words(

@@ -1,4 +1,5 @@
 -- The text call, out of what its parts gave.
+use Rattle.std.specs.Prelude.{Err, Ok}
 use Prim.Native.Nat.{ℕ, ◌-◌, ◌≤◌}
 use native.Mathlib.Omega.{arith}
 use mathlib.Core.Path.{◌≡◌, refl, sym, ap, ap₂, ◌∙◌, subst}
@@ -9,19 +10,13 @@ use lib.ListN.{length, take, replicate, length-append, length-map}
 use lib.Seq.{length-take-le}
 use Rattle.sifc_err.specs.declared.Refusal.{Refusal}
 use Rattle.sifc_err.specs.declared.Refusal.TheVariants.{Flagged, TextFull}
-use Rattle.sifc_tokens.specs.declared.call.Checked.{Checked}
-use Rattle.sifc_tokens.specs.declared.call.Checked.TheVariants.{Fine}
-use Rattle.sifc_tokens.specs.declared.call.Checked.TheVariants as check
 use Rattle.sifc_word.specs.Base.{if◌then◌otherwise◌}
 use Rattle.sifc_lex.specs.Lex.{lex}
-use Rattle.sifc_tokens.specs.Tokens.{offs_of, words_of, padded, zeroed}
+use Rattle.sifc_tokens.specs.Tokens.{Checked, passed, offs_of, words_of, padded, zeroed}
 use Rattle.sifc_tokens.specs.Loaded.{Used}
 use Rattle.sifc_tokens.proofs.TokensLaws.{padded-used}
-use Rattle.sifc_def.specs.declared.Reading.{Reading}
-use Rattle.sifc_def.specs.declared.Reading.TheVariants as reading
+use Rattle.sifc_def.specs.Answer.{Reading, Texting}
 use Rattle.sifc_def.specs.declared.Summary.{Summary}
-use Rattle.sifc_def.specs.declared.Texting.{Texting}
-use Rattle.sifc_def.specs.declared.Texting.TheVariants.{Wrote, Refused}
 use Rattle.sifc_def.specs.State.{Node}
 use Rattle.sifc_def.specs.Error.{err_place, err_reason}
 use Rattle.sifc_def.specs.Read.{Arrays, rooms_of, cleared_arrays, entry, Found, Outcome, found, refused, ctx_of, read, head_word, Called, called, summary, filled, answered, Written, written, text_found, texted, text_call}
@@ -155,11 +150,11 @@ module _ (s o w h l y p r : List ℕ) (m : Summary) where
 module _ (s : List ℕ) (a : Arrays) (t : List ℕ) (f : Found) (down : f.flag ≡ false) where
   -- what is left with the flag down, by whether the text is longer than its buffer
   abbrev by_length : Bool → Written
-  by_length q = if q then written (Refused TextFull) (cleared_arrays a) (zeroed t) otherwise written (Wrote (length (text_found s f))) (filled (ctx_of (rooms_of a) s) f a) (padded (text_found s f) (length t))
+  by_length q = if q then written (Err TextFull) (cleared_arrays a) (zeroed t) otherwise written (Ok (length (text_found s f))) (filled (ctx_of (rooms_of a) s) f a) (padded (text_found s f) (length t))
 
   -- the answer and the buffer of it
   abbrev by_fit : Bool → Buffered
-  by_fit q = if q then buffered (Refused TextFull) (zeroed t) otherwise buffered (Wrote (length (text_found s f))) (padded (text_found s f) (length t))
+  by_fit q = if q then buffered (Err TextFull) (zeroed t) otherwise buffered (Ok (length (text_found s f))) (padded (text_found s f) (length t))
 
   -- What the definition leaves is that.
   texted-is : texted s a t (found f) ≡ by_length (ltb (length t) (length (text_found s f)))
@@ -167,46 +162,46 @@ module _ (s : List ℕ) (a : Arrays) (t : List ℕ) (f : Found) (down : f.flag �
   texted-is = rw down refl
 
   -- A text that was written is the definition's.
-  wrote-is : {n : ℕ} {t' : List ℕ} {b : Arrays} → buffered (Wrote n) t' ≡ fitted (text_found s f) t → b ≡ filled (ctx_of (rooms_of a) s) f a → written (Wrote n) b t' ≡ texted s a t (found f)
+  wrote-is : {n : ℕ} {t' : List ℕ} {b : Arrays} → buffered (Ok n) t' ≡ fitted (text_found s f) t → b ≡ filled (ctx_of (rooms_of a) s) f a → written (Ok n) b t' ≡ texted s a t (found f)
   unfolding fitted if◌then◌otherwise◌
   wrote-is {n} {t'} {b} e g = go (ltb (length t) (length (text_found s f))) e ∙ sym texted-is
     where
-      go : (q : Bool) → buffered (Wrote n) t' ≡ by_fit q → written (Wrote n) b t' ≡ by_length q
-      go true k = absurd (let x : Wrote n ≡ Refused TextFull = ap (λ (y : Buffered). y.answer) k in let z : ◌≡◌ {A = ℕ} 0 1 = cc in let y : ⊥ = omega arith in y)
+      go : (q : Bool) → buffered (Ok n) t' ≡ by_fit q → written (Ok n) b t' ≡ by_length q
+      go true k = absurd (let x : Ok n ≡ Err TextFull = ap (λ (y : Buffered). y.answer) k in let z : ◌≡◌ {A = ℕ} 0 1 = cc in let y : ⊥ = omega arith in y)
       go false k =
-          let x : Wrote n ≡ Wrote (length (text_found s f)) = ap (λ (y : Buffered). y.answer) k in
+          let x : Ok n ≡ Ok (length (text_found s f)) = ap (λ (y : Buffered). y.answer) k in
           let y : t' ≡ padded (text_found s f) (length t) = ap (λ (y : Buffered). y.text) k in
           cc
 
   -- A text that was refused is refused by the definition.
-  full_is : {x : Refusal} {t' : List ℕ} {b : Arrays} → buffered (Refused x) t' ≡ fitted (text_found s f) t → b ≡ cleared_arrays a → written (Refused x) b t' ≡ texted s a t (found f)
+  full_is : {x : Refusal} {t' : List ℕ} {b : Arrays} → buffered (Err x) t' ≡ fitted (text_found s f) t → b ≡ cleared_arrays a → written (Err x) b t' ≡ texted s a t (found f)
   unfolding fitted if◌then◌otherwise◌
   full_is {x} {t'} {b} e g = go (ltb (length t) (length (text_found s f))) e ∙ sym texted-is
     where
-      go : (q : Bool) → buffered (Refused x) t' ≡ by_fit q → written (Refused x) b t' ≡ by_length q
+      go : (q : Bool) → buffered (Err x) t' ≡ by_fit q → written (Err x) b t' ≡ by_length q
       go true k =
-          let v : Refused x ≡ Refused TextFull = ap (λ (y : Buffered). y.answer) k in
+          let v : Err x ≡ Err TextFull = ap (λ (y : Buffered). y.answer) k in
           let y : t' ≡ zeroed t = ap (λ (y : Buffered). y.text) k in
           cc
-      go false k = absurd (let v : Refused x ≡ Wrote (length (text_found s f)) = ap (λ (y : Buffered). y.answer) k in let z : ◌≡◌ {A = ℕ} 0 1 = cc in let y : ⊥ = omega arith in y)
+      go false k = absurd (let v : Err x ≡ Ok (length (text_found s f)) = ap (λ (y : Buffered). y.answer) k in let z : ◌≡◌ {A = ℕ} 0 1 = cc in let y : ⊥ = omega arith in y)
 
 -- With the flag up all is set to 0.
-flagged-is : (s : List ℕ) (a : Arrays) (t : List ℕ) (f : Found) → f.flag ≡ true → written (Refused Flagged) (cleared_arrays a) (zeroed t) ≡ texted s a t (found f)
+flagged-is : (s : List ℕ) (a : Arrays) (t : List ℕ) (f : Found) → f.flag ≡ true → written (Err Flagged) (cleared_arrays a) (zeroed t) ≡ texted s a t (found f)
 unfolding texted if◌then◌otherwise◌
 flagged-is s a t f e = rw e refl
 
--- A buffer that is cleared from its start on.
-all-cleared : (t : List ℕ) → take 0 t ++ replicate (length t - 0) 0 ≡ zeroed t
+-- A buffer that is cleared.
+all-cleared : (t : List ℕ) → replicate (length t) 0 ≡ zeroed t
 unfolding zeroed
-all-cleared t = ap (λ (n : ℕ). replicate n 0) (let e : length t - 0 ≡ length t = omega arith in e)
+all-cleared t = refl
 
 module _ (s o w h l y p r : List ℕ) (m : Summary) where
   -- The flag is up.
-  pub flagged : {t t' : List ℕ} {b : Arrays} → m.flag ≡ true → b ≡ cleared_arrays (arrays o w h l y p r) → t' ≡ take 0 t ++ replicate (length t - 0) 0 → Texts s (arrays o w h l y p r) m t (written (Refused Flagged) b t')
+  pub flagged : {t t' : List ℕ} {b : Arrays} → m.flag ≡ true → b ≡ cleared_arrays (arrays o w h l y p r) → t' ≡ replicate (length t) 0 → Texts s (arrays o w h l y p r) m t (written (Err Flagged) b t')
   flagged {t} e c k =
       record {
         does = λ a f z.
-            ap₂ (λ (x : Arrays) (v : List ℕ). written (Refused Flagged) x v) (c ∙ z.cleared) (k ∙ all-cleared t)
+            ap₂ (λ (x : Arrays) (v : List ℕ). written (Err Flagged) x v) (c ∙ z.cleared) (k ∙ all-cleared t)
             ∙ flagged-is s a t f (sym (flag_is s o w h l y p r m a f z) ∙ e);
       }
 
@@ -219,7 +214,7 @@ module _ (s o w h l y p r : List ℕ) (m : Summary) where
         q.does d.program 0 (stands s o w h l y p r m a f z d) ∙ ap (λ (v : List ℕ). fitted v t) (sym (shows-text s f d.program d.ok d.fine d.shows))
 
     -- The text is written.
-    pub wrote : {n : ℕ} → u ≡ Wrote n → Texts s (arrays o w h l y p r) m t (written (Wrote n) (arrays o w h l y p r) t')
+    pub wrote : {n : ℕ} → u ≡ Ok n → Texts s (arrays o w h l y p r) m t (written (Ok n) (arrays o w h l y p r) t')
     wrote k =
         record {
           does = λ a f z.
@@ -227,7 +222,7 @@ module _ (s o w h l y p r : List ℕ) (m : Summary) where
         }
 
     -- It is refused.
-    pub full : {x : Refusal} {b : Arrays} → u ≡ Refused x → b ≡ cleared_arrays (arrays o w h l y p r) → Texts s (arrays o w h l y p r) m t (written (Refused x) b t')
+    pub full : {x : Refusal} {b : Arrays} → u ≡ Err x → b ≡ cleared_arrays (arrays o w h l y p r) → Texts s (arrays o w h l y p r) m t (written (Err x) b t')
     full k c =
         record {
           does = λ a f z.
@@ -243,19 +238,19 @@ record Kept (s : List ℕ) (a b : Arrays) (m : Summary) : Type 0 where
   by : LeftBy s b m a what
 
 -- A reading that answered so.
-kept : (s : List ℕ) (a b : Arrays) (m : Summary) → entry s a ≡ Fine → cleared_arrays b ≡ cleared_arrays a → called (reading.Read m) b ≡ answered s a (read (rooms_of a) s) → Kept s a b m
+kept : (s : List ℕ) (a b : Arrays) (m : Summary) → entry s a ≡ passed → cleared_arrays b ≡ cleared_arrays a → called (Ok m) b ≡ answered s a (read (rooms_of a) s) → Kept s a b m
 unfolding answered
 kept s a b m e long c = go (read (rooms_of a) s) refl c
   where
-    go : (o : Outcome) → read (rooms_of a) s ≡ o → called (reading.Read m) b ≡ answered s a o → Kept s a b m
+    go : (o : Outcome) → read (rooms_of a) s ≡ o → called (Ok m) b ≡ answered s a o → Kept s a b m
     go (found f) k d =
-        let x : reading.Read m ≡ reading.Read (summary (ctx_of (rooms_of a) s) f) = ap (λ (y : Called Reading). y.answer) d in
+        let x : Ok m ≡ Ok (summary (ctx_of (rooms_of a) s) f) = ap (λ (y : Called Reading). y.answer) d in
         record {
           what = f;
           read_is = k;
           by = record { reads = record { entered = e; found_it = k }; answer = cc; arrays = ap (λ (y : Called Reading). y.arrays) d; cleared = long };
         }
-    go (refused x) k d = absurd (let v : reading.Read m ≡ reading.Refused x = ap (λ (y : Called Reading). y.answer) d in let z : ◌≡◌ {A = ℕ} 0 1 = cc in let y : ⊥ = omega arith in y)
+    go (refused x) k d = absurd (let v : Ok m ≡ Err x = ap (λ (y : Called Reading). y.answer) d in let z : ◌≡◌ {A = ℕ} 0 1 = cc in let y : ⊥ = omega arith in y)
 
 -- arrays that are as long as others
 pub record SameLong (b a : Arrays) : Type 0 where
@@ -275,22 +270,22 @@ same-cleared {b} {a} n =
 
 module _ (s : List ℕ) (a : Arrays) {b : Arrays} {u : Reading} (c : called u b ≡ answered s a (read (rooms_of a) s)) where
   -- what the writing may assume
-  pub left_is : {m : Summary} → entry s a ≡ Fine → SameLong b a → u ≡ reading.Read m → Left s b m
+  pub left_is : {m : Summary} → entry s a ≡ passed → SameLong b a → u ≡ Ok m → Left s b m
   left_is {m} e long k = let z = kept s a b m e (same-cleared long) (ap (λ (x : Reading). called x b) (sym k) ∙ c) in record { lent = a; what = z.what; by = z.by }
 
   -- what was written is the definition's
-  pub texts-is : {m : Summary} {t : List ℕ} {v : Written} → entry s a ≡ Fine → SameLong b a → u ≡ reading.Read m → Texts s b m t v → v ≡ texted s a t (read (rooms_of a) s)
+  pub texts-is : {m : Summary} {t : List ℕ} {v : Written} → entry s a ≡ passed → SameLong b a → u ≡ Ok m → Texts s b m t v → v ≡ texted s a t (read (rooms_of a) s)
   texts-is {m} {t} e long k q = let z = kept s a b m e (same-cleared long) (ap (λ (x : Reading). called x b) (sym k) ∙ c) in q.does a z.what z.by ∙ ap (texted s a t) (sym z.read_is)
 
   -- the reading is refused
-  pub refused-is : (t : List ℕ) {x : Refusal} {t' : List ℕ} → u ≡ reading.Refused x → t' ≡ take 0 t ++ replicate (length t - 0) 0 → written (Refused x) b t' ≡ texted s a t (read (rooms_of a) s)
+  pub refused-is : (t : List ℕ) {x : Refusal} {t' : List ℕ} → u ≡ Err x → t' ≡ replicate (length t) 0 → written (Err x) b t' ≡ texted s a t (read (rooms_of a) s)
   unfolding answered texted
   refused-is t {x} {t'} k g = go (read (rooms_of a) s) (ap (λ (y : Reading). called y b) (sym k) ∙ c)
     where
-      go : (o : Outcome) → called (reading.Refused x) b ≡ answered s a o → written (Refused x) b t' ≡ texted s a t o
-      go (found f) d = absurd (let v : reading.Refused x ≡ reading.Read (summary (ctx_of (rooms_of a) s) f) = ap (λ (y : Called Reading). y.answer) d in let z : ◌≡◌ {A = ℕ} 0 1 = cc in let y : ⊥ = omega arith in y)
+      go : (o : Outcome) → called (Err x) b ≡ answered s a o → written (Err x) b t' ≡ texted s a t o
+      go (found f) d = absurd (let v : Err x ≡ Ok (summary (ctx_of (rooms_of a) s) f) = ap (λ (y : Called Reading). y.answer) d in let z : ◌≡◌ {A = ℕ} 0 1 = cc in let y : ⊥ = omega arith in y)
       go (refused y) d =
-          let v : reading.Refused x ≡ reading.Refused y = ap (λ (z : Called Reading). z.answer) d in
+          let v : Err x ≡ Err y = ap (λ (z : Called Reading). z.answer) d in
           let n : b ≡ cleared_arrays a = ap (λ (z : Called Reading). z.arrays) d in
           let i : t' ≡ zeroed t = g ∙ all-cleared t in
           cc
@@ -300,7 +295,7 @@ module _ (s : List ℕ) (a : Arrays) {b : Arrays} {u : Reading} (c : called u b 
 module _ (s : List ℕ) (a : Arrays) (t : List ℕ) where
   -- what is left, by what the tests of entry say
   abbrev text_by : Checked → Written
-  text_by k = elim k [ check.Refused f ↦ written (Refused f) a t | Fine ↦ texted s a t (read (rooms_of a) s) ]
+  text_by k = elim k [ Err f ↦ written (Err f) a t | Ok _ ↦ texted s a t (read (rooms_of a) s) ]
 
   -- The definition's call is that.
   text-by : text_by (entry s a) ≡ text_call s a t
@@ -309,13 +304,13 @@ module _ (s : List ℕ) (a : Arrays) (t : List ℕ) where
 
 module _ (s o w h l y p r : List ℕ) {k : Checked} (e : k ≡ entry s (arrays o w h l [] p r)) where
   -- The tests look at no symbol word.
-  pub entry-fine : k ≡ Fine → entry s (arrays o w h l y p r) ≡ Fine
+  pub entry-fine : k ≡ passed → entry s (arrays o w h l y p r) ≡ passed
   entry-fine f = sym (e ∙ entry-same s o w h l y p r) ∙ f
 
   -- The tests let it pass.
-  pub text-on : (t : List ℕ) {x : Written} → k ≡ Fine → x ≡ texted s (arrays o w h l y p r) t (read (rooms_of (arrays o w h l y p r)) s) → x ≡ text_call s (arrays o w h l y p r) t
+  pub text-on : (t : List ℕ) {x : Written} → k ≡ passed → x ≡ texted s (arrays o w h l y p r) t (read (rooms_of (arrays o w h l y p r)) s) → x ≡ text_call s (arrays o w h l y p r) t
   text-on t f g = g ∙ sym (ap (text_by s (arrays o w h l y p r) t) (entry-fine f)) ∙ text-by s (arrays o w h l y p r) t
 
   -- They refuse it.
-  pub text-not : (t : List ℕ) {f : Refusal} → k ≡ check.Refused f → written (Refused f) (arrays o w h l y p r) t ≡ text_call s (arrays o w h l y p r) t
+  pub text-not : (t : List ℕ) {f : Refusal} → k ≡ Err f → written (Err f) (arrays o w h l y p r) t ≡ text_call s (arrays o w h l y p r) t
   text-not t g = sym (ap (text_by s (arrays o w h l y p r) t) (sym (e ∙ entry-same s o w h l y p r) ∙ g)) ∙ text-by s (arrays o w h l y p r) t

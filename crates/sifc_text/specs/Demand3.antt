@@ -4,8 +4,7 @@
 -- proof that it is). Demand 3 speaks of eight such records, whatever each of them was lent.
 use Rattle.std.specs.Prelude.{ℕ, ◌≡◌, ◌↔◌, List}
 use Rattle.std.proofs.Common.{sym, ap, ◌∙◌, subst}
-use Rattle.sifc_def.specs.declared.Reading.{Reading}
-use Rattle.sifc_def.specs.declared.Texting.{Texting}
+use Rattle.sifc_def.specs.Answer.{Reading, Texting}
 use Rattle.sifc_def.specs.Read.{Arrays, Called, called, reading, Written, written, text_call}
 use Rattle.sifc_def.specs.Canon.Demand as definition
 use Rattle.sifc_def.specs.Canon.Demand.{Fits, FitsText, FlagDown, SameTree, Writes, bytes_of, Lent, its_reading, its_text, canonical, next_reading, next_text}

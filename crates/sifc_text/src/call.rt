@@ -1,16 +1,16 @@
 // The text call.
 ghost use Rattle.std.specs.Prelude.{◌≡◌};
-ghost use Rattle.sifc_tokens.specs.declared.call.Checked.TheVariants.{Fine};
+ghost use Rattle.sifc_tokens.specs.Tokens.{passed};
 ghost use Rattle.sifc_def.specs.Read.{rooms_of, entry as entry_of, read, written, texted, text_call};
 ghost use Rattle.sifc_lent.specs.Parts.{arrays};
 ghost use Rattle.sifc_text.specs.Post.{Left, Texts};
 
-use sifc_def::{Reading, Summary, Texting};
+use sifc_def::Summary;
 use sifc_err::Refusal;
 use sifc_lent::{clear_used, entry_tests};
+use sifc_put::Tree;
 use sifc_read::after_entry;
-use sifc_tokens::Checked;
-use sifc_write::{clear_from, write_tree};
+use sifc_write::write_tree;
 
 // The text of what a reading left, which answered this. A flag that is up is refused, and so is a
 // text that is longer than its buffer: then all that is lent is set to 0.
@@ -25,7 +25,7 @@ fn write_found(
     reasons: &mut [u32],
     text: &mut [u8],
     m: Summary,
-) -> Texting
+) -> Result<usize, Refusal>
     requires { Left script.now (arrays offs.old words.old heads.old loads.old symbols.old places.old reasons.old) m }
     ensures { Texts script.now (arrays offs.old words.old heads.old loads.old symbols.old places.old reasons.old) m text.old (written result (arrays offs.new words.new heads.new loads.new symbols.new places.new reasons.new) text.new) }
 {
@@ -36,21 +36,23 @@ fn write_found(
         clear_used(
             offs, words, heads, loads, places, reasons, tokens, nodes, errors,
         );
-        clear_from(text, 0);
-        return Texting::Refused(Refusal::Flagged);
+        text.fill(0);
+        return Err(Refusal::Flagged);
     }
-    let os = &offs[..tokens];
-    let ws = &words[..tokens];
-    let hs = &heads[..nodes];
-    let ls = &loads[..nodes];
-    let put = write_tree(script, os, ws, hs, ls, text);
-    match put {
-        Texting::Wrote(n) => Texting::Wrote(n),
-        Texting::Refused(refusal) => {
+    let tree = Tree {
+        script,
+        offs: &offs[..tokens],
+        words: &words[..tokens],
+        heads: &heads[..nodes],
+        loads: &loads[..nodes],
+    };
+    match write_tree(tree, text) {
+        Ok(n) => Ok(n),
+        Err(refusal) => {
             clear_used(
                 offs, words, heads, loads, places, reasons, tokens, nodes, errors,
             );
-            Texting::Refused(refusal)
+            Err(refusal)
         }
     }
 }
@@ -66,18 +68,18 @@ fn read_and_write(
     places: &mut [u32],
     reasons: &mut [u32],
     text: &mut [u8],
-) -> Texting
-    requires { entry_of script.now (arrays offs.old words.old heads.old loads.old symbols.old places.old reasons.old) ≡ Fine }
+) -> Result<usize, Refusal>
+    requires { entry_of script.now (arrays offs.old words.old heads.old loads.old symbols.old places.old reasons.old) ≡ passed }
     ensures { written result (arrays offs.new words.new heads.new loads.new symbols.new places.new reasons.new) text.new ≡ texted script.now (arrays offs.old words.old heads.old loads.old symbols.old places.old reasons.old) text.old (read (rooms_of (arrays offs.old words.old heads.old loads.old symbols.old places.old reasons.old)) script.now) }
 {
     let answer = after_entry(script, offs, words, heads, loads, symbols, places, reasons);
     match answer {
-        Reading::Read(m) => write_found(
+        Ok(m) => write_found(
             script, offs, words, heads, loads, symbols, places, reasons, text, m,
         ),
-        Reading::Refused(refusal) => {
-            clear_from(text, 0);
-            Texting::Refused(refusal)
+        Err(refusal) => {
+            text.fill(0);
+            Err(refusal)
         }
     }
 }
@@ -96,14 +98,11 @@ pub fn text(
     places: &mut [u32],
     reasons: &mut [u32],
     text: &mut [u8],
-) -> Texting
+) -> Result<usize, Refusal>
     ensures { written result (arrays offs.new words.new heads.new loads.new symbols.new places.new reasons.new) text.new ≡ text_call script.now (arrays offs.old words.old heads.old loads.old symbols.old places.old reasons.old) text.old }
 {
-    let checked = entry_tests(script, offs, words, heads, loads, places, reasons);
-    match checked {
-        Checked::Fine => read_and_write(
-            script, offs, words, heads, loads, symbols, places, reasons, text,
-        ),
-        Checked::Refused(refusal) => Texting::Refused(refusal),
-    }
+    entry_tests(script, offs, words, heads, loads, places, reasons)?;
+    read_and_write(
+        script, offs, words, heads, loads, symbols, places, reasons, text,
+    )
 }

@@ -7,24 +7,50 @@ use mathlib.Core.Bool.{Bool}
 use lib.Dec.{leb, ltb, leb-suc-suc}
 use lib.ListN.{length, get_or}
 use Rattle.sifc_word.specs.Base.{if◌then◌otherwise◌, member}
-use Rattle.sifc_def.specs.State.{W}
 use Rattle.sifc_def.specs.Expr.{looseness}
 use Rattle.sifc_def.specs.Typed.{Expr, prim, un, bin, call, dot, idx, set, mut, Exprs, nil, more, many, rp, rb, eq, comma, height, wrap, between, pr, prs}
-use Rattle.sifc_put.specs.Place.{Inp, Then, Along}
-use Rattle.sifc_put.specs.Post.{Lang, fixed, token_l, leaf_l, seq, commas, height_at}
+use Rattle.sifc_put.specs.Place.{Inp, Along}
+use Rattle.sifc_put.specs.declared.write.Writer.{Writer}
+use Rattle.sifc_put.specs.Post.{Kind, inp_of, kind_of, children_of, height_of, Pieces, one, seq, made, fixed, token_l, leaf_l, commas, height_at}
 use Rattle.sifc_put.specs.Bytes.{worded, spaced, bytes_of, puts-wrap, puts-E, puts-Es, spaced-puts}
-use Rattle.sifc_put.specs.Spans.{Single, Spans, SpansAll}
-use Rattle.sifc_put.specs.Frame.{Narrow, Low, fixed-low, token-low}
-use Rattle.sifc_text_expr.specs.Kinds.{expr_l, operand_l, exprs_l, subscript_l, link_of}
-use Rattle.sifc_text_expr.proofs.Roots.{below_next, tight, loose}
+use Rattle.sifc_put.specs.Spans.{Spans, SpansAll}
+use Rattle.sifc_put.proofs.Frame.{Narrow, Part, down, opened, entered, tested}
+use Rattle.sifc_text_expr.specs.Kinds.{expr_l, operand_l, exprs_l, subscript_l, linked_l}
+use Rattle.sifc_text_expr.proofs.Roots.{below_next, tight, loose, high}
 
 -- a sign and a space
-abbrev pub sign_l : ℕ → Lang
+abbrev pub sign_l : ℕ → Kind
 sign_l s = fixed (s ∷ 32 ∷ [])
 
--- It stands for no node.
-pub sign_low : (s : ℕ) → Low (sign_l s)
-sign_low s = fixed-low (s ∷ 32 ∷ [])
+-- ── pieces ──
+
+-- an operand in parentheses
+abbrev pub closed_l : Pieces
+closed_l = seq (seq (one (sign_l 40)) expr_l) (sign_l 41)
+
+-- two operands of an operator whose looseness is n
+abbrev pub two_l : ℕ → ℕ → Pieces
+two_l hi n = seq (seq (one (operand_l (n + 1))) (token_l hi)) (operand_l n)
+
+-- one operand, which stands as it is or by its own rule
+abbrev pub one_l : ℕ → Kind → Pieces
+one_l hi K = seq (one (token_l hi)) K
+
+-- a call with n arguments
+abbrev pub call_l : ℕ → Pieces
+call_l n = seq (seq (seq (one leaf_l) (sign_l 40)) (exprs_l n)) (sign_l 41)
+
+-- a target and an index in brackets
+abbrev pub index_l : Pieces
+index_l = seq (seq (seq (one leaf_l) (sign_l 91)) expr_l) (sign_l 93)
+
+-- an assignment to an element of an array
+abbrev pub element_l : Pieces
+element_l = seq (seq (one subscript_l) (sign_l 61)) expr_l
+
+-- a target, a sign and an expression
+abbrev pub joined_l : ℕ → Pieces
+joined_l s = seq (seq (one leaf_l) (sign_l s)) expr_l
 
 -- ── expressions one after another, as a list ──
 
@@ -55,44 +81,6 @@ module _ (I : Inp) where
   listed-along nil lo hi z = z
   listed-along (more e es) lo hi z = record { mid = z.mid; front = z.front; last = listed-along es z.mid hi z.last }
 
-  -- ── pieces ──
-
-  -- the token of the node before hi
-  abbrev pub own_l : ℕ → Lang
-  own_l hi = token_l I.script I.offs I.words I.loads hi
-
-  -- a node that is a token
-  abbrev pub target_l : Lang
-  target_l = leaf_l I.script I.offs I.words I.loads
-
-  -- A node's token stands for no further node.
-  pub own-low : (hi : ℕ) → Low (own_l hi)
-  own-low hi = token-low I.script I.offs I.words I.loads hi
-
-  -- an operand in parentheses
-  abbrev pub closed_l : Lang
-  closed_l = seq (seq (sign_l 40) (expr_l I)) (sign_l 41)
-
-  -- two operands of an operator whose looseness is n
-  abbrev pub two_l : ℕ → ℕ → Lang
-  two_l hi n = seq (seq (operand_l I (n + 1)) (own_l hi)) (operand_l I n)
-
-  -- a call with n arguments
-  abbrev pub call_l : ℕ → Lang
-  call_l n = seq (seq (seq target_l (sign_l 40)) (exprs_l I n)) (sign_l 41)
-
-  -- a target and an index in brackets
-  abbrev pub index_l : Lang
-  index_l = seq (seq (seq target_l (sign_l 91)) (expr_l I)) (sign_l 93)
-
-  -- an assignment to an element of an array
-  abbrev pub element_l : Lang
-  element_l = seq (seq (subscript_l I) (sign_l 61)) (expr_l I)
-
-  -- a target, a sign and an expression
-  abbrev pub linked_l : ℕ → Lang
-  linked_l s = seq (seq target_l (sign_l s)) (expr_l I)
-
   -- the kind of the node before hi
   abbrev kind : ℕ → ℕ
   kind hi = get_or I.heads (hi - 1) 0 % 32
@@ -100,12 +88,12 @@ module _ (I : Inp) where
   -- ── operands ──
 
   -- an operand that binds tighter stands bare
-  pub is-bare : (below hi k : ℕ) → k ≡ height_at I.words I.heads I.loads hi → k < below → Narrow (operand_l I below) (expr_l I) hi hi
+  is-bare : (below hi k : ℕ) → k ≡ height_at I.words I.heads I.loads hi → k < below → Narrow (operand_l below I) (expr_l I) hi hi
   unfolding wrap
   is-bare below hi k f u x lo s = record { tree = x; spans = s; text = ap (λ (b : Bool). bytes_of (wrap b (pr x))) (tight I below hi k f u x lo s) }
 
   -- one that does not stands in parentheses
-  pub is-closed : (below hi k : ℕ) → k ≡ height_at I.words I.heads I.loads hi → below ≤ k → Narrow (operand_l I below) closed_l hi hi
+  is-closed : (below hi k : ℕ) → k ≡ height_at I.words I.heads I.loads hi → below ≤ k → Narrow (operand_l below I) (made closed_l I) hi hi
   unfolding wrap spaced
   is-closed below hi k f u x lo s =
       record {
@@ -119,12 +107,12 @@ module _ (I : Inp) where
   -- ── operators ──
 
   -- two operands
-  pub is-two : (hi tok n : ℕ) → kind hi ≡ 22 → tok ≡ get_or I.loads (hi - 1) 0 → n ≡ looseness (get_or I.words tok 0 % 64) → Narrow (expr_l I) (two_l hi n) hi (hi - 1)
-  unfolding Spans pr spaced
-  is-two hi tok n k et en (prim x) lo z = absurd (omega (arith, z.top.kinded, k))
-  is-two hi tok n k et en (un o e) lo z = absurd (omega (arith, z.top.kinded, k))
-  is-two hi tok n k et en (bin o l r) lo z =
-      let e : looseness o.kind ≡ n = ap looseness z.token.spells.kind ∙ ap (λ (i : ℕ). looseness (get_or I.words i 0 % 64)) (sym et) ∙ sym en in
+  is-two : (hi n : ℕ) → kind hi ≡ 22 → n ≡ height_at I.words I.heads I.loads hi → Narrow (expr_l I) (made (two_l hi n) I) hi (hi - 1)
+  unfolding Spans pr spaced height
+  is-two hi n k en (prim x) lo z = absurd (omega (arith, z.top.kinded, k))
+  is-two hi n k en (un o e) lo z = absurd (omega (arith, z.top.kinded, k))
+  is-two hi n k en (bin o l r) lo z =
+      let e : looseness o.kind ≡ n = sym (en ∙ high I (bin o l r) lo hi z) in
       record {
         tree = ((l, o), r);
         spans = record { mid = z.below.mid; front = record { mid = z.below.mid; front = z.below.front; last = (refl, z.token) }; last = z.below.last };
@@ -134,14 +122,14 @@ module _ (I : Inp) where
             ∙ ap (λ (b : Bool). bytes_of (wrap b (pr l)) ++ (worded o ++ bytes_of (wrap (ltb (height r) n) (pr r)))) (below_next (height l) n)
             ∙ sym (append_assoc (bytes_of (wrap (ltb (height l) (n + 1)) (pr l))) (worded o) (bytes_of (wrap (ltb (height r) n) (pr r))));
       }
-  is-two hi tok n k et en (call x es) lo z = absurd (omega (arith, z.top.kinded, k))
-  is-two hi tok n k et en (dot x e) lo z = absurd (omega (arith, z.top.kinded, k))
-  is-two hi tok n k et en (idx x e) lo z = absurd (omega (arith, z.top.kinded, k))
-  is-two hi tok n k et en (set x g e) lo z = absurd (omega (arith, z.top.kinded, k))
-  is-two hi tok n k et en (mut x i e) lo z = absurd (omega (arith, z.top.kinded, k))
+  is-two hi n k en (call x es) lo z = absurd (omega (arith, z.top.kinded, k))
+  is-two hi n k en (dot x e) lo z = absurd (omega (arith, z.top.kinded, k))
+  is-two hi n k en (idx x e) lo z = absurd (omega (arith, z.top.kinded, k))
+  is-two hi n k en (set x g e) lo z = absurd (omega (arith, z.top.kinded, k))
+  is-two hi n k en (mut x i e) lo z = absurd (omega (arith, z.top.kinded, k))
 
   -- one operand
-  pub is_one : (hi : ℕ) → kind hi ≡ 23 → Narrow (expr_l I) (seq (own_l hi) (operand_l I 1)) hi (hi - 1)
+  is_one : (hi : ℕ) → kind hi ≡ 23 → Narrow (expr_l I) (made (one_l hi (operand_l 1)) I) hi (hi - 1)
   unfolding Spans pr spaced
   is_one hi k (prim x) lo z = absurd (omega (arith, z.top.kinded, k))
   is_one hi k (un o e) lo z =
@@ -163,7 +151,7 @@ module _ (I : Inp) where
   one-height hi k = rw k refl
 
   -- an operand that is again one of `!` or `-`: it stands bare
-  pub is-chain : (hi : ℕ) → kind (hi - 1) ≡ 23 → Narrow (seq (own_l hi) (operand_l I 1)) (seq (own_l hi) (expr_l I)) (hi - 1) (hi - 1)
+  is-chain : (hi : ℕ) → kind (hi - 1) ≡ 23 → Narrow (made (one_l hi (operand_l 1)) I) (made (one_l hi expr_l) I) (hi - 1) (hi - 1)
   unfolding wrap
   is-chain hi k x lo z =
       let b = tight I 1 (hi - 1) 0 (one-height (hi - 1) k) (omega arith) x.1 z.mid z.last in
@@ -172,7 +160,7 @@ module _ (I : Inp) where
   -- ── the rest ──
 
   -- a single token
-  pub is-prim : (hi : ℕ) → kind hi ≡ 24 → Narrow (expr_l I) target_l hi hi
+  is-prim : (hi : ℕ) → kind hi ≡ 24 → Narrow (expr_l I) (leaf_l I) hi hi
   unfolding Spans pr spaced
   is-prim hi k (prim x) lo z = record { tree = x; spans = (z.below, z.token); text = append-nil (worded x) }
   is-prim hi k (un o e) lo z = absurd (omega (arith, z.top.kinded, k))
@@ -184,7 +172,7 @@ module _ (I : Inp) where
   is-prim hi k (mut x i e) lo z = absurd (omega (arith, z.top.kinded, k))
 
   -- a call
-  pub is_call : (hi n : ℕ) → kind hi ≡ 20 → n ≡ get_or I.heads (hi - 1) 0 / 64 - 1 → Narrow (expr_l I) (call_l n) hi (hi - 1)
+  is_call : (hi n : ℕ) → kind hi ≡ 20 → n ≡ get_or I.heads (hi - 1) 0 / 64 → Narrow (expr_l I) (made (call_l (n - 1)) I) hi (hi - 1)
   unfolding Spans pr spaced
   is_call hi n k en (prim x) lo z = absurd (omega (arith, z.top.kinded, k))
   is_call hi n k en (un o e) lo z = absurd (omega (arith, z.top.kinded, k))
@@ -227,7 +215,7 @@ module _ (I : Inp) where
   counts_target hi k (mut x i e) lo z = absurd (omega (arith, z.top.kinded, k))
 
   -- an element of an array
-  pub is-subscript : (hi : ℕ) → kind hi ≡ 18 → Narrow (expr_l I) (subscript_l I) hi (hi - 1)
+  is-subscript : (hi : ℕ) → kind hi ≡ 18 → Narrow (expr_l I) (subscript_l I) hi (hi - 1)
   unfolding Spans pr spaced
   is-subscript hi k (prim x) lo z = absurd (omega (arith, z.top.kinded, k))
   is-subscript hi k (un o e) lo z = absurd (omega (arith, z.top.kinded, k))
@@ -239,7 +227,7 @@ module _ (I : Inp) where
   is-subscript hi k (mut x i e) lo z = absurd (omega (arith, z.top.kinded, k))
 
   -- its pieces
-  pub is-index : (hi : ℕ) → Narrow (subscript_l I) index_l hi hi
+  is-index : (hi : ℕ) → Narrow (subscript_l I) (made index_l I) hi hi
   is-index hi x lo z =
       let s = z.front in
       record {
@@ -254,7 +242,7 @@ module _ (I : Inp) where
       }
 
   -- an assignment to an element
-  pub is-element : (hi : ℕ) → kind hi ≡ 19 → Narrow (expr_l I) element_l hi (hi - 1)
+  is-element : (hi : ℕ) → kind hi ≡ 19 → Narrow (expr_l I) (made element_l I) hi (hi - 1)
   unfolding Spans pr spaced
   is-element hi k (prim x) lo z = absurd (omega (arith, z.top.kinded, k))
   is-element hi k (un o e) lo z = absurd (omega (arith, z.top.kinded, k))
@@ -270,24 +258,83 @@ module _ (I : Inp) where
         text = ap (λ (b : List ℕ). worded x ++ (91 ∷ 32 ∷ b)) (spaced-puts (puts-E i) (rb ∷ eq ∷ pr e [])) ∙ sym (simp append_assoc);
       }
 
-  -- where a target, a sign and an expression stand
-  linked-in : (x : W) (e : Expr) (s lo h : ℕ) → Then (λ a b. Single I x a b) (λ a b. Spans I e a b) lo h → (linked_l s).S ((x, tt), e) lo h
-  linked-in x e s lo h y = record { mid = y.mid; front = record { mid = y.mid; front = (y.front.below, y.front.token); last = refl }; last = y.last }
+  -- a table access
+  is-dot : (hi : ℕ) → kind hi ≡ 15 → Narrow (expr_l I) (linked_l 46 I) hi (hi - 1)
+  unfolding Spans pr spaced
+  is-dot hi k (prim x) lo z = absurd (omega (arith, z.top.kinded, k))
+  is-dot hi k (un o e) lo z = absurd (omega (arith, z.top.kinded, k))
+  is-dot hi k (bin o l r) lo z = absurd (omega (arith, z.top.kinded, k))
+  is-dot hi k (call x es) lo z = absurd (omega (arith, z.top.kinded, k))
+  is-dot hi k (dot x e) lo z = record { tree = (x, e); spans = z.below; text = refl }
+  is-dot hi k (idx x e) lo z = absurd (omega (arith, z.top.kinded, k))
+  is-dot hi k (set x g e) lo z = absurd (omega (arith, z.top.kinded, k))
+  is-dot hi k (mut x i e) lo z = absurd (omega (arith, z.top.kinded, k))
 
-  -- their bytes
-  linked-bytes : (x : W) (e : Expr) (n s : ℕ) → n ≡ s → worded x ++ ((n ∷ 32 ∷ []) ++ bytes_of (pr e)) ≡ (worded x ++ (s ∷ 32 ∷ [])) ++ bytes_of (pr e)
-  linked-bytes x e n s f = sym (append_assoc (worded x) (n ∷ 32 ∷ []) (bytes_of (pr e))) ∙ ap (λ (i : ℕ). (worded x ++ (i ∷ 32 ∷ [])) ++ bytes_of (pr e)) f
+  -- what is none of the others is an assignment to a variable
+  is-set : (hi k : ℕ) → k ≡ kind hi → (k ≡ 22 → ⊥) → (k ≡ 24 → ⊥) → (k ≡ 23 → ⊥) → (k ≡ 20 → ⊥) → (k ≡ 18 → ⊥) → (k ≡ 19 → ⊥) → (k ≡ 15 → ⊥) → Narrow (expr_l I) (linked_l 61 I) hi (hi - 1)
+  unfolding Spans pr spaced
+  is-set hi k i two prim_ un_ call_ idx_ mut_ dot_ (prim x) lo z = absurd (prim_ (i ∙ z.top.kinded))
+  is-set hi k i two prim_ un_ call_ idx_ mut_ dot_ (un o e) lo z = absurd (un_ (i ∙ z.top.kinded))
+  is-set hi k i two prim_ un_ call_ idx_ mut_ dot_ (bin o l r) lo z = absurd (two (i ∙ z.top.kinded))
+  is-set hi k i two prim_ un_ call_ idx_ mut_ dot_ (call x es) lo z = absurd (call_ (i ∙ z.top.kinded))
+  is-set hi k i two prim_ un_ call_ idx_ mut_ dot_ (dot x e) lo z = absurd (dot_ (i ∙ z.top.kinded))
+  is-set hi k i two prim_ un_ call_ idx_ mut_ dot_ (idx x e) lo z = absurd (idx_ (i ∙ z.top.kinded))
+  is-set hi k i two prim_ un_ call_ idx_ mut_ dot_ (set x g e) lo z = record { tree = (x, e); spans = z.below; text = refl }
+  is-set hi k i two prim_ un_ call_ idx_ mut_ dot_ (mut x g e) lo z = absurd (mut_ (i ∙ z.top.kinded))
 
-  -- a table access or an assignment to a variable
-  pub is-linked : (hi s : ℕ) → (kind hi ≡ 22 → ⊥) × (kind hi ≡ 24 → ⊥) × (kind hi ≡ 23 → ⊥) × (kind hi ≡ 20 → ⊥) × (kind hi ≡ 18 → ⊥) × (kind hi ≡ 19 → ⊥) → s ≡ link_of (kind hi) → Narrow (expr_l I) (linked_l s) hi (hi - 1)
-  unfolding Spans pr spaced link_of if◌then◌otherwise◌
-  is-linked hi s k f (prim x) lo z = absurd (k.1 z.top.kinded)
-  is-linked hi s k f (un o e) lo z = absurd (k.2 z.top.kinded)
-  is-linked hi s k f (bin o l r) lo z = absurd (k.0 z.top.kinded)
-  is-linked hi s k f (call x es) lo z = absurd (k.3 z.top.kinded)
-  is-linked hi s k f (dot x e) lo z =
-      record { tree = ((x, tt), e); spans = linked-in x e s lo (hi - 1) z.below; text = linked-bytes x e 46 s (sym (f ∙ ap link_of z.top.kinded)) }
-  is-linked hi s k f (idx x e) lo z = absurd (k.4 z.top.kinded)
-  is-linked hi s k f (set x g e) lo z =
-      record { tree = ((x, tt), e); spans = linked-in x e s lo (hi - 1) z.below; text = linked-bytes x e 61 s (sym (f ∙ ap link_of z.top.kinded)) }
-  is-linked hi s k f (mut x i e) lo z = absurd (k.5 z.top.kinded)
+  -- its pieces
+  is-joined : (hi s : ℕ) → Narrow (linked_l s I) (made (joined_l s) I) hi hi
+  is-joined hi s x lo z =
+      record {
+        tree = ((x.0, tt), x.1);
+        spans = record { mid = z.mid; front = record { mid = z.mid; front = (z.front.below, z.front.token); last = refl }; last = z.last };
+        text = sym (append_assoc (worded x.0) (s ∷ 32 ∷ []) (bytes_of (pr x.1)));
+      }
+
+-- ── what is left at first ──
+
+module _ (p : Writer) where
+  pub bare-part : {k : ℕ} (below : ℕ) → k ≡ height_of p → k < below → Part (operand_l below) (one expr_l) p p
+  bare-part {k} below e h = opened (operand_l below) (one expr_l) p (is-bare (inp_of p) below p.node k e h)
+
+  pub closed-part : {k : ℕ} (below : ℕ) → k ≡ height_of p → below ≤ k → Part (operand_l below) closed_l p p
+  closed-part {k} below e h = opened (operand_l below) closed_l p (is-closed (inp_of p) below p.node k e h)
+
+  pub prim-part : {k : ℕ} → k ≡ kind_of p → k ≡ 24 → Part expr_l (one leaf_l) p p
+  prim-part e h = opened expr_l (one leaf_l) p (is-prim (inp_of p) p.node (sym e ∙ h))
+
+  pub one-part : kind_of p ≡ 23 → Part expr_l (one_l p.node (operand_l 1)) p (down p)
+  one-part h = entered expr_l (one_l p.node (operand_l 1)) p (is_one (inp_of p) p.node h)
+
+  -- one whose operand is again one of `!` or `-`
+  pub chain-part : {k : ℕ} → kind_of p ≡ 23 → k ≡ kind_of (down p) → k ≡ 23 → Part expr_l (one_l p.node expr_l) p (down p)
+  chain-part h e i = tested (one_l p.node expr_l) (p.node - 1) (one-part h) (is-chain (inp_of p) p.node (sym e ∙ i)) (omega arith)
+
+  pub call-part : {n : ℕ} → kind_of p ≡ 20 → n ≡ children_of p → Part expr_l (call_l (n - 1)) p (down p)
+  call-part {n} h e = entered expr_l (call_l (n - 1)) p (is_call (inp_of p) p.node n h e)
+
+  pub subscript-part : {k : ℕ} → k ≡ kind_of p → k ≡ 18 → Part expr_l (one subscript_l) p (down p)
+  subscript-part e h = entered expr_l (one subscript_l) p (is-subscript (inp_of p) p.node (sym e ∙ h))
+
+  pub index-part : Part subscript_l index_l p p
+  index-part = opened subscript_l index_l p (is-index (inp_of p) p.node)
+
+  pub element-part : kind_of p ≡ 19 → Part expr_l element_l p (down p)
+  element-part h = entered expr_l element_l p (is-element (inp_of p) p.node h)
+
+  pub dot-part : {k : ℕ} → k ≡ kind_of p → k ≡ 15 → Part expr_l (one (linked_l 46)) p (down p)
+  dot-part e h = entered expr_l (one (linked_l 46)) p (is-dot (inp_of p) p.node (sym e ∙ h))
+
+  pub set-part : {k : ℕ} → k ≡ kind_of p → (k ≡ 22 → ⊥) → (k ≡ 24 → ⊥) → (k ≡ 23 → ⊥) → (k ≡ 20 → ⊥) → (k ≡ 18 → ⊥) → (k ≡ 19 → ⊥) → (k ≡ 15 → ⊥) → Part expr_l (one (linked_l 61)) p (down p)
+  set-part {k} e two prim_ un_ call_ idx_ mut_ dot_ = entered expr_l (one (linked_l 61)) p (is-set (inp_of p) p.node k e two prim_ un_ call_ idx_ mut_ dot_)
+
+  pub joined-part : (s : ℕ) → Part (linked_l s) (joined_l s) p p
+  joined-part s = opened (linked_l s) (joined_l s) p (is-joined (inp_of p) p.node s)
+
+-- An expression of which a part is left is an operator with two operands.
+pub two-part : {L : Kind} {p : Writer} (q : Writer) {k n : ℕ} → Part L (one expr_l) p q → k ≡ kind_of q → k ≡ 22 → n ≡ height_of q → Part L (two_l q.node n) p (down q)
+two-part q {k} {n} t e h i = tested (two_l q.node n) (q.node - 1) t (is-two (inp_of q) q.node n (sym e ∙ h) i) (omega arith)
+
+-- A left operand that stands bare is an expression.
+pub left-part : {L : Kind} {p : Writer} (q : Writer) {k n : ℕ} → Part L (one (operand_l (n + 1))) p q → k ≡ height_of q → k ≤ n → Part L (one expr_l) p q
+left-part q {k} {n} t e h = tested (one expr_l) q.node t (is-bare (inp_of q) (n + 1) q.node k e (omega arith)) (omega arith)

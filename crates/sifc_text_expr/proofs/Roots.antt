@@ -10,11 +10,10 @@ use Rattle.sifc_word.specs.Base.{if◌then◌otherwise◌, member}
 use Rattle.sifc_def.specs.Typed.{Expr, prim, un, bin, call, dot, idx, set, mut, Exprs, nil, more, height}
 use Rattle.sifc_def.specs.Expr.{looseness}
 use Rattle.sifc_put.specs.Place.{Inp, Node}
-use Rattle.sifc_put.specs.Post.{height_at, Readable}
+use Rattle.sifc_put.specs.declared.write.Writer.{Writer}
+use Rattle.sifc_put.specs.Post.{height_at, Readable, InHeads, CanRead, inp_of, At}
 use Rattle.sifc_put.specs.Spans.{Spans, SpansAll}
-use Rattle.sifc_put.specs.Frame.{Low}
-use Rattle.sifc_put.specs.Rows.{list-low}
-use Rattle.sifc_text_expr.specs.Kinds.{expr_l, operand_l, exprs_l}
+use Rattle.sifc_text_expr.specs.Kinds.{expr_l}
 
 -- One of two numbers that are at most 7.
 at_most : (b : Bool) (m n : ℕ) → m ≤ 7 → n ≤ 7 → (if b then m otherwise n) ≤ 7
@@ -77,18 +76,6 @@ module _ (I : Inp) where
     lower-all nil lo hi z = omega (arith, z)
     lower-all (more e es) lo hi z = omega (arith, lower e lo z.mid z.front, lower-all es z.mid hi z.last)
 
-  -- So it does not end before it begins,
-  pub expr-low : Low (expr_l I)
-  expr-low x lo hi s = omega (arith, lower x lo hi s)
-
-  -- nor does an operand,
-  pub operand_low : (n : ℕ) → Low (operand_l I n)
-  operand_low n x lo hi s = omega (arith, lower x lo hi s)
-
-  -- nor do expressions with commas between.
-  pub exprs-low : (n : ℕ) → Low (exprs_l I n)
-  exprs-low n = list-low (expr_l I) n expr-low
-
   -- The last node of an expression says how loosely it binds.
   pub high : (e : Expr) (lo hi : ℕ) → Spans I e lo hi → height_at I.words I.heads I.loads hi ≡ height e
   unfolding Spans height_at if◌then◌otherwise◌ member height
@@ -108,3 +95,10 @@ module _ (I : Inp) where
   -- and one that does not
   pub loose : (below hi k : ℕ) → k ≡ height_at I.words I.heads I.loads hi → below ≤ k → (e : Expr) (lo : ℕ) → Spans I e lo hi → ltb (height e) below ≡ false
   loose below hi k f u e lo s = le-ltb (height e) below (omega (arith, f, high e lo hi s))
+
+-- The node of an expression to write can be read.
+pub root : (p : Writer) → At expr_l p → CanRead p
+root p z = readable (inp_of p) z.tree z.lo p.node z.spans
+
+pub root-head : (p : Writer) → At expr_l p → InHeads p
+root-head p z = let r = root p z in record { some = r.some; in_heads = r.in_heads }

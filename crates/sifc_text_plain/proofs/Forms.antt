@@ -6,27 +6,25 @@ use mathlib.Core.List.{List, [], ◌∷◌, ◌++◌, append_assoc, append-nil}
 use lib.ListN.{length, get_or}
 use lib.Dec.{eqb}
 use borrow.Author.Tests.{ne_eqb}
+use Rattle.std.specs.Prelude.{Ok}
 use Rattle.sifc_word.specs.Base.{if◌then◌otherwise◌}
 use Rattle.sifc_def.specs.State.{W}
 use Rattle.sifc_def.specs.Ast.{ReturnStmt, ExprStmt, VarDecl}
 use Rattle.sifc_def.specs.Typed.{Expr, prim, un, bin, call, dot, idx, set, mut, Exprs, nil, more, many, Items, no_item, item, many_items, lb, rb, eq, semi, arrow, dlb, drb, var_word, return_word, pr, prs, pr_items, pr_names, between_items, between_names, comma}
 use Rattle.sifc_put.specs.Place.{Inp, Node, Carries, Along}
-use Rattle.sifc_put.specs.Post.{Lang, fixed, seq, commas}
+use Rattle.sifc_put.specs.declared.write.Writer.{Writer}
+use Rattle.sifc_put.specs.Post.{Kind, kind_of, children_of, Pieces, one, seq, made, fixed, token_l, leaf_l, commas, inp_of, InHeads, Writes}
 use Rattle.sifc_put.specs.Bytes.{worded, spaced, spaced-append, Puts, puts-E, puts-Es, puts-I, bytes_of, spaced-puts}
-use Rattle.sifc_put.specs.Spans.{Single, Spans, SpansItems, SpansArray, SpansTable}
-use Rattle.sifc_put.specs.Frame.{Narrow, Low}
+use Rattle.sifc_put.specs.Spans.{Single, Spans, SpansItems, SpansArray}
+use Rattle.sifc_put.proofs.Frame.{Narrow, Part, down, opening, opened, entered, narrowed, empty}
 use Rattle.sifc_text_expr.specs.Kinds.{expr_l, exprs_l}
-use Rattle.sifc_text_expr.proofs.Roots.{readable, lower-all, expr-low}
-use Rattle.sifc_text_expr.proofs.Forms.{listed, listed-many, listed-bytes, listed-along, own_l, target_l}
+use Rattle.sifc_text_expr.proofs.Roots.{readable}
+use Rattle.sifc_text_expr.proofs.Forms.{listed, listed-many, listed-bytes, listed-along}
 use Rattle.sifc_text_plain.specs.Kinds.{pair_l, item_l, items_l, table_l, array_l, Value, expression, an_array, a_table, pr_value, SpansValue, value_l, Var, unset, set_to, pr_var, SpansVar, var_l, Plain, variable, returned, return_of, evaluated, pr_plain, SpansPlain, plain_l}
 
 -- a fixed word
-abbrev pub word_l : W → Lang
+abbrev pub word_l : W → Kind
 word_l w = fixed (worded w)
-
--- More than none are some.
-pub some_left : {n : ℕ} → 0 < n → n ≡ 0 → ⊥
-some_left h e = omega (arith, h, e)
 
 -- The words after a print are its last.
 pub spaced-after : {f : List W → List W} → Puts f → (xs ys : List W) → spaced (f (xs ++ ys)) ≡ spaced (f xs) ++ spaced ys
@@ -93,15 +91,73 @@ body_bytes (alone e) = bytes_of (pr e)
 unfoldable pub lead : ℕ → List ℕ
 lead k = if eqb k ReturnStmt then worded return_word otherwise []
 
+-- the kind of the node before hi
+abbrev pub kind_at : Inp → ℕ → ℕ
+kind_at I hi = get_or I.heads (hi - 1) 0 % 32
+
+-- its children
+abbrev pub kids_at : Inp → ℕ → ℕ
+kids_at I hi = get_or I.heads (hi - 1) 0 / 64
+
+-- where a declaration without its `;` stands, which ends before h; the declaration's node is before hi
+unfoldable pub VarBefore : Inp → ℕ → Var → ℕ → ℕ → Type 0
+VarBefore I hi (unset x) lo h = (lo ≡ h) × (kids_at I hi ≡ 0) × Carries I.script I.offs I.words I.loads hi x
+VarBefore I hi (set_to x v) lo h = SpansValue I v lo h × (kids_at I hi ≡ 1) × Carries I.script I.offs I.words I.loads hi x
+
+-- such a declaration
+abbrev pub before_l : ℕ → Kind
+before_l hi = λ I. record { T = Var; S = λ v lo h. VarBefore I hi v lo h; P = λ v. var_bytes v }
+
+-- the same, of a statement that declares nothing
+unfoldable pub BodyAt : Inp → ℕ → Body → ℕ → ℕ → Type 0
+BodyAt I hi nothing lo h = (lo ≡ h) × (kids_at I hi ≡ 0)
+BodyAt I hi (result e) lo h = Spans I e lo h × (kids_at I hi ≡ 1) × (kind_at I hi ≡ ReturnStmt)
+BodyAt I hi (alone e) lo h = Spans I e lo h × (kids_at I hi ≡ 1) × (kind_at I hi ≡ ExprStmt)
+
+abbrev pub body_l : ℕ → Kind
+body_l hi = λ I. record { T = Body; S = λ b lo h. BodyAt I hi b lo h; P = λ b. body_bytes b }
+
+-- ── pieces ──
+
+-- the two names of a loop
+abbrev pub two_l : Pieces
+two_l = seq (seq (one leaf_l) (word_l comma)) leaf_l
+
+-- a key and its value
+abbrev pub keyed_l : ℕ → Pieces
+keyed_l hi = seq (seq (one (token_l hi)) (word_l arrow)) expr_l
+
+-- n items in double brackets
+abbrev pub tabled_l : ℕ → Pieces
+tabled_l n = seq (seq (one (word_l dlb)) (items_l n)) (word_l drb)
+
+-- brackets, and n expressions in brackets
+abbrev pub bare_l : Pieces
+bare_l = seq (one (word_l lb)) (word_l rb)
+
+abbrev pub arrayed_l : ℕ → Pieces
+arrayed_l n = seq (seq (one (word_l lb)) (exprs_l n)) (word_l rb)
+
+-- a declaration, which ends in its `;`
+abbrev pub declared_l : ℕ → Pieces
+declared_l hi = seq (one (before_l hi)) (word_l semi)
+
+-- one without a value, and one with a value
+abbrev pub unset_l : ℕ → Pieces
+unset_l hi = seq (one (word_l var_word)) (token_l hi)
+
+abbrev pub set_l : ℕ → Pieces
+set_l hi = seq (seq (seq (one (word_l var_word)) (token_l hi)) (word_l eq)) value_l
+
+-- a statement that declares nothing, which ends in its `;`
+abbrev pub bodied_l : ℕ → Pieces
+bodied_l hi = seq (one (body_l hi)) (word_l semi)
+
+-- an expression, and what stands before it where the statement is of the kind k
+abbrev pub led_l : ℕ → Pieces
+led_l k = seq (one (fixed (lead k))) expr_l
+
 module _ (I : Inp) where
-  -- the kind of the node before hi
-  abbrev pub kind_at : ℕ → ℕ
-  kind_at hi = get_or I.heads (hi - 1) 0 % 32
-
-  -- its children
-  abbrev pub kids_at : ℕ → ℕ
-  kids_at hi = get_or I.heads (hi - 1) 0 / 64
-
   -- the node before hi can be read
   pub record Root (hi : ℕ) : Type 0 where
     pub some : 0 < hi
@@ -116,7 +172,7 @@ module _ (I : Inp) where
   name_of s = (s.below, s.token)
 
   -- Single tokens in a row are names in a row.
-  pub names-along : (ns : List W) (lo hi : ℕ) → Along (Single I) ns lo hi → Along (target_l I).S ns lo hi
+  pub names-along : (ns : List W) (lo hi : ℕ) → Along (Single I) ns lo hi → Along (leaf_l I).S ns lo hi
   unfolding Along
   names-along [] lo hi s = s
   names-along (x ∷ xs) lo hi s = record { mid = s.mid; front = name_of s.front; last = names-along xs s.mid hi s.last }
@@ -127,43 +183,10 @@ module _ (I : Inp) where
   items-along no_item lo hi s = s
   items-along (item x e is) lo hi s = record { mid = s.mid; front = s.front; last = items-along is s.mid hi s.last }
 
-  -- ── nothing ends before it begins ──
-
-  -- an item
-  pub item-low : Low (item_l I)
-  item-low x lo hi s = omega (arith, expr-low I x.1 lo (hi - 1) s.below)
-
-  -- items in a row
-  items-low : (is : Items) (lo hi : ℕ) → SpansItems I is lo hi → lo ≤ hi
-  unfolding SpansItems
-  items-low no_item lo hi s = omega (arith, s)
-  items-low (item x e is) lo hi s = omega (arith, item-low (x, e) lo s.mid s.front, items-low is s.mid hi s.last)
-
-  -- an array
-  pub array-low : (es : Exprs) (lo hi : ℕ) → SpansArray I es lo hi → lo ≤ hi
-  unfolding SpansArray
-  array-low nil lo hi s = omega (arith, s.below)
-  array-low (more e es) lo hi s = omega (arith, lower-all I (more e es) lo (hi - 1 - 1) s.below.below)
-
-  -- a table
-  pub table-low : (is : Items) (lo hi : ℕ) → SpansTable I is lo hi → lo ≤ hi
-  table-low is lo hi s = omega (arith, items-low is lo (hi - 1 - 1) s.below.below)
-
-  -- what a variable is set to
-  pub value_low : Low (value_l I)
-  unfolding SpansValue
-  value_low (expression e) lo hi s = expr-low I e lo hi s
-  value_low (an_array es) lo hi s = array-low es lo hi s
-  value_low (a_table is) lo hi s = table-low is lo hi s
-
-  -- the two names of a loop
-  pub pair-low : Low (pair_l I)
-  pair-low x lo hi s = omega (arith, s.below.front.below, s.below.last.below)
-
   -- ── pairs, items, tables and arrays ──
 
   -- the two names of a loop
-  pub is-pair : (hi : ℕ) → Narrow (pair_l I) (seq (seq (target_l I) (word_l comma)) (target_l I)) hi (hi - 1)
+  is-pair : (hi : ℕ) → Narrow (pair_l I) (made two_l I) hi (hi - 1)
   is-pair hi x lo s =
       record {
         tree = ((x.0, tt), x.1);
@@ -172,7 +195,7 @@ module _ (I : Inp) where
       }
 
   -- an item of a table
-  pub is-item : (hi : ℕ) → Narrow (item_l I) (seq (seq (own_l I hi) (word_l arrow)) (expr_l I)) hi (hi - 1)
+  is-item : (hi : ℕ) → Narrow (item_l I) (made (keyed_l hi) I) hi (hi - 1)
   is-item hi x lo s =
       record {
         tree = ((x.0, tt), x.1);
@@ -181,7 +204,7 @@ module _ (I : Inp) where
       }
 
   -- a table, by the count of its items
-  pub is-table : (hi n : ℕ) → n ≡ kids_at (hi - 1) → Narrow (table_l I) (seq (seq (word_l dlb) (items_l I n)) (word_l drb)) hi (hi - 1 - 1)
+  is-table : (hi n : ℕ) → n ≡ kids_at I (hi - 1) → Narrow (table_l I) (made (tabled_l n) I) hi (hi - 1 - 1)
   unfolding spaced
   is-table hi n k is lo s =
       record {
@@ -195,13 +218,13 @@ module _ (I : Inp) where
       }
 
   -- an array without items
-  pub is-bare : (hi : ℕ) → kids_at hi ≡ 0 → Narrow (array_l I) (seq (word_l lb) (word_l rb)) hi (hi - 1)
+  is-bare : (hi : ℕ) → kids_at I hi ≡ 0 → Narrow (array_l I) (made bare_l I) hi (hi - 1)
   unfolding SpansArray prs spaced
   is-bare hi k nil lo s = record { tree = (tt, tt); spans = record { mid = lo; front = refl; last = s.below }; text = refl }
   is-bare hi k (more e es) lo s = absurd (omega (arith, s.top.counted, k))
 
   -- an array with items, by their count
-  pub is-array : (hi n : ℕ) → (kids_at hi ≡ 0 → ⊥) → n ≡ kids_at (hi - 1) → Narrow (array_l I) (seq (seq (word_l lb) (exprs_l I n)) (word_l rb)) hi (hi - 1 - 1)
+  is-array : (hi n : ℕ) → (kids_at I hi ≡ 0 → ⊥) → n ≡ kids_at I (hi - 1) → Narrow (array_l I) (made (arrayed_l n) I) hi (hi - 1 - 1)
   unfolding SpansArray spaced many
   is-array hi n z k nil lo s = absurd (z s.top.counted)
   is-array hi n z k (more e es) lo s =
@@ -216,7 +239,7 @@ module _ (I : Inp) where
       }
 
   -- The list node below an array with items can be read.
-  pub array-list : (es : Exprs) (lo hi : ℕ) → SpansArray I es lo hi → (kids_at hi ≡ 0 → ⊥) → Root (hi - 1)
+  pub array-list : (es : Exprs) (lo hi : ℕ) → SpansArray I es lo hi → (kids_at I hi ≡ 0 → ⊥) → Root (hi - 1)
   unfolding SpansArray
   array-list nil lo hi s z = absurd (z s.top.counted)
   array-list (more e es) lo hi s z = root-of s.below.top
@@ -230,7 +253,7 @@ module _ (I : Inp) where
   -- ── what a variable is set to ──
 
   -- No expression is an array or a table.
-  expr-kind : (e : Expr) (lo hi : ℕ) → Spans I e lo hi → kind_at hi < 17 → kind_at hi ≡ 15
+  expr-kind : (e : Expr) (lo hi : ℕ) → Spans I e lo hi → kind_at I hi < 17 → kind_at I hi ≡ 15
   unfolding Spans
   expr-kind (prim x) lo hi s k = omega (arith, s.top.kinded)
   expr-kind (un o e) lo hi s k = omega (arith, s.top.kinded)
@@ -242,7 +265,7 @@ module _ (I : Inp) where
   expr-kind (mut x i e) lo hi s k = omega (arith, s.top.kinded)
 
   -- An array's node says so.
-  array_kind : (es : Exprs) (lo hi : ℕ) → SpansArray I es lo hi → kind_at hi ≡ 16
+  array_kind : (es : Exprs) (lo hi : ℕ) → SpansArray I es lo hi → kind_at I hi ≡ 16
   unfolding SpansArray
   array_kind nil lo hi s = s.top.kinded
   array_kind (more e es) lo hi s = s.top.kinded
@@ -255,36 +278,27 @@ module _ (I : Inp) where
   value-root (a_table is) lo hi s = root-of s.top
 
   -- a value that is an array
-  pub is-array-value : (hi : ℕ) → kind_at hi ≡ 16 → Narrow (value_l I) (array_l I) hi hi
+  is-array-value : (hi : ℕ) → kind_at I hi ≡ 16 → Narrow (value_l I) (array_l I) hi hi
   unfolding SpansValue pr_value
   is-array-value hi k (expression e) lo s = absurd (omega (arith, expr-kind e lo hi s (omega (arith, k)), k))
   is-array-value hi k (an_array es) lo s = record { tree = es; spans = s; text = refl }
   is-array-value hi k (a_table is) lo s = absurd (omega (arith, s.top.kinded, k))
 
   -- one that is a table
-  pub is-table-value : (hi : ℕ) → kind_at hi ≡ 14 → Narrow (value_l I) (table_l I) hi hi
+  is-table-value : (hi : ℕ) → kind_at I hi ≡ 14 → Narrow (value_l I) (table_l I) hi hi
   unfolding SpansValue pr_value
   is-table-value hi k (expression e) lo s = absurd (omega (arith, expr-kind e lo hi s (omega (arith, k)), k))
   is-table-value hi k (an_array es) lo s = absurd (omega (arith, array_kind es lo hi s, k))
   is-table-value hi k (a_table is) lo s = record { tree = is; spans = s; text = refl }
 
   -- one that is neither
-  pub is-expr-value : (hi : ℕ) → (kind_at hi ≡ 16 → ⊥) → (kind_at hi ≡ 14 → ⊥) → Narrow (value_l I) (expr_l I) hi hi
+  is-expr-value : (hi : ℕ) → (kind_at I hi ≡ 16 → ⊥) → (kind_at I hi ≡ 14 → ⊥) → Narrow (value_l I) (expr_l I) hi hi
   unfolding SpansValue pr_value
   is-expr-value hi k j (expression e) lo s = record { tree = e; spans = s; text = refl }
   is-expr-value hi k j (an_array es) lo s = absurd (k (array_kind es lo hi s))
   is-expr-value hi k j (a_table is) lo s = absurd (j s.top.kinded)
 
   -- ── the declaration of a variable ──
-
-  -- where that stands, which ends before h; the declaration's node is before hi
-  unfoldable pub VarBefore : ℕ → Var → ℕ → ℕ → Type 0
-  VarBefore hi (unset x) lo h = (lo ≡ h) × (kids_at hi ≡ 0) × Carries I.script I.offs I.words I.loads hi x
-  VarBefore hi (set_to x v) lo h = SpansValue I v lo h × (kids_at hi ≡ 1) × Carries I.script I.offs I.words I.loads hi x
-
-  -- a declaration without its `;`
-  abbrev pub before_l : ℕ → Lang
-  before_l hi = record { T = Var; S = λ v lo h. VarBefore hi v lo h; P = λ v. var_bytes v }
 
   -- A value before a `;`.
   value-semi : (v : Value) → spaced (pr_value v (semi ∷ [])) ≡ bytes_of (pr_value v) ++ worded semi
@@ -294,7 +308,7 @@ module _ (I : Inp) where
   value-semi (a_table is) = ap (λ (b : List ℕ). worded dlb ++ b) (spaced-after (puts-I is) (drb ∷ []) (semi ∷ []))
 
   -- A declaration ends in its `;`.
-  pub is-ended : (hi : ℕ) → Narrow (var_l I) (seq (before_l hi) (word_l semi)) hi (hi - 1)
+  is-ended : (hi : ℕ) → Narrow (var_l I) (made (declared_l hi) I) hi (hi - 1)
   unfolding SpansVar VarBefore var_bytes pr_var spaced
   is-ended hi (unset x) lo s =
       record {
@@ -312,13 +326,13 @@ module _ (I : Inp) where
       }
 
   -- one without a value
-  pub is-unset : (hi h : ℕ) → kids_at hi ≡ 0 → Narrow (before_l hi) (seq (word_l var_word) (own_l I hi)) h h
+  is-unset : (hi h : ℕ) → kids_at I hi ≡ 0 → Narrow (before_l hi I) (made (unset_l hi) I) h h
   unfolding VarBefore var_bytes
   is-unset hi h k (unset x) lo s = record { tree = (tt, x); spans = record { mid = lo; front = refl; last = (s.0, s.2) }; text = refl }
   is-unset hi h k (set_to x v) lo s = absurd (omega (arith, s.1, k))
 
   -- one with a value
-  pub is_set : (hi h : ℕ) → (kids_at hi ≡ 0 → ⊥) → Narrow (before_l hi) (seq (seq (seq (word_l var_word) (own_l I hi)) (word_l eq)) (value_l I)) h h
+  is_set : (hi h : ℕ) → (kids_at I hi ≡ 0 → ⊥) → Narrow (before_l hi I) (made (set_l hi) I) h h
   unfolding VarBefore var_bytes
   is_set hi h k (unset x) lo s = absurd (k s.1)
   is_set hi h k (set_to x v) lo s =
@@ -335,7 +349,7 @@ module _ (I : Inp) where
   var-root (set_to x v) lo hi s = root-of s.top
 
   -- and says what it is.
-  var-kind : (v : Var) (lo hi : ℕ) → SpansVar I v lo hi → kind_at hi ≡ VarDecl
+  var-kind : (v : Var) (lo hi : ℕ) → SpansVar I v lo hi → kind_at I hi ≡ VarDecl
   unfolding SpansVar
   var-kind (unset x) lo hi s = s.top.kinded
   var-kind (set_to x v) lo hi s = s.top.kinded
@@ -351,7 +365,7 @@ module _ (I : Inp) where
   plain-root (evaluated e) lo hi s = root-of s.top
 
   -- and is of one of three kinds.
-  pub plain-kind : (p : Plain) (lo hi : ℕ) → SpansPlain I p lo hi → (6 ≤ kind_at hi) × (kind_at hi ≤ 8)
+  pub plain-kind : (p : Plain) (lo hi : ℕ) → SpansPlain I p lo hi → (6 ≤ kind_at I hi) × (kind_at I hi ≤ 8)
   unfolding SpansPlain
   plain-kind (variable v) lo hi s = omega (arith, var-kind v lo hi s)
   plain-kind returned lo hi s = omega (arith, s.top.kinded)
@@ -359,25 +373,15 @@ module _ (I : Inp) where
   plain-kind (evaluated e) lo hi s = omega (arith, s.top.kinded)
 
   -- one that declares a variable
-  pub is-var : (hi : ℕ) → kind_at hi ≡ 8 → Narrow (plain_l I) (var_l I) hi hi
+  is-var : (hi : ℕ) → kind_at I hi ≡ 8 → Narrow (plain_l I) (var_l I) hi hi
   unfolding SpansPlain pr_plain
   is-var hi k (variable v) lo s = record { tree = v; spans = s; text = refl }
   is-var hi k returned lo s = absurd (omega (arith, s.top.kinded, k))
   is-var hi k (return_of e) lo s = absurd (omega (arith, s.top.kinded, k))
   is-var hi k (evaluated e) lo s = absurd (omega (arith, s.top.kinded, k))
 
-  -- where that stands, which ends before h; the statement's node is before hi
-  unfoldable pub BodyAt : ℕ → Body → ℕ → ℕ → Type 0
-  BodyAt hi nothing lo h = (lo ≡ h) × (kids_at hi ≡ 0)
-  BodyAt hi (result e) lo h = Spans I e lo h × (kids_at hi ≡ 1) × (kind_at hi ≡ ReturnStmt)
-  BodyAt hi (alone e) lo h = Spans I e lo h × (kids_at hi ≡ 1) × (kind_at hi ≡ ExprStmt)
-
-  -- such a statement without its `;`
-  abbrev pub body_l : ℕ → Lang
-  body_l hi = record { T = Body; S = λ b lo h. BodyAt hi b lo h; P = λ b. body_bytes b }
-
   -- It ends in its `;`.
-  pub is_body : (hi : ℕ) → (kind_at hi ≡ 8 → ⊥) → Narrow (plain_l I) (seq (body_l hi) (word_l semi)) hi (hi - 1)
+  is_body : (hi : ℕ) → (kind_at I hi ≡ 8 → ⊥) → Narrow (plain_l I) (made (bodied_l hi) I) hi (hi - 1)
   unfolding SpansPlain pr_plain BodyAt body_bytes spaced
   is_body hi k (variable v) lo s = absurd (k (var-kind v lo hi s))
   is_body hi k returned lo s = record { tree = (nothing, tt); spans = record { mid = hi - 1; front = (s.below, s.top.counted); last = refl }; text = refl }
@@ -395,14 +399,14 @@ module _ (I : Inp) where
       }
 
   -- `return` alone
-  pub is-nothing : (hi h : ℕ) → kids_at hi ≡ 0 → Narrow (body_l hi) (word_l return_word) h h
+  is-nothing : (hi h : ℕ) → kids_at I hi ≡ 0 → Narrow (body_l hi I) (word_l return_word I) h h
   unfolding BodyAt body_bytes
   is-nothing hi h k nothing lo s = record { tree = tt; spans = s.0; text = refl }
   is-nothing hi h k (result e) lo s = absurd (omega (arith, s.1, k))
   is-nothing hi h k (alone e) lo s = absurd (omega (arith, s.1, k))
 
   -- an expression, and what stands before it
-  pub is-led : (hi h : ℕ) → (kids_at hi ≡ 0 → ⊥) → Narrow (body_l hi) (seq (fixed (lead (kind_at hi))) (expr_l I)) h h
+  is-led : (hi h : ℕ) → (kids_at I hi ≡ 0 → ⊥) → Narrow (body_l hi I) (made (led_l (kind_at I hi)) I) h h
   unfolding BodyAt body_bytes lead if◌then◌otherwise◌
   is-led hi h k nothing lo s = absurd (k s.1)
   is-led hi h k (result e) lo s =
@@ -411,11 +415,73 @@ module _ (I : Inp) where
       record { tree = (tt, e); spans = record { mid = lo; front = refl; last = s.0 }; text = ap (λ (i : ℕ). lead i ++ bytes_of (pr e)) (sym s.2) }
 
   -- a return's is its word
-  pub is-return : (hi h : ℕ) → kind_at hi ≡ 6 → Narrow (fixed (lead (kind_at hi))) (word_l return_word) h h
+  is-return : (hi h : ℕ) → kind_at I hi ≡ 6 → Narrow (fixed (lead (kind_at I hi)) I) (word_l return_word I) h h
   unfolding lead if◌then◌otherwise◌
   is-return hi h k u lo s = record { tree = u; spans = s; text = ap lead k }
 
   -- any other's is nothing
-  pub no_lead : (hi h : ℕ) → (kind_at hi ≡ 6 → ⊥) → (u : Unit {0}) (lo : ℕ) → lo ≡ h → (lo ≡ h) × (lead (kind_at hi) ≡ [])
+  no_lead : (hi h : ℕ) → (kind_at I hi ≡ 6 → ⊥) → (u : Unit {0}) (lo : ℕ) → lo ≡ h → (lo ≡ h) × (lead (kind_at I hi) ≡ [])
   unfolding lead if◌then◌otherwise◌
-  no_lead hi h k u lo s = (s, rw (ne_eqb (kind_at hi) 6 k) refl)
+  no_lead hi h k u lo s = (s, rw (ne_eqb (kind_at I hi) 6 k) refl)
+
+-- The node before a writer's can be read.
+pub head : (p : Writer) → Root (inp_of p) p.node → InHeads p
+head p r = record { some = r.some; in_heads = r.in_heads }
+
+-- ── what is left at first ──
+
+module _ (p : Writer) where
+  pub pair-part : Part pair_l two_l p (down p)
+  pair-part = entered pair_l two_l p (is-pair (inp_of p) p.node)
+
+  pub item-part : Part item_l (keyed_l p.node) p (down p)
+  item-part = entered item_l (keyed_l p.node) p (is-item (inp_of p) p.node)
+
+  pub table-part : {n : ℕ} → n ≡ children_of (down p) → Part table_l (tabled_l n) p (down (down p))
+  table-part {n} e = narrowed (tabled_l n) (p.node - 1 - 1) opening (is-table (inp_of p) p.node n e) (omega arith)
+
+  pub bare-part : {k : ℕ} → k ≡ children_of p → k ≡ 0 → Part array_l bare_l p (down p)
+  bare-part e z = entered array_l bare_l p (is-bare (inp_of p) p.node (sym e ∙ z))
+
+  pub array-part : {k n : ℕ} → k ≡ children_of p → (k ≡ 0 → ⊥) → n ≡ children_of (down p) → Part array_l (arrayed_l n) p (down (down p))
+  array-part {k} {n} e z f = narrowed (arrayed_l n) (p.node - 1 - 1) opening (is-array (inp_of p) p.node n (λ i. z (e ∙ i)) f) (omega arith)
+
+  pub array-value-part : {k : ℕ} → k ≡ kind_of p → k ≡ 16 → Part value_l (one array_l) p p
+  array-value-part e h = opened value_l (one array_l) p (is-array-value (inp_of p) p.node (sym e ∙ h))
+
+  pub table-value-part : {k : ℕ} → k ≡ kind_of p → k ≡ 14 → Part value_l (one table_l) p p
+  table-value-part e h = opened value_l (one table_l) p (is-table-value (inp_of p) p.node (sym e ∙ h))
+
+  pub expr-value-part : {k : ℕ} → k ≡ kind_of p → (k ≡ 16 → ⊥) → (k ≡ 14 → ⊥) → Part value_l (one expr_l) p p
+  expr-value-part e h i = opened value_l (one expr_l) p (is-expr-value (inp_of p) p.node (λ j. h (e ∙ j)) (λ j. i (e ∙ j)))
+
+  pub declared-part : Part var_l (declared_l p.node) p (down p)
+  declared-part = entered var_l (declared_l p.node) p (is-ended (inp_of p) p.node)
+
+  pub var-part : {k : ℕ} → k ≡ kind_of p → k ≡ 8 → Part plain_l (one var_l) p p
+  var-part e h = opened plain_l (one var_l) p (is-var (inp_of p) p.node (sym e ∙ h))
+
+  pub bodied-part : {k : ℕ} → k ≡ kind_of p → (k ≡ 8 → ⊥) → Part plain_l (bodied_l p.node) p (down p)
+  bodied-part e h = entered plain_l (bodied_l p.node) p (is_body (inp_of p) p.node (λ j. h (e ∙ j)))
+
+  -- ── and behind the `;` ──
+
+  module _ {L : Kind} (q : Writer) {k : ℕ} (e : k ≡ children_of p) where
+    pub unset-part : Part L (one (before_l p.node)) p q → k ≡ 0 → Part L (unset_l p.node) p q
+    unset-part t z = narrowed (unset_l p.node) q.node t (is-unset (inp_of p) p.node q.node (sym e ∙ z)) (omega arith)
+
+    pub set-part : Part L (one (before_l p.node)) p q → (k ≡ 0 → ⊥) → Part L (set_l p.node) p q
+    set-part t z = narrowed (set_l p.node) q.node t (is_set (inp_of p) p.node q.node (λ i. z (e ∙ i))) (omega arith)
+
+    pub return-part : Part L (one (body_l p.node)) p q → k ≡ 0 → Part L (one (word_l return_word)) p q
+    return-part t z = narrowed (one (word_l return_word)) q.node t (is-nothing (inp_of p) p.node q.node (sym e ∙ z)) (omega arith)
+
+    pub led-part : Part L (one (body_l p.node)) p q → (k ≡ 0 → ⊥) → Part L (led_l (kind_of p)) p q
+    led-part t z = narrowed (led_l (kind_of p)) q.node t (is-led (inp_of p) p.node q.node (λ i. z (e ∙ i))) (omega arith)
+
+  module _ {L : Kind} (q : Writer) {k : ℕ} (t : Part L (one (fixed (lead (kind_of p)))) p q) (e : k ≡ kind_of p) where
+    pub word-part : k ≡ 6 → Part L (one (word_l return_word)) p q
+    word-part h = narrowed (one (word_l return_word)) q.node t (is-return (inp_of p) p.node q.node (sym e ∙ h)) (omega arith)
+
+    pub done-part : (k ≡ 6 → ⊥) → Writes L p (Ok tt) q
+    done-part h = empty (fixed (lead (kind_of p))) t (no_lead (inp_of p) p.node q.node (λ j. h (e ∙ j)))

@@ -4,32 +4,32 @@ use Rattle.sifc_def.specs.State.{W}
 use Rattle.sifc_def.specs.Ast.{VarDecl, ReturnStmt, ExprStmt}
 use Rattle.sifc_def.specs.Typed.{Expr, Exprs, Items, pr, prs, pr_items, lb, rb, eq, comma, semi, arrow, dlb, drb, var_word, return_word}
 use Rattle.sifc_put.specs.Place.{Inp, Nothing, Over, Told}
-use Rattle.sifc_put.specs.Post.{Lang, list_l, leaf_l}
+use Rattle.sifc_put.specs.Post.{Kind, list_l, leaf_l}
 use Rattle.sifc_put.specs.Bytes.{worded, bytes_of}
 use Rattle.sifc_put.specs.Spans.{Spans, SpansItem, SpansArray, SpansTable, SpansPair}
 
 -- so many names with commas between
-abbrev pub names_l : List ℕ → List ℕ → List ℕ → List ℕ → ℕ → Lang
-names_l script offs words loads n = list_l (leaf_l script offs words loads) n
+abbrev pub names_l : ℕ → Kind
+names_l n = list_l leaf_l n
 
 -- the two names of a loop
-abbrev pub pair_l : Inp → Lang
-pair_l I = record { T = W × W; S = λ x a b. SpansPair I x.0 x.1 a b; P = λ x. worded x.0 ++ (worded comma ++ worded x.1) }
+abbrev pub pair_l : Kind
+pair_l = λ I. record { T = W × W; S = λ x a b. SpansPair I x.0 x.1 a b; P = λ x. worded x.0 ++ (worded comma ++ worded x.1) }
 
 -- an item of a table
-abbrev pub item_l : Inp → Lang
-item_l I = record { T = W × Expr; S = λ x a b. SpansItem I x.0 x.1 a b; P = λ x. worded x.0 ++ (worded arrow ++ bytes_of (pr x.1)) }
+abbrev pub item_l : Kind
+item_l = λ I. record { T = W × Expr; S = λ x a b. SpansItem I x.0 x.1 a b; P = λ x. worded x.0 ++ (worded arrow ++ bytes_of (pr x.1)) }
 
 -- so many items with commas between
-abbrev pub items_l : Inp → ℕ → Lang
-items_l I n = list_l (item_l I) n
+abbrev pub items_l : ℕ → Kind
+items_l n = list_l item_l n
 
 -- a table, an array
-abbrev pub table_l : Inp → Lang
-table_l I = record { T = Items; S = λ is a b. SpansTable I is a b; P = λ is. bytes_of (λ r. dlb ∷ pr_items is (drb ∷ r)) }
+abbrev pub table_l : Kind
+table_l = λ I. record { T = Items; S = λ is a b. SpansTable I is a b; P = λ is. bytes_of (λ r. dlb ∷ pr_items is (drb ∷ r)) }
 
-abbrev pub array_l : Inp → Lang
-array_l I = record { T = Exprs; S = λ es a b. SpansArray I es a b; P = λ es. bytes_of (λ r. lb ∷ prs es (rb ∷ r)) }
+abbrev pub array_l : Kind
+array_l = λ I. record { T = Exprs; S = λ es a b. SpansArray I es a b; P = λ es. bytes_of (λ r. lb ∷ prs es (rb ∷ r)) }
 
 -- what a variable is set to
 pub data Value : Type 0 where
@@ -47,8 +47,8 @@ SpansValue I (expression e) lo hi = Spans I e lo hi
 SpansValue I (an_array es) lo hi = SpansArray I es lo hi
 SpansValue I (a_table is) lo hi = SpansTable I is lo hi
 
-abbrev pub value_l : Inp → Lang
-value_l I = record { T = Value; S = λ v a b. SpansValue I v a b; P = λ v. bytes_of (pr_value v) }
+abbrev pub value_l : Kind
+value_l = λ I. record { T = Value; S = λ v a b. SpansValue I v a b; P = λ v. bytes_of (pr_value v) }
 
 -- the declaration of a variable
 pub data Var : Type 0 where
@@ -63,8 +63,8 @@ unfoldable pub SpansVar : Inp → Var → ℕ → ℕ → Type 0
 SpansVar I (unset x) lo hi = Told I VarDecl 0 x Nothing lo hi
 SpansVar I (set_to x v) lo hi = Told I VarDecl 1 x (λ a b. SpansValue I v a b) lo hi
 
-abbrev pub var_l : Inp → Lang
-var_l I = record { T = Var; S = λ v a b. SpansVar I v a b; P = λ v. bytes_of (pr_var v) }
+abbrev pub var_l : Kind
+var_l = λ I. record { T = Var; S = λ v a b. SpansVar I v a b; P = λ v. bytes_of (pr_var v) }
 
 -- a statement that holds no block
 pub data Plain : Type 0 where
@@ -85,5 +85,5 @@ SpansPlain I returned lo hi = Over I ReturnStmt 0 Nothing lo hi
 SpansPlain I (return_of e) lo hi = Over I ReturnStmt 1 (λ a b. Spans I e a b) lo hi
 SpansPlain I (evaluated e) lo hi = Over I ExprStmt 1 (λ a b. Spans I e a b) lo hi
 
-abbrev pub plain_l : Inp → Lang
-plain_l I = record { T = Plain; S = λ p a b. SpansPlain I p a b; P = λ p. bytes_of (pr_plain p) }
+abbrev pub plain_l : Kind
+plain_l = λ I. record { T = Plain; S = λ p a b. SpansPlain I p a b; P = λ p. bytes_of (pr_plain p) }

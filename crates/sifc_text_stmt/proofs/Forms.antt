@@ -11,16 +11,14 @@ use Rattle.sifc_def.specs.Typed.{Expr, Stmt, var_none, var_expr, var_array, var_
 use Rattle.sifc_def.proofs.Canon.Bytes.{texts, printed, items_of_all, printed-more}
 use Rattle.sifc_def.proofs.Canon.Words.{decl_words}
 use Rattle.sifc_put.specs.Place.{Inp, Carries, Along}
-use Rattle.sifc_put.specs.Post.{Lang, SpotOf, seq, row_l, cat}
+use Rattle.sifc_put.specs.Post.{kind_of, children_of, inp_of, Lang, Kind, Pieces, one, seq, made, token_l, row_l, cat, At}
 use Rattle.sifc_put.specs.Bytes.{worded, spaced, bytes_of, spaced-puts, puts-E, puts-N, puts-S, puts-Ss, puts-Bs}
 use Rattle.sifc_put.specs.Spans.{SpansNames, SpansS, SpansSs, SpansBs}
-use Rattle.sifc_put.specs.Frame.{Narrow, Low}
-use Rattle.sifc_put.specs.Rows.{along-low}
-use Rattle.sifc_text_expr.proofs.Roots.{expr-low}
-use Rattle.sifc_text_expr.proofs.Forms.{own_l, target_l}
+use Rattle.sifc_put.specs.declared.write.Writer.{Writer}
+use Rattle.sifc_put.proofs.Frame.{Narrow, Part, down, opened, entered, tested}
 use Rattle.sifc_text_plain.specs.Kinds.{names_l, pair_l, expression, an_array, a_table, pr_value, SpansValue, unset, set_to, pr_var, SpansVar, Plain, variable, returned, return_of, evaluated, pr_plain, SpansPlain, plain_l}
 use Rattle.sifc_text_stmt.specs.Kinds.{stmt_l, stmts_l, pr_block, block_l, guarded_l, Branch, elif, els, pr_branch, SpansBranch, branch_l, branches_l, line_l, program_l}
-use Rattle.sifc_text_plain.proofs.Forms.{word_l, names-bytes, kind_at, kids_at, Root, root-of, names-along, array-low, table-low, pair-low, plain-root, plain-kind}
+use Rattle.sifc_text_plain.proofs.Forms.{word_l, names-bytes, kind_at, kids_at, Root, root-of, names-along, plain-root, plain-kind}
 
 -- ── statements and branches as lists ──
 
@@ -101,6 +99,57 @@ pr_shape (branched e ss bs) = pr_s (cond e ss bs)
 pr_shape (looped x y e ss) = pr_s (loop x y e ss)
 pr_shape (named x ns ss) = pr_s (func x ns ss)
 
+-- where one stands
+unfoldable pub SpansShape : Inp → Shape → ℕ → ℕ → Type 0
+SpansShape I (flat p) lo hi = SpansPlain I p lo hi
+SpansShape I (braced ss) lo hi = SpansS I (block ss) lo hi
+SpansShape I (branched e ss bs) lo hi = SpansS I (cond e ss bs) lo hi
+SpansShape I (looped x y e ss) lo hi = SpansS I (loop x y e ss) lo hi
+SpansShape I (named x ns ss) lo hi = SpansS I (func x ns ss) lo hi
+
+-- statements of a shape
+abbrev pub shape_l : Kind
+shape_l = λ I. record { T = Shape; S = λ x lo hi. SpansShape I x lo hi; P = λ x. bytes_of (pr_shape x) }
+
+-- ── pieces ──
+
+-- n statements in braces
+abbrev pub braced_l : ℕ → Pieces
+braced_l n = seq (seq (one (word_l lbrace)) (stmts_l n)) (word_l rbrace)
+
+-- a branch with a condition, and one without
+abbrev pub elif_l : Pieces
+elif_l = seq (one (word_l elif_word)) guarded_l
+
+abbrev pub else_l : Pieces
+else_l = seq (one (word_l else_word)) block_l
+
+-- an `if` with n further branches
+abbrev pub if_l : ℕ → Pieces
+if_l n = seq (seq (one (word_l if_word)) guarded_l) (branches_l n)
+
+-- a loop: its names, what it goes over and its block
+abbrev pub for_l : Pieces
+for_l = seq (seq (seq (one (word_l for_word)) pair_l) (word_l in_word)) guarded_l
+
+-- the name and the parameters of a function, which end before h; the function's node is before hi
+abbrev pub params_l : ℕ → Kind
+params_l hi =
+    λ I.
+    record {
+      T = W × List W;
+      S = λ x lo h. Carries I.script I.offs I.words I.loads hi x.0 × SpansNames I x.1 lo h;
+      P = λ x. worded fn_word ++ (worded x.0 ++ (worded lp ++ bytes_of (pr_names x.1)));
+    }
+
+-- a function: its name and parameters, and its block
+abbrev pub fn_l : ℕ → Pieces
+fn_l hi = seq (seq (one (params_l hi)) (word_l rp)) block_l
+
+-- n parameters
+abbrev pub named_l : ℕ → ℕ → Pieces
+named_l hi n = seq (seq (seq (one (word_l fn_word)) (token_l hi)) (word_l lp)) (names_l n)
+
 module _ (I : Inp) where
   -- Statements stand in a row,
   pub stmts-along : (ts : Stmts) (lo hi : ℕ) → SpansSs I ts lo hi → Along (stmt_l I).S (stmt_list ts) lo hi
@@ -115,72 +164,8 @@ module _ (I : Inp) where
   branches-along (elif_of e ss bs) lo hi s = record { mid = s.mid; front = s.front; last = branches-along bs s.mid hi s.last }
   branches-along (else_of ss bs) lo hi s = record { mid = s.mid; front = s.front; last = branches-along bs s.mid hi s.last }
 
-  -- ── nothing ends before it begins ──
-
-  -- names in a row
-  names-low : (ns : List W) (lo hi : ℕ) → Along (target_l I).S ns lo hi → lo ≤ hi
-  names-low = along-low (target_l I) (λ x lo hi s. omega (arith, s.0))
-
-  -- a statement, statements in a row, and branches
-  mutual
-    unfolding SpansS SpansSs SpansBs
-
-    pub stmt-low : (t : Stmt) (lo hi : ℕ) → SpansS I t lo hi → lo ≤ hi
-    stmt-low (var_none x) lo hi s = omega (arith, s.below)
-    stmt-low (var_expr x e) lo hi s = omega (arith, expr-low I e lo (hi - 1) s.below)
-    stmt-low (var_array x es) lo hi s = omega (arith, array-low I es lo (hi - 1) s.below)
-    stmt-low (var_table x is) lo hi s = omega (arith, table-low I is lo (hi - 1) s.below)
-    stmt-low (func x ns ss) lo hi s =
-        omega (arith, names-low ns lo (s.below.mid - 1) (names-along I ns lo (s.below.mid - 1) s.below.front.below), stmts-low ss s.below.mid (hi - 1 - 1) s.below.last.below)
-    stmt-low (block ss) lo hi s = omega (arith, stmts-low ss lo (hi - 1) s.below)
-    stmt-low (cond e ss bs) lo hi s =
-        omega (arith, expr-low I e lo s.below.front.mid s.below.front.front, stmts-low ss s.below.front.mid (s.below.mid - 1) s.below.front.last.below, branches-low bs s.below.mid (hi - 1) s.below.last)
-    stmt-low (loop x y e ss) lo hi s =
-        omega (arith, pair-low I (x, y) lo s.below.front.mid s.below.front.front, expr-low I e s.below.front.mid s.below.mid s.below.front.last, stmts-low ss s.below.mid (hi - 1 - 1) s.below.last.below)
-    stmt-low ret lo hi s = omega (arith, s.below)
-    stmt-low (ret_expr e) lo hi s = omega (arith, expr-low I e lo (hi - 1) s.below)
-    stmt-low (expr_stmt e) lo hi s = omega (arith, expr-low I e lo (hi - 1) s.below)
-
-    stmts-low : (ts : Stmts) (lo hi : ℕ) → SpansSs I ts lo hi → lo ≤ hi
-    stmts-low stop lo hi s = omega (arith, s)
-    stmts-low (next t ts) lo hi s = omega (arith, stmt-low t lo s.mid s.front, stmts-low ts s.mid hi s.last)
-
-    branches-low : (bs : Branches) (lo hi : ℕ) → SpansBs I bs lo hi → lo ≤ hi
-    branches-low no_branch lo hi s = omega (arith, s)
-    branches-low (elif_of e ss bs) lo hi s =
-        omega (arith, expr-low I e lo s.front.below.mid s.front.below.front, stmts-low ss s.front.below.mid (s.mid - 1 - 1) s.front.below.last.below, branches-low bs s.mid hi s.last)
-    branches-low (else_of ss bs) lo hi s = omega (arith, stmts-low ss lo (s.mid - 1) s.front.below, branches-low bs s.mid hi s.last)
-
-  -- a block
-  pub block-low : Low (block_l I)
-  block-low ss lo hi s = omega (arith, stmts-low ss lo (hi - 1) s.below)
-
-  -- an expression and then a block
-  pub guarded-low : Low (guarded_l I)
-  guarded-low x lo hi s = omega (arith, expr-low I x.0 lo s.mid s.front, block-low x.1 s.mid hi s.last)
-
-  -- a branch
-  pub branch-low : Low (branch_l I)
-  unfolding SpansBranch
-  branch-low (elif e ss) lo hi s = omega (arith, guarded-low (e, ss) lo (hi - 1) s.below)
-  branch-low (els ss) lo hi s = block-low ss lo hi s
-
-  -- ── statements by their kind ──
-
-  -- where one stands
-  unfoldable pub SpansShape : Shape → ℕ → ℕ → Type 0
-  SpansShape (flat p) lo hi = SpansPlain I p lo hi
-  SpansShape (braced ss) lo hi = SpansS I (block ss) lo hi
-  SpansShape (branched e ss bs) lo hi = SpansS I (cond e ss bs) lo hi
-  SpansShape (looped x y e ss) lo hi = SpansS I (loop x y e ss) lo hi
-  SpansShape (named x ns ss) lo hi = SpansS I (func x ns ss) lo hi
-
-  -- statements of a shape
-  abbrev pub shape_l : Lang
-  shape_l = record { T = Shape; S = λ x lo hi. SpansShape x lo hi; P = λ x. bytes_of (pr_shape x) }
-
   -- Each statement has one.
-  shaped : (hi : ℕ) → Narrow (stmt_l I) shape_l hi hi
+  shaped : (hi : ℕ) → Narrow (stmt_l I) (shape_l I) hi hi
   unfolding SpansS SpansShape SpansPlain SpansVar SpansValue pr_s pr_shape pr_plain pr_var pr_value
   shaped hi (var_none x) lo s = record { tree = flat (variable (unset x)); spans = s; text = refl }
   shaped hi (var_expr x e) lo s = record { tree = flat (variable (set_to x (expression e))); spans = s; text = refl }
@@ -195,7 +180,7 @@ module _ (I : Inp) where
   shaped hi (expr_stmt e) lo s = record { tree = flat (evaluated e); spans = s; text = refl }
 
   -- A statement is known as one of a kind if its shape is.
-  by_shape : {N : Lang} (hi h : ℕ) → Narrow shape_l N hi h → Narrow (stmt_l I) N hi h
+  by_shape : {N : Lang} (hi h : ℕ) → Narrow (shape_l I) N hi h → Narrow (stmt_l I) N hi h
   by_shape hi h f t lo s =
       let a = shaped hi t lo s in
       let b = f a.tree lo a.spans in
@@ -206,7 +191,7 @@ module _ (I : Inp) where
   unfolding SpansShape SpansS
   stmt-root t lo hi s = go (shaped hi t lo s).tree (shaped hi t lo s).spans
     where
-      go : (x : Shape) → SpansShape x lo hi → Root I hi
+      go : (x : Shape) → SpansShape I x lo hi → Root I hi
       go (flat p) z = plain-root I p lo hi z
       go (braced ss) z = root-of I z.top
       go (branched e ss bs) z = root-of I z.top
@@ -222,11 +207,11 @@ module _ (I : Inp) where
   -- ── blocks ──
 
   -- a statement that is a block
-  pub is_block : (hi : ℕ) → kind_at I hi ≡ 2 → Narrow (stmt_l I) (block_l I) hi hi
+  is_block : (hi : ℕ) → kind_at I hi ≡ 2 → Narrow (stmt_l I) (block_l I) hi hi
   unfolding SpansShape pr_shape SpansS pr_s
   is_block hi k = by_shape hi hi go
     where
-      go : Narrow shape_l (block_l I) hi hi
+      go : Narrow (shape_l I) (block_l I) hi hi
       go (flat p) lo s = absurd (omega (arith, (plain-kind I p lo hi s).0, k))
       go (braced ss) lo s = record { tree = ss; spans = s; text = refl }
       go (branched e ss bs) lo s = absurd (omega (arith, s.top.kinded, k))
@@ -234,7 +219,7 @@ module _ (I : Inp) where
       go (named x ns ss) lo s = absurd (omega (arith, s.top.kinded, k))
 
   -- a block, by the count of its statements
-  pub is-braced : (hi n : ℕ) → n ≡ kids_at I hi → Narrow (block_l I) (seq (seq (word_l lbrace) (stmts_l I n)) (word_l rbrace)) hi (hi - 1)
+  is-braced : (hi n : ℕ) → n ≡ kids_at I hi → Narrow (block_l I) (made (braced_l n) I) hi (hi - 1)
   unfolding spaced
   is-braced hi n k ss lo s =
       record {
@@ -244,11 +229,11 @@ module _ (I : Inp) where
       }
 
   -- a statement that is none of the four with blocks
-  pub is_plain : (hi : ℕ) → (kind_at I hi ≡ 2 → ⊥) → (kind_at I hi ≡ 3 → ⊥) → (kind_at I hi ≡ 5 → ⊥) → (kind_at I hi ≡ 9 → ⊥) → Narrow (stmt_l I) (plain_l I) hi hi
+  is_plain : (hi : ℕ) → (kind_at I hi ≡ 2 → ⊥) → (kind_at I hi ≡ 3 → ⊥) → (kind_at I hi ≡ 5 → ⊥) → (kind_at I hi ≡ 9 → ⊥) → Narrow (stmt_l I) (plain_l I) hi hi
   unfolding SpansShape pr_shape SpansS pr_s
   is_plain hi a b c d = by_shape hi hi go
     where
-      go : Narrow shape_l (plain_l I) hi hi
+      go : Narrow (shape_l I) (plain_l I) hi hi
       go (flat p) lo s = record { tree = p; spans = s; text = refl }
       go (braced ss) lo s = absurd (a s.top.kinded)
       go (branched e ss bs) lo s = absurd (b s.top.kinded)
@@ -258,7 +243,7 @@ module _ (I : Inp) where
   -- ── branches ──
 
   -- a branch with a condition
-  pub is-elif : (hi : ℕ) → kind_at I hi ≡ 4 → Narrow (branch_l I) (seq (word_l elif_word) (guarded_l I)) hi (hi - 1)
+  is-elif : (hi : ℕ) → kind_at I hi ≡ 4 → Narrow (branch_l I) (made elif_l I) hi (hi - 1)
   unfolding SpansBranch pr_branch spaced
   is-elif hi k (elif e ss) lo s =
       record {
@@ -269,17 +254,17 @@ module _ (I : Inp) where
   is-elif hi k (els ss) lo s = absurd (omega (arith, s.top.kinded, k))
 
   -- one without
-  pub is-else : (hi : ℕ) → (kind_at I hi ≡ 4 → ⊥) → Narrow (branch_l I) (seq (word_l else_word) (block_l I)) hi hi
+  is-else : (hi : ℕ) → (kind_at I hi ≡ 4 → ⊥) → Narrow (branch_l I) (made else_l I) hi hi
   unfolding SpansBranch pr_branch spaced
   is-else hi k (elif e ss) lo s = absurd (k s.top.kinded)
   is-else hi k (els ss) lo s = record { tree = (tt, ss); spans = record { mid = lo; front = refl; last = s }; text = refl }
 
   -- an `if`, by the count of its further branches
-  pub is-if : (hi n : ℕ) → kind_at I hi ≡ 3 → n + 2 ≡ kids_at I hi → Narrow (stmt_l I) (seq (seq (word_l if_word) (guarded_l I)) (branches_l I n)) hi (hi - 1)
+  is-if : (hi n : ℕ) → kind_at I hi ≡ 3 → n + 2 ≡ kids_at I hi → Narrow (stmt_l I) (made (if_l n) I) hi (hi - 1)
   unfolding SpansShape pr_shape SpansS pr_s spaced
   is-if hi n k j = by_shape hi (hi - 1) go
     where
-      go : Narrow shape_l (seq (seq (word_l if_word) (guarded_l I)) (branches_l I n)) hi (hi - 1)
+      go : Narrow (shape_l I) (made (if_l n) I) hi (hi - 1)
       go (flat p) lo s = absurd (omega (arith, (plain-kind I p lo hi s).0, k))
       go (braced ss) lo s = absurd (omega (arith, s.top.kinded, k))
       go (branched e ss bs) lo s =
@@ -300,7 +285,7 @@ module _ (I : Inp) where
   unfolding SpansShape SpansS
   two-kids t lo hi s k = go (shaped hi t lo s).tree (shaped hi t lo s).spans
     where
-      go : (x : Shape) → SpansShape x lo hi → 2 ≤ kids_at I hi
+      go : (x : Shape) → SpansShape I x lo hi → 2 ≤ kids_at I hi
       go (flat p) z = absurd (omega (arith, (plain-kind I p lo hi z).0, k))
       go (braced ss) z = absurd (omega (arith, z.top.kinded, k))
       go (branched e ss bs) z = omega (arith, z.top.counted)
@@ -310,11 +295,11 @@ module _ (I : Inp) where
   -- ── loops ──
 
   -- a loop: its names, what it goes over and its block
-  pub is-for : (hi : ℕ) → kind_at I hi ≡ 5 → Narrow (stmt_l I) (seq (seq (seq (word_l for_word) (pair_l I)) (word_l in_word)) (guarded_l I)) hi (hi - 1)
+  is-for : (hi : ℕ) → kind_at I hi ≡ 5 → Narrow (stmt_l I) (made for_l I) hi (hi - 1)
   unfolding SpansShape pr_shape SpansS pr_s spaced
   is-for hi k = by_shape hi (hi - 1) go
     where
-      go : Narrow shape_l (seq (seq (seq (word_l for_word) (pair_l I)) (word_l in_word)) (guarded_l I)) hi (hi - 1)
+      go : Narrow (shape_l I) (made for_l I) hi (hi - 1)
       go (flat p) lo s = absurd (omega (arith, (plain-kind I p lo hi s).0, k))
       go (braced ss) lo s = absurd (omega (arith, s.top.kinded, k))
       go (branched e ss bs) lo s = absurd (omega (arith, s.top.kinded, k))
@@ -335,21 +320,12 @@ module _ (I : Inp) where
 
   -- ── functions ──
 
-  -- the name and the parameters, which end before h; the function's node is before hi
-  abbrev pub params_l : ℕ → Lang
-  params_l hi =
-      record {
-        T = W × List W;
-        S = λ x lo h. Carries I.script I.offs I.words I.loads hi x.0 × SpansNames I x.1 lo h;
-        P = λ x. worded fn_word ++ (worded x.0 ++ (worded lp ++ bytes_of (pr_names x.1)));
-      }
-
   -- a function: its name and parameters, and its block
-  pub is-fn : (hi : ℕ) → kind_at I hi ≡ 9 → Narrow (stmt_l I) (seq (seq (params_l hi) (word_l rp)) (block_l I)) hi (hi - 1)
+  is-fn : (hi : ℕ) → kind_at I hi ≡ 9 → Narrow (stmt_l I) (made (fn_l hi) I) hi (hi - 1)
   unfolding SpansShape pr_shape SpansS pr_s spaced
   is-fn hi k = by_shape hi (hi - 1) go
     where
-      go : Narrow shape_l (seq (seq (params_l hi) (word_l rp)) (block_l I)) hi (hi - 1)
+      go : Narrow (shape_l I) (made (fn_l hi) I) hi (hi - 1)
       go (flat p) lo s = absurd (omega (arith, (plain-kind I p lo hi s).1, k))
       go (braced ss) lo s = absurd (omega (arith, s.top.kinded, k))
       go (branched e ss bs) lo s = absurd (omega (arith, s.top.kinded, k))
@@ -362,8 +338,8 @@ module _ (I : Inp) where
           }
 
   -- the parameters, by their count
-  pub is-params : (hi h n : ℕ) → n ≡ kids_at I h
-      → Narrow (params_l hi) (seq (seq (seq (word_l fn_word) (own_l I hi)) (word_l lp)) (names_l I.script I.offs I.words I.loads n)) h (h - 1)
+  is-params : (hi h n : ℕ) → n ≡ kids_at I h
+      → Narrow (params_l hi I) (made (named_l hi n) I) h (h - 1)
   is-params hi h n k x lo s =
       record {
         tree = (((tt, x.0), tt), x.1);
@@ -380,10 +356,44 @@ module _ (I : Inp) where
   -- ── programs ──
 
   -- a program, by the count of its declarations
-  pub is-program : (hi n : ℕ) → n ≡ kids_at I hi → Narrow (program_l I) (row_l (line_l I) n) hi (hi - 1)
+  is-program : (hi n : ℕ) → n ≡ kids_at I hi → Narrow (program_l I) (row_l line_l n I) hi (hi - 1)
   is-program hi n k ts lo s =
       record { tree = stmt_list ts; spans = (stmts-along ts lo (hi - 1) s.below, stmts-count ts ∙ sym s.top.counted ∙ sym k); text = lines-bytes ts }
 
-  -- Where a line is to be written, a statement stands.
-  pub line-spot : {text : List ℕ} {hi at : ℕ} → SpotOf (line_l I) text hi at → SpotOf (stmt_l I) text hi at
-  line-spot z = record { tree = z.tree; lo = z.lo; spans = z.spans; room = z.room }
+-- Where a line is to be written, a statement stands.
+pub line-spot : (p : Writer) → At line_l p → At stmt_l p
+line-spot p z = record { tree = z.tree; lo = z.lo; spans = z.spans; room = z.room }
+
+-- ── what is left at first ──
+
+module _ (p : Writer) where
+  pub block-part : {k : ℕ} → k ≡ kind_of p → k ≡ 2 → Part stmt_l (one block_l) p p
+  block-part e h = opened stmt_l (one block_l) p (is_block (inp_of p) p.node (sym e ∙ h))
+
+  pub braced-part : {n : ℕ} → n ≡ children_of p → Part block_l (braced_l n) p (down p)
+  braced-part {n} e = entered block_l (braced_l n) p (is-braced (inp_of p) p.node n e)
+
+  pub plain-part : {k : ℕ} → k ≡ kind_of p → (k ≡ 2 → ⊥) → (k ≡ 3 → ⊥) → (k ≡ 5 → ⊥) → (k ≡ 9 → ⊥) → Part stmt_l (one plain_l) p p
+  plain-part e a b c d = opened stmt_l (one plain_l) p (is_plain (inp_of p) p.node (λ j. a (e ∙ j)) (λ j. b (e ∙ j)) (λ j. c (e ∙ j)) (λ j. d (e ∙ j)))
+
+  pub elif-part : {k : ℕ} → k ≡ kind_of p → k ≡ 4 → Part branch_l elif_l p (down p)
+  elif-part e h = entered branch_l elif_l p (is-elif (inp_of p) p.node (sym e ∙ h))
+
+  pub else-part : {k : ℕ} → k ≡ kind_of p → (k ≡ 4 → ⊥) → Part branch_l else_l p p
+  else-part e h = opened branch_l else_l p (is-else (inp_of p) p.node (λ j. h (e ∙ j)))
+
+  pub if-part : {n : ℕ} → At stmt_l p → kind_of p ≡ 3 → n ≡ children_of p → Part stmt_l (if_l (n - 2)) p (down p)
+  if-part {n} z h e = entered stmt_l (if_l (n - 2)) p (is-if (inp_of p) p.node (n - 2) h (omega (arith, e, two-kids (inp_of p) z.tree z.lo p.node z.spans h)))
+
+  pub for-part : kind_of p ≡ 5 → Part stmt_l for_l p (down p)
+  for-part h = entered stmt_l for_l p (is-for (inp_of p) p.node h)
+
+  pub fn-part : kind_of p ≡ 9 → Part stmt_l (fn_l p.node) p (down p)
+  fn-part h = entered stmt_l (fn_l p.node) p (is-fn (inp_of p) p.node h)
+
+  pub lines-part : {n : ℕ} → n ≡ children_of p → Part program_l (one (row_l line_l n)) p (down p)
+  lines-part {n} e = entered program_l (one (row_l line_l n)) p (is-program (inp_of p) p.node n e)
+
+-- The parameters of a function are left.
+pub named-part : {L : Kind} {p : Writer} (hi : ℕ) (q : Writer) {n : ℕ} → Part L (one (params_l hi)) p q → n ≡ children_of q → Part L (named_l hi n) p (down q)
+named-part hi q {n} t e = tested (named_l hi n) (q.node - 1) t (is-params (inp_of q) hi q.node n e) (omega arith)

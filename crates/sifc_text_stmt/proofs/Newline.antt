@@ -1,20 +1,20 @@
 -- A newline for the last space of a declaration that is written.
-use Prim.Native.Nat.{ℕ, ◌+◌, ◌-◌, ◌≤◌, ◌<◌}
+use Prim.Native.Nat.{ℕ, ◌-◌, ◌≤◌, ◌<◌}
 use native.Mathlib.Omega.{arith}
 use mathlib.Core.Path.{◌≡◌, refl, sym, ap, ◌∙◌, subst}
 use mathlib.Core.List.{List, [], ◌∷◌, ◌++◌, append_assoc, append-nil}
-use lib.ListN.{length, take, drop, set, length-append}
+use lib.ListN.{length, take, drop, set, length-append, length-set}
 use lib.Seq.{set_at, length-take-le}
 use Rattle.sifc_def.specs.State.{W}
 use Rattle.sifc_def.specs.Text.{line}
 use Rattle.sifc_def.specs.Typed.{Stmt, var_none, var_expr, var_array, var_table, func, block, cond, loop, ret, ret_expr, expr_stmt, semi, pr_s}
 use Rattle.sifc_def.proofs.Canon.Bytes.{texts}
-use Rattle.sifc_put.specs.declared.write.Put.{Put}
-use Rattle.sifc_put.specs.declared.write.Put.TheVariants.{Done, Full}
-use Rattle.sifc_put.specs.Place.{Inp}
-use Rattle.sifc_put.specs.Post.{Placed, Wrote, SpotOf, WritesOf}
+use Rattle.std.specs.Prelude.{Result, Ok, Err, IsErr}
+use borrow.Author.Tests.{clash}
+use Rattle.sifc_put.specs.declared.write.Full.{Full}
+use Rattle.sifc_put.specs.declared.write.Writer.{Writer}
+use Rattle.sifc_put.specs.Post.{Placed, At, Writes}
 use Rattle.sifc_put.specs.Bytes.{worded, spaced, bytes_of, puts-E}
-use Rattle.sifc_put.specs.Steps.{gone, full}
 use Rattle.sifc_text_stmt.specs.Kinds.{stmt_l, line_l}
 
 -- Words with a space after each, and on a line: the same up to the last byte.
@@ -80,32 +80,34 @@ relined u {text} {t} {lo} {at} {n} {a} room p =
           ∙ ap (λ (q : List ℕ). take a text ++ q) (sym (append_assoc u (10 ∷ []) (drop at text)));
     }
 
-module _ (I : Inp) {text t : List ℕ} {hi at : ℕ} {r : Put} (q : WritesOf (stmt_l I) text hi at r t) where
-  -- A statement that has no room has none on a line.
-  pub line-stop : r ≡ Full → WritesOf (line_l I) text hi at r t
-  line-stop e =
-      record {
-        does = λ s lo z.
-            let w = ended-stmt s in
-            let h : at < length (bytes_of (pr_s s)) = full (q.does s lo z) e in
-            let l : length (bytes_of (pr_s s)) ≡ length (line (texts (pr_s s []))) =
-            ap length w.spaces ∙ length-append w.front (32 ∷ []) ∙ sym (length-append w.front (10 ∷ [])) ∙ sym (ap length w.lined) in
-            subst (λ (x : Put). Wrote (line (texts (pr_s s []))) text lo at x t) (sym e) (record { by = omega arith });
-      }
+-- A statement that has no room has none on a line.
+pub line-stop : {p q : Writer} {r : Result Unit Full} {f : Full} → Writes stmt_l p (Err f) q → IsErr r → Writes line_l p r q
+line-stop {r = Ok u} w e = absurd (clash e)
+line-stop {p} {q} {r = Err g} w e =
+    record {
+      goes = w.goes;
+      does = λ s lo z.
+          let d = ended-stmt s in
+          let h : p.at < length (bytes_of (pr_s s)) = (w.does s lo z).by in
+          let l : length (bytes_of (pr_s s)) ≡ length (line (texts (pr_s s []))) =
+          ap length d.spaces ∙ length-append d.front (32 ∷ []) ∙ sym (length-append d.front (10 ∷ [])) ∙ sym (ap length d.lined) in
+          record { by = omega arith };
+    }
 
-  -- One that is written, with a newline for its last space, is a line.
-  pub line-done : {h a : ℕ} → at ≤ length text → r ≡ Done h a → WritesOf (line_l I) text hi at (Done h a) (set t (at - 1) 10)
-  line-done {h} {a} room e =
-      record {
-        does = λ s lo z.
-            let w = ended-stmt s in
-            let p = subst (λ (b : List ℕ). Placed b text lo at h a t) w.spaces (gone (q.does s lo z) e) in
-            record { by = subst (λ (b : List ℕ). Placed b text lo at h a (set t (at - 1) 10)) (sym w.lined) (relined w.front room p) };
-      }
+-- One that is written, with a newline for its last space, is a line.
+pub line-done : {p q : Writer} {u : Unit} → p.at ≤ length p.text.now → Writes stmt_l p (Ok u) q → Writes line_l p (Ok tt) (record q { text = record (q.text) { now = set q.text.now (p.at - 1) 10 } })
+line-done {p} {q} room w =
+    record {
+      goes = record { tree = w.goes.tree; buffer = w.goes.buffer; long = length-set q.text.now (p.at - 1) 10 ∙ w.goes.long; node = w.goes.node; at = w.goes.at };
+      does = λ s lo z.
+          let d = ended-stmt s in
+          let l = subst (λ (b : List ℕ). Placed b p.text.now lo p.at q.node q.at q.text.now) d.spaces (w.does s lo z).by in
+          record { by = subst (λ (b : List ℕ). Placed b p.text.now lo p.at q.node q.at (set q.text.now (p.at - 1) 10)) (sym d.lined) (relined d.front room l) };
+    }
 
-  -- There is a byte before its end.
-  pub line-room : {h a : ℕ} → SpotOf (stmt_l I) text hi at → r ≡ Done h a → 0 < at
-  line-room z e =
-      let w = ended-stmt z.tree in
-      let l = ap length w.spaces ∙ length-append w.front (32 ∷ []) in
-      omega (arith, (gone (q.does z.tree z.lo z.spans) e).room)
+-- There is a byte before its end.
+pub line-room : {p q : Writer} {u : Unit} → At stmt_l p → Writes stmt_l p (Ok u) q → 0 < p.at
+line-room z w =
+    let d = ended-stmt z.tree in
+    let l = ap length d.spaces ∙ length-append d.front (32 ∷ []) in
+    omega (arith, (w.does z.tree z.lo z.spans).by.room)

@@ -1,32 +1,32 @@
 -- The greatest byte of a script, byte by byte; a script whose greatest byte is below 128 is one run of such bytes.
-use Prim.Native.Nat.{ℕ, suc, ◌+◌, ◌≤◌, ◌<◌}
-use mathlib.Core.Path.{◌≡◌, refl, sym, ap, ◌∙◌}
+use Prim.Native.Nat.{ℕ, suc, ◌+◌, ◌≤◌, ◌<◌, max}
+use mathlib.Core.Path.{◌≡◌, refl, ap, ◌∙◌}
 use mathlib.Core.List.{List, [], ◌∷◌}
 use mathlib.Core.Bool.{Bool, true, false}
 use native.Mathlib.Omega.{arith}
 use native.Mathlib.Numerals.{add-one}
-use borrow.Author.Tests.{lt-ltb, le-ltb, ltb-true, ltb-false}
+use borrow.Author.Tests.{lt-ltb, ltb-true, ltb-false}
 use lib.Dec.{ltb}
 use lib.ListN.{length, drop, get_or, drop_of_length-le}
 use lib.Seq.{drop-cons}
 use Rattle.sifc_word.specs.Base.{if◌then◌otherwise◌, span}
-use Rattle.sifc_word.specs.BaseLaws.{span-yes}
+use Rattle.sifc_word.specs.BaseLaws.{span-yes, span-no}
 use Rattle.sifc_lex.specs.Lex.{ascii}
-use Rattle.sifc_lex.specs.Class.{greatest_from}
+use Rattle.sifc_lex.specs.Bytes.{greatest_from}
 
-module _ (s : List ℕ) (i m m' : ℕ) where
-  -- one byte further
-  one : i < length s → (if ltb m (get_or s i 0) then get_or s i 0 otherwise m) ≡ m' → greatest_from m' (drop (i + 1) s) ≡ greatest_from m (drop i s)
-  unfolding greatest_from
-  one h e = rw (drop-cons s i 0 h, add-one) (ap (λ (k : ℕ). greatest_from k (drop (suc i) s)) (sym e))
+-- the greater of two, as a choice
+greater : (m b : ℕ) → max m b ≡ (if ltb m b then b otherwise m)
+unfolding if◌then◌otherwise◌
+greater m b = go (ltb m b) refl
+  where
+    go : (t : Bool) → ltb m b ≡ t → max m b ≡ (if t then b otherwise m)
+    go true e = let z = ltb-true m b e in omega arith
+    go false e = let z = ltb-false m b e in omega arith
 
-  pub more : i < length s → m < get_or s i 0 → m' ≡ get_or s i 0 → greatest_from m' (drop (i + 1) s) ≡ greatest_from m (drop i s)
-  unfolding if◌then◌otherwise◌
-  more h l e = one h (rw (lt-ltb m (get_or s i 0) l) (sym e))
-
-  pub no_more : i < length s → get_or s i 0 ≤ m → m' ≡ m → greatest_from m' (drop (i + 1) s) ≡ greatest_from m (drop i s)
-  unfolding if◌then◌otherwise◌
-  no_more h l e = one h (rw (le-ltb m (get_or s i 0) l) (sym e))
+-- one byte further
+pub one : (s : List ℕ) (i m m' : ℕ) → i < length s → m' ≡ max m (get_or s i 0) → greatest_from m' (drop (i + 1) s) ≡ greatest_from m (drop i s)
+unfolding greatest_from
+one s i m m' h e = rw (drop-cons s i 0 h, add-one) (ap (λ (k : ℕ). greatest_from k (drop (suc i) s)) (e ∙ greater m (get_or s i 0)))
 
 -- at the end
 pub at-end : (s : List ℕ) (i m : ℕ) → length s ≤ i → greatest_from m (drop i s) ≡ m
@@ -54,3 +54,14 @@ all_ascii m (b ∷ bs) h =
     let l = larger m b in
     let f = from_le (if ltb m b then b otherwise m) bs in
     span-yes ascii b bs (lt-ltb b 128 (omega (arith, f, l.1, h))) ∙ ap suc (all_ascii (if ltb m b then b otherwise m) bs h)
+
+-- and one whose greatest byte isn't has a byte that ends the run
+pub not_ascii : (m : ℕ) (s : List ℕ) → m < 128 → 128 ≤ greatest_from m s → span ascii s < length s
+unfolding greatest_from span ascii if◌then◌otherwise◌
+not_ascii m [] h k = omega arith
+not_ascii m (b ∷ bs) h k = go (ltb b 128) (ltb m b) refl k (λ n. not_ascii n bs)
+  where
+    go : (t q : Bool) → ltb b 128 ≡ t → 128 ≤ greatest_from (if q then b otherwise m) bs → ((n : ℕ) → n < 128 → 128 ≤ greatest_from n bs → span ascii bs < length bs) → span ascii (b ∷ bs) < length (b ∷ bs)
+    go false q e l f = rw (span-no ascii b bs e) (omega arith)
+    go true true e l f = let z = f b (ltb-true b 128 e) l in rw (span-yes ascii b bs e) (omega arith)
+    go true false e l f = let z = f m h l in rw (span-yes ascii b bs e) (omega arith)

@@ -11,10 +11,11 @@ use Rattle.sifc_err.specs.declared.Ending.{Ending}
 use Rattle.sifc_err.specs.declared.Ending.TheVariants.{TrueEnd, UnknownChar, UnterminatedString, Panic}
 use Rattle.sifc_lex.specs.declared.lex.Step.{Step}
 use Rattle.sifc_lex.specs.declared.lex.Step.TheVariants.{Skip, Word, Stop}
-use Rattle.sifc_lex.specs.declared.lex.LexAnswer.TheVariants.{Ended, Full}
+use Rattle.std.specs.Prelude.{Ok, Err}
+use Rattle.sifc_err.specs.declared.Refusal.TheVariants.{TokensFull}
 use Rattle.sifc_lex.specs.Lex.{token, Lexed, before, ended, end_kind, end_len, on_step, step, lexed, lex, ending, end_at}
 use Rattle.sifc_lex.proofs.LexLaws.{Fair, fair-step, lex_at, lex_at-turn}
-use Rattle.sifc_tokens.specs.Tokens.{offs_of, words_of}
+use Rattle.sifc_tokens.specs.Tokens.{offs_of, words_of, ended_with}
 use Rattle.sifc_tokens.specs.Loaded.{Loaded}
 
 -- n tokens are in the arrays, and the script is lexed up to at
@@ -125,15 +126,15 @@ module _ (s offs₀ words₀ offs words : List ℕ) (at n : ℕ) (l : Loading s 
       let c = length-map (lex s) (λ (x : Token). x.off) in
       omega arith
 
-  pub full-word : (w k : ℕ) → step (drop at s) ≡ Word w k → length offs ≤ n → Loaded s offs₀ words₀ Full offs words
-  full-word w k e h = record { long-offs = l.long-offs; long-words = l.long-words; by = full _ _ (ap (λ (x : Lexed). x.toks) (word-turn s at w k e)) h }
+  pub full-word : (w k : ℕ) → step (drop at s) ≡ Word w k → length offs ≤ n → Loaded s offs₀ words₀ (Err TokensFull) offs words
+  full-word w k e h = record { long-offs = l.long-offs; long-words = l.long-words; by = (refl, full _ _ (ap (λ (x : Lexed). x.toks) (word-turn s at w k e)) h) }
 
-  pub full-stop : (k : ℕ) (w : Ending) → step (drop at s) ≡ Stop k w → length offs ≤ n → Loaded s offs₀ words₀ Full offs words
+  pub full-stop : (k : ℕ) (w : Ending) → step (drop at s) ≡ Stop k w → length offs ≤ n → Loaded s offs₀ words₀ (Err TokensFull) offs words
   unfolding ended
-  full-stop k w e h = record { long-offs = l.long-offs; long-words = l.long-words; by = full _ _ (ap (λ (x : Lexed). x.toks) (stop-turn s at k w e)) h }
+  full-stop k w e h = record { long-offs = l.long-offs; long-words = l.long-words; by = (refl, full _ _ (ap (λ (x : Lexed). x.toks) (stop-turn s at k w e)) h) }
 
   pub loading-stop : (k kind : ℕ) (w : Ending) → step (drop at s) ≡ Stop k w → n < length offs → kind ≡ end_kind w
-      → (offs' words' : List ℕ) → offs' ≡ set offs n (at + k) → words' ≡ set words n (kind + 64 * 0) → Loaded s offs₀ words₀ (Ended (n + 1) w (at + k)) offs' words'
+      → (offs' words' : List ℕ) → offs' ≡ set offs n (at + k) → words' ≡ set words n (kind + 64 * 0) → Loaded s offs₀ words₀ (Ok (ended_with (n + 1) w (at + k))) offs' words'
   unfolding offs_of words_of ended end_len
   loading-stop k kind w e h ek offs' words' eo ew =
       let t = stop-turn s at k w e in

@@ -1,8 +1,9 @@
 -- What the loop over the turns leaves: the tokens in the front of the two arrays, or that they are too short.
-use Rattle.std.specs.Prelude.{ℕ, ◌-◌, ◌≤◌, ◌<◌, ◌≡◌, List, ◌++◌, length, take, drop, replicate}
+use Rattle.std.specs.Prelude.{ℕ, Result, Ok, Err, ◌-◌, ◌≤◌, ◌<◌, ◌≡◌, List, ◌++◌, length, take, drop, replicate}
 use Rattle.sifc_err.specs.declared.Ending.{Ending}
-use Rattle.sifc_lex.specs.declared.lex.LexAnswer.{LexAnswer}
-use Rattle.sifc_lex.specs.declared.lex.LexAnswer.TheVariants.{Ended, Full}
+use Rattle.sifc_err.specs.declared.Refusal.{Refusal}
+use Rattle.sifc_err.specs.declared.Refusal.TheVariants.{TokensFull}
+use Rattle.sifc_lex.specs.declared.lex.Ended.{Ended}
 use Rattle.sifc_lex.specs.Lex.{lex, ending, end_at}
 use Rattle.sifc_tokens.specs.Tokens.{offs_of, words_of}
 
@@ -13,19 +14,19 @@ pub record Held (s : List ℕ) (n : ℕ) (e : Ending) (at : ℕ) (offs words : L
   pub at-offs : take n offs ≡ offs_of (lex s)
   pub at_words : take n words ≡ words_of (lex s)
 
-abbrev pub LoadedBy : List ℕ → LexAnswer → List ℕ → List ℕ → Type 0
-LoadedBy s (Ended n e at) offs words = Held s n e at offs words
-LoadedBy s Full offs words = length offs < length (lex s)
+abbrev pub LoadedBy : List ℕ → Result Ended Refusal → List ℕ → List ℕ → Type 0
+LoadedBy s (Ok e) offs words = Held s e.count e.ending e.at offs words
+LoadedBy s (Err r) offs words = (r ≡ TokensFull) × (length offs < length (lex s))
 
-pub record Loaded (s offs words : List ℕ) (r : LexAnswer) (offs' words' : List ℕ) : Type 0 where
+pub record Loaded (s offs words : List ℕ) (r : Result Ended Refusal) (offs' words' : List ℕ) : Type 0 where
   pub long-offs : length offs' ≡ length offs
   pub long-words : length words' ≡ length words
   pub by : LoadedBy s r offs' words'
 
 -- how many elements of the arrays an answer uses
-abbrev pub used_by : LexAnswer → ℕ
-used_by (Ended n e at) = n
-used_by Full = 0
+abbrev pub used_by : Result Ended Refusal → ℕ
+used_by (Ok e) = e.count
+used_by (Err r) = 0
 
 -- an array of which n elements are used: those past them are 0
 pub record Used (n : ℕ) (a : List ℕ) : Type 0 where

@@ -1,17 +1,12 @@
 -- Document 01, "What is lent" and "Where a call says no": the answer of the tokens call and what it leaves in the two lent arrays.
-use Rattle.std.specs.Prelude.{ℕ, ◌+◌, ◌-◌, ◌*◌, List, ◌++◌, map, not, eqb, ltb, length, replicate}
+use Rattle.std.specs.Prelude.{ℕ, ⊤, Result, Ok, Err, ◌+◌, ◌-◌, ◌*◌, List, ◌++◌, map, not, eqb, ltb, length, replicate}
 use Rattle.sifc_err.specs.declared.Token.{Token}
 use Rattle.sifc_err.specs.declared.Ending.{Ending}
 use Rattle.sifc_err.specs.declared.Ending.TheVariants.{TrueEnd, UnknownChar, UnterminatedString, Panic}
 use Rattle.sifc_err.specs.Refusal.{number_of, kind_of, offset_of}
-use Rattle.sifc_lex.specs.declared.lex.LexAnswer.{LexAnswer}
-use Rattle.sifc_lex.specs.declared.lex.LexAnswer.TheVariants.{Ended, Full}
-use Rattle.sifc_err.specs.declared.Refusal.TheVariants.{LongScript, NotAscii}
-use Rattle.sifc_tokens.specs.declared.call.Checked.{Checked}
-use Rattle.sifc_tokens.specs.declared.call.Checked.TheVariants.{Fine}
-use Rattle.sifc_tokens.specs.declared.call.Checked.TheVariants as check
-use Rattle.sifc_tokens.specs.declared.call.TokensAnswer.{TokensAnswer}
-use Rattle.sifc_tokens.specs.declared.call.TokensAnswer.TheVariants.{Count, Refused}
+use Rattle.sifc_lex.specs.declared.lex.Ended.{Ended}
+use Rattle.sifc_err.specs.declared.Refusal.{Refusal}
+use Rattle.sifc_err.specs.declared.Refusal.TheVariants.{LongScript, NotAscii, TokensFull}
 use Rattle.sifc_word.specs.Base.{if◌then◌otherwise◌, span}
 use Rattle.sifc_lex.specs.Lex.{ascii, lex, ending, end_at}
 
@@ -33,28 +28,38 @@ padded used n = used ++ replicate (n - length used) 0
 unfoldable pub zeroed : List ℕ → List ℕ
 zeroed a = replicate (length a) 0
 
--- Lexing into two arrays of one length, of a script that the entry tests let pass: Full where the tokens are more than the arrays hold.
+-- Lexing into two arrays of one length, of a script that the entry tests let pass: 4 TokensFull where the tokens are more than the arrays hold.
 pub record LexCall : Type 0 where
-  pub answer : LexAnswer
+  pub answer : Result Ended Refusal
   pub offs : List ℕ
   pub words : List ℕ
 
-abbrev pub lex_called : LexAnswer → List ℕ → List ℕ → LexCall
+abbrev pub lex_called : Result Ended Refusal → List ℕ → List ℕ → LexCall
 lex_called a offs words = record { answer = a; offs = offs; words = words }
+
+abbrev pub ended_with : ℕ → Ending → ℕ → Ended
+ended_with n e o = record { count = n; ending = e; at = o }
 
 unfoldable pub lex_call : List ℕ → List ℕ → List ℕ → LexCall
 unfolding if◌then◌otherwise◌ lex ending end_at offs_of words_of padded zeroed
 lex_call script offs words =
-    if ltb (length offs) (length (lex script)) then lex_called Full (zeroed offs) (zeroed words)
-    otherwise lex_called (Ended (length (lex script)) (ending script) (end_at script)) (padded (offs_of (lex script)) (length offs)) (padded (words_of (lex script)) (length words))
+    if ltb (length offs) (length (lex script)) then lex_called (Err TokensFull) (zeroed offs) (zeroed words)
+    otherwise lex_called (Ok (ended_with (length (lex script)) (ending script) (end_at script))) (padded (offs_of (lex script)) (length offs)) (padded (words_of (lex script)) (length words))
+
+-- what the tests of entry answer: nothing, or a refusal
+abbrev pub Checked : Type 0
+Checked = Result ⊤ Refusal
+
+abbrev pub passed : Checked
+passed = Ok tt
 
 -- "entry: 1 LongScript, over 65,535 bytes; 2 NotAscii, a byte of 128 or more; the first one's offset"
 unfoldable pub check_of : List ℕ → Checked
 unfolding if◌then◌otherwise◌ span ascii
 check_of script =
-    if ltb 65535 (length script) then check.Refused LongScript
-    otherwise if ltb (span ascii script) (length script) then check.Refused (NotAscii (span ascii script))
-    otherwise Fine
+    if ltb 65535 (length script) then Err LongScript
+    otherwise if ltb (span ascii script) (length script) then Err (NotAscii (span ascii script))
+    otherwise passed
 
 -- What the tokens call answers, in this paper's numbers: the token count, or number, kind and offset of a refusal; the others are 0.
 pub record Answer : Type 0 where
@@ -63,9 +68,9 @@ pub record Answer : Type 0 where
   pub kind : ℕ
   pub offset : ℕ
 
-abbrev pub answer_of : TokensAnswer → Answer
-answer_of (Count n) = record { count = n; number = 0; kind = 0; offset = 0 }
-answer_of (Refused r) = record { count = 0; number = number_of r; kind = kind_of r; offset = offset_of r }
+abbrev pub answer_of : Result ℕ Refusal → Answer
+answer_of (Ok n) = record { count = n; number = 0; kind = 0; offset = 0 }
+answer_of (Err r) = record { count = 0; number = number_of r; kind = kind_of r; offset = offset_of r }
 
 -- the answer, and what the two arrays hold at exit
 pub record TokensCall : Type 0 where

@@ -1,52 +1,36 @@
 // The tokens call: a script and two lent arrays, to the token count or a refusal.
 ghost use Rattle.std.specs.Prelude.{◌≡◌, ◌++◌, ◌+◌, ◌*◌, ◌-◌, ◌≤◌, ◌<◌, length, take, set, replicate};
 ghost use Rattle.sifc_tokens.specs.Tokens.{zeroed, lex_called, lex_call, check_of, tokens_called, answer_of, after_entry, by_ending, tokens_call};
-ghost use Rattle.sifc_tokens.specs.Loaded.{Loaded, used_by, Used, cleared};
-ghost use Rattle.sifc_lex.specs.Class.{greatest_from};
+ghost use Rattle.sifc_tokens.specs.Loaded.{Loaded, Used};
+ghost use Rattle.sifc_lex.specs.Bytes.{greatest_from};
 
 use sifc_err::{Ending, Refusal};
-use sifc_lex::{Class, LexAnswer, Step, end_kind, run_end, step_at};
+use sifc_lex::{Ended, Step, end_kind, run_end, step_at};
 
-// What the tokens call answers.
-#[derive(Clone, Copy)]
-pub enum TokensAnswer {
-    Count(usize),
-    Refused(Refusal),
-}
-
-// Whether the tests on a script alone let it pass.
-#[derive(Clone, Copy)]
-pub enum Checked {
-    Fine,
-    Refused(Refusal),
-}
-
-// Sets the elements from one on to 0, as far as another.
-fn clear_part(a: &mut [u32], from: usize, to: usize)
-    requires { (from ≤ to) × (to ≤ length a.old) }
-    ensures { a.new ≡ cleared a.old from to }
+// Sets every element of a part to 0.
+#[tactic(auto, unfolding(crate::specs::Tokens::zeroed))]
+fn clear_part(part: &mut [u32])
+    ensures { part.new ≡ zeroed part.old }
 {
-    let mut i = from;
-    while i < to {
-        a[i] = 0;
-        i += 1;
-    }
+    part.fill(0);
 }
 
 // Sets the elements from n on to 0.
+#[tactic(auto, unfolding(crate::specs::Tokens::zeroed))]
 pub fn clear_from(a: &mut [u32], n: usize)
     requires { n ≤ length a.old }
     ensures { a.new ≡ take n a.old ++ replicate (length a.old - n) 0 }
 {
-    clear_part(a, n, a.len());
+    clear_part(&mut a[n..]);
 }
 
 // Sets every element to 0, where those from n on are 0 already: so none is written twice.
+#[tactic(auto, unfolding(crate::specs::Tokens::zeroed))]
 pub fn clear_front(a: &mut [u32], n: usize)
     requires { Used n a.old }
     ensures { a.new ≡ zeroed a.old }
 {
-    clear_part(a, 0, n);
+    clear_part(&mut a[..n]);
 }
 
 // Stores the two words of a token.
@@ -61,7 +45,7 @@ fn put(offs: &mut [u32], words: &mut [u32], n: usize, kind: u32, off: usize, len
 }
 
 // Every token of the script into the arrays, as far as they hold them.
-fn lex_all(script: &[u8], offs: &mut [u32], words: &mut [u32]) -> LexAnswer
+fn lex_all(script: &[u8], offs: &mut [u32], words: &mut [u32]) -> Result<Ended, Refusal>
     requires { (length script.now < 65536) × (length offs.old ≡ length words.old) }
     ensures { Loaded script.now offs.old words.old result offs.new words.new }
 {
@@ -75,7 +59,7 @@ fn lex_all(script: &[u8], offs: &mut [u32], words: &mut [u32]) -> LexAnswer
             }
             Step::Word(kind, len) => {
                 if offs.len() <= n {
-                    return LexAnswer::Full;
+                    return Err(Refusal::TokensFull);
                 }
                 put(offs, words, n, kind, at, len);
                 n += 1;
@@ -84,9 +68,13 @@ fn lex_all(script: &[u8], offs: &mut [u32], words: &mut [u32]) -> LexAnswer
             Step::Stop(k, ending) => {
                 if n < offs.len() {
                     put(offs, words, n, end_kind(ending), at + k, 0);
-                    return LexAnswer::Ended(n + 1, ending, at + k);
+                    return Ok(Ended {
+                        count: n + 1,
+                        ending,
+                        at: at + k,
+                    });
                 }
-                return LexAnswer::Full;
+                return Err(Refusal::TokensFull);
             }
         }
     }
@@ -94,25 +82,15 @@ fn lex_all(script: &[u8], offs: &mut [u32], words: &mut [u32]) -> LexAnswer
 
 // Lexing into two arrays of one length, of a script that is short enough. A reading begins with it
 // too, so it keeps a lexing panic as the last token, and the caller has made the tests of entry.
-pub fn lex_tokens(script: &[u8], offs: &mut [u32], words: &mut [u32]) -> LexAnswer
+pub fn lex_tokens(script: &[u8], offs: &mut [u32], words: &mut [u32]) -> Result<Ended, Refusal>
     requires { (length script.now < 65536) × (length offs.old ≡ length words.old) }
     ensures { lex_called result offs.new words.new ≡ lex_call script.now offs.old words.old }
 {
     let lexed = lex_all(script, offs, words);
-    let used = used_by(lexed);
+    let used = lexed.map_or(0, |ended| ended.count);
     clear_from(offs, used);
     clear_from(words, used);
     lexed
-}
-
-// How many elements of the arrays an answer uses.
-fn used_by(lexed: LexAnswer) -> usize
-    ensures { result ≡ used_by lexed }
-{
-    match lexed {
-        LexAnswer::Ended(n, _, _) => n,
-        LexAnswer::Full => 0,
-    }
 }
 
 // The greatest byte of a script; 0 if it has none. The loop has no other way out, so it is compiled to
@@ -121,82 +99,60 @@ fn greatest(s: &[u8]) -> u8
     ensures { result ≡ greatest_from 0 s.now }
 {
     let mut most: u8 = 0;
-    let mut i = 0;
-    while i < s.len() {
-        let b = s[i];
-        if most < b {
-            most = b;
-        }
-        i += 1;
+    for b in s {
+        most = most.max(*b);
     }
     most
 }
 
 // The tests on a script alone, refusals 1 and 2.
-pub fn check_script(script: &[u8]) -> Checked
+pub fn check_script(script: &[u8]) -> Result<(), Refusal>
     ensures { result ≡ check_of script.now }
 {
-    if 65535 < script.len() {
-        return Checked::Refused(Refusal::LongScript);
+    if script.len() > 65535 {
+        return Err(Refusal::LongScript);
     }
     if greatest(script) < 128 {
-        return Checked::Fine;
+        return Ok(());
     }
-    let first = run_end(script, 0, Class::Ascii);
-    if first < script.len() {
-        return Checked::Refused(Refusal::NotAscii(first));
-    }
-    Checked::Fine
+    Err(Refusal::NotAscii(run_end(script, 0, |b| b < 128)))
 }
 
-// What the ending of the tokens makes of the call, where n elements of the arrays are used: a lexing
-// panic is refusal 5.
-fn by_ending(
-    offs: &mut [u32],
-    words: &mut [u32],
-    n: usize,
-    ending: Ending,
-    at: usize,
-) -> TokensAnswer
-    requires { Used n offs.old × Used n words.old }
-    ensures { tokens_called (answer_of result) offs.new words.new ≡ by_ending ending n at offs.old words.old }
+// What the ending of the tokens makes of the call, where the arrays hold them: a lexing panic is
+// refusal 5.
+#[tactic(auto, unfolding(crate::specs::Tokens::by_ending))]
+fn by_ending(offs: &mut [u32], words: &mut [u32], ended: Ended) -> Result<usize, Refusal>
+    requires { Used ended.count offs.old × Used ended.count words.old }
+    ensures { tokens_called (answer_of result) offs.new words.new ≡ by_ending ended.ending ended.count ended.at offs.old words.old }
 {
-    match ending {
-        Ending::TrueEnd => TokensAnswer::Count(n),
-        Ending::UnknownChar => TokensAnswer::Count(n),
-        Ending::UnterminatedString => TokensAnswer::Count(n),
+    match ended.ending {
         Ending::Panic(kind) => {
-            clear_front(offs, n);
-            clear_front(words, n);
-            TokensAnswer::Refused(Refusal::SourceFault(kind, at))
+            clear_front(offs, ended.count);
+            clear_front(words, ended.count);
+            Err(Refusal::SourceFault(kind, ended.at))
         }
+        _ => Ok(ended.count),
     }
 }
 
 // The tokens call behind the tests on the script.
-fn after_entry(script: &[u8], offs: &mut [u32], words: &mut [u32]) -> TokensAnswer
+fn after_entry(script: &[u8], offs: &mut [u32], words: &mut [u32]) -> Result<usize, Refusal>
     requires { length script.now < 65536 }
     ensures { tokens_called (answer_of result) offs.new words.new ≡ after_entry script.now offs.old words.old }
 {
     if offs.len() != words.len() {
-        return TokensAnswer::Refused(Refusal::Uneven);
+        return Err(Refusal::Uneven);
     }
-    let lexed = lex_tokens(script, offs, words);
-    match lexed {
-        LexAnswer::Ended(n, ending, at) => by_ending(offs, words, n, ending, at),
-        LexAnswer::Full => TokensAnswer::Refused(Refusal::TokensFull),
-    }
+    let ended = lex_tokens(script, offs, words)?;
+    by_ending(offs, words, ended)
 }
 
 // The tokens of a script into two lent arrays: the token count, or one refusal, 1 to 5. Of token i
 // the arrays hold the offset and kind + 64 * length; every element past the tokens is 0. Refusals 1
 // to 3 leave the arrays as they were, 4 and 5 set every element to 0.
-pub fn tokens(script: &[u8], offs: &mut [u32], words: &mut [u32]) -> TokensAnswer
+pub fn tokens(script: &[u8], offs: &mut [u32], words: &mut [u32]) -> Result<usize, Refusal>
     ensures { tokens_called (answer_of result) offs.new words.new ≡ tokens_call script.now offs.old words.old }
 {
-    let checked = check_script(script);
-    match checked {
-        Checked::Fine => after_entry(script, offs, words),
-        Checked::Refused(refusal) => TokensAnswer::Refused(refusal),
-    }
+    check_script(script)?;
+    after_entry(script, offs, words)
 }

@@ -4,5 +4,5 @@
 mod call;
 mod place;
 
-pub use call::{Checked, TokensAnswer, check_script, clear_from, clear_front, lex_tokens, tokens};
+pub use call::{check_script, clear_from, clear_front, lex_tokens, tokens};
 pub use place::{Place, place_at, walk_place};

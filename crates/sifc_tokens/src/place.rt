@@ -14,7 +14,7 @@ fn next_place(at: Place, b: u8) -> Place
     requires { (at.line < 2 ^ 63) × (at.pos < 2 ^ 63) }
     ensures { result ≡ next_place at b }
 {
-    if b == 10 {
+    if b == b'\n' {
         return Place {
             line: at.line + 1,
             pos: 0,
@@ -33,10 +33,8 @@ pub fn walk_place(s: &[u8], from: usize, start: Place, to: usize) -> Place
     ensures { result ≡ walked_to s.now to }
 {
     let mut at = start;
-    let mut i = from;
-    while i < to {
-        at = next_place(at, s[i]);
-        i += 1;
+    for b in &s[from..to] {
+        at = next_place(at, *b);
     }
     at
 }

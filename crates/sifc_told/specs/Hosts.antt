@@ -1,14 +1,12 @@
 -- The answers of the calls, as a host sees them in numbers.
-use Rattle.std.specs.Prelude.{ℕ, List, [], ◌∷◌}
+use Rattle.std.specs.Prelude.{ℕ, ◌≡◌, List, [], ◌∷◌, None, Some}
 use Rattle.std.proofs.Math.Option.{Option, none, some}
 use Rattle.sifc_err.specs.declared.Token.{Token}
 use Rattle.sifc_err.specs.declared.parse_err.ParseErrTy.{ParseErrTy}
 use Rattle.sifc_err.specs.ParseErr.{values_of}
-use Rattle.sifc_tokens.specs.Tokens.{Answer}
-use Rattle.sifc_def.specs.declared.Early.{Early}
-use Rattle.sifc_def.specs.declared.Early.TheVariants.{Never, By}
-use Rattle.sifc_def.specs.declared.Reading.{Reading}
-use Rattle.sifc_def.specs.Read.{Arrays, ReadNumbers, read_numbers, TextNumbers, text_numbers, Called, called, Written, bit}
+use Rattle.sifc_tokens.specs.Tokens.{Answer, tokens_called, tokens_call}
+use Rattle.sifc_def.specs.Answer.{Early, Reading}
+use Rattle.sifc_def.specs.Read.{Arrays, ReadNumbers, read_numbers, TextNumbers, text_numbers, Called, called, reading, Written, text_call, bit}
 
 abbrev pub answer : ℕ → ℕ → ℕ → ℕ → Answer
 answer c n k o = record { count = c; number = n; kind = k; offset = o }
@@ -43,8 +41,8 @@ abbrev pub early_numbers : ℕ → ℕ → ℕ → ℕ → ℕ → EarlyNumbers
 early_numbers l p n o v = record { line = l; pos = p; number = n; offset = o; value = v }
 
 abbrev pub early_of : Early → EarlyNumbers
-early_of Never = early_numbers 0 0 0 0 0
-early_of (By e) = early_numbers e.line e.pos (values_of e.ty).number (token_offset e.ty) (first_value e.ty)
+early_of None = early_numbers 0 0 0 0 0
+early_of (Some e) = early_numbers e.line e.pos (values_of e.ty).number (token_offset e.ty) (first_value e.ty)
 
 -- ── the reading call ──
 
@@ -84,3 +82,15 @@ text_told n a t = record { answer = n; arrays = a; text = t }
 
 unfoldable pub told_text : Written → TextTold
 told_text w = text_told (text_numbers w.answer) w.arrays w.text
+
+-- ── what the calls for hosts promise: what they answer and leave, of the script and what they are lent ──
+
+abbrev pub TokensSaid : List ℕ → List ℕ → List ℕ → Answer → List ℕ → List ℕ → Type 0
+TokensSaid s offs words said offs_left words_left = tokens_called said offs_left words_left ≡ tokens_call s offs words
+
+abbrev pub ReadingSaid : List ℕ → Arrays → ReadAnswer → Arrays → Type 0
+ReadingSaid s lent said left = called said left ≡ told (reading s lent)
+
+-- the text call has its buffer beside the arrays
+abbrev pub TextSaid : List ℕ → Arrays → List ℕ → TextNumbers → Arrays → List ℕ → Type 0
+TextSaid s lent buffer said left text = text_told said left text ≡ told_text (text_call s lent buffer)

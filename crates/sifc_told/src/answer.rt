@@ -1,14 +1,14 @@
 // An answer in numbers.
 ghost use Rattle.std.specs.Prelude.{◌≡◌};
-ghost use Rattle.sifc_def.specs.Read.{bit, read_numbers, text_numbers};
+ghost use Rattle.sifc_def.specs.Read.{read_numbers, text_numbers};
 ghost use Rattle.sifc_told.specs.Hosts.{token_offset, first_value, early_numbers, early_of, read_answer, told_of, text_answer};
 
-use sifc_def::{Early, Reading, Texting};
-use sifc_err::ParseErrTy;
+use sifc_def::Summary;
+use sifc_err::{ParseErr, ParseErrTy, Refusal};
 
 // The error that ended a reading: line, column, the reason's number, the offset of the token that it
 // carries, and the first of its values. All are 0 where none ended it.
-#[derive(Clone, Copy)]
+#[derive(Clone, Copy, Default)]
 pub struct Ending {
     pub line: usize,
     pub pos: usize,
@@ -18,7 +18,7 @@ pub struct Ending {
 }
 
 // All of an answer; what a refusal does not say is 0.
-#[derive(Clone, Copy)]
+#[derive(Clone, Copy, Default)]
 pub struct Numbers {
     pub tokens: usize,
     pub nodes: usize,
@@ -35,19 +35,14 @@ fn token_offset(ty: ParseErrTy) -> usize
     ensures { result ≡ token_offset ty }
 {
     match ty {
-        ParseErrTy::NoReason => 0,
-        ParseErrTy::InvalidIdent(token) => token.off,
-        ParseErrTy::InvalidTkn(token) => token.off,
-        ParseErrTy::InvalidTknMsg(_) => 0,
-        ParseErrTy::InvalidAssign(token) => token.off,
-        ParseErrTy::InvalidForStmt => 0,
-        ParseErrTy::InvalidIfStmt => 0,
-        ParseErrTy::TknMismatch(_, token) => token.off,
-        ParseErrTy::FnParmCntExceeded(_) => 0,
-        ParseErrTy::WrongFnParmCnt(_, _) => 0,
-        ParseErrTy::UndeclSym(token) => token.off,
-        ParseErrTy::UnassignedVar(token) => token.off,
-        ParseErrTy::ExpectedIdent(token) => token.off,
+        ParseErrTy::InvalidIdent(token)
+        | ParseErrTy::InvalidTkn(token)
+        | ParseErrTy::InvalidAssign(token)
+        | ParseErrTy::TknMismatch(_, token)
+        | ParseErrTy::UndeclSym(token)
+        | ParseErrTy::UnassignedVar(token)
+        | ParseErrTy::ExpectedIdent(token) => token.off,
+        _ => 0,
     }
 }
 
@@ -56,85 +51,52 @@ fn first_value(ty: ParseErrTy) -> usize
     ensures { result ≡ first_value ty }
 {
     match ty {
-        ParseErrTy::NoReason => 0,
-        ParseErrTy::InvalidIdent(_) => 0,
-        ParseErrTy::InvalidTkn(_) => 0,
-        ParseErrTy::InvalidTknMsg(message) => message as usize,
-        ParseErrTy::InvalidAssign(_) => 0,
-        ParseErrTy::InvalidForStmt => 0,
-        ParseErrTy::InvalidIfStmt => 0,
-        ParseErrTy::TknMismatch(kind, _) => kind as usize,
-        ParseErrTy::FnParmCntExceeded(count) => count,
-        ParseErrTy::WrongFnParmCnt(expected, _) => expected,
-        ParseErrTy::UndeclSym(_) => 0,
-        ParseErrTy::UnassignedVar(_) => 0,
-        ParseErrTy::ExpectedIdent(_) => 0,
+        ParseErrTy::InvalidTknMsg(number) | ParseErrTy::TknMismatch(number, _) => number as usize,
+        ParseErrTy::FnParmCntExceeded(count) | ParseErrTy::WrongFnParmCnt(count, _) => count,
+        _ => 0,
     }
 }
 
-fn bit_of(flag: bool) -> u32
-    ensures { result ≡ bit flag }
-{
-    if flag { 1 } else { 0 }
-}
-
-fn ended(early: Early) -> Ending
+// The error that ended a reading, if one did.
+fn ended(early: Option<ParseErr>) -> Ending
     ensures { early_numbers result.line result.pos result.number result.offset result.value ≡ early_of early }
 {
     match early {
-        Early::Never => Ending {
-            line: 0,
-            pos: 0,
-            number: 0,
-            offset: 0,
-            value: 0,
+        None => Ending::default(),
+        Some(err) => Ending {
+            line: err.line,
+            pos: err.pos,
+            number: err.ty.number(),
+            offset: token_offset(err.ty),
+            value: first_value(err.ty),
         },
-        Early::By(err) => {
-            let ty = err.ty;
-            Ending {
-                line: err.line,
-                pos: err.pos,
-                number: ty.number(),
-                offset: token_offset(ty),
-                value: first_value(ty),
-            }
-        }
     }
 }
 
 // The answer of a reading.
-pub fn told(said: Reading) -> Numbers
+pub fn told(said: Result<Summary, Refusal>) -> Numbers
     ensures { read_answer result.tokens result.nodes result.errors result.flag (early_numbers result.early.line result.early.pos result.early.number result.early.offset result.early.value) result.number result.kind result.offset ≡ told_of (read_numbers said) }
 {
     match said {
-        Reading::Read(summary) => {
-            let early = summary.early;
-            Numbers {
-                tokens: summary.tokens,
-                nodes: summary.nodes,
-                errors: summary.errors,
-                flag: bit_of(summary.flag),
-                early: ended(early),
-                number: 0,
-                kind: 0,
-                offset: 0,
-            }
-        }
-        Reading::Refused(refusal) => Numbers {
-            tokens: 0,
-            nodes: 0,
-            errors: 0,
-            flag: 0,
-            early: ended(Early::Never),
+        Ok(summary) => Numbers {
+            tokens: summary.tokens,
+            nodes: summary.nodes,
+            errors: summary.errors,
+            flag: u32::from(summary.flag),
+            early: ended(summary.early),
+            ..Numbers::default()
+        },
+        Err(refusal) => Numbers {
             number: refusal.number(),
             kind: refusal.kind(),
             offset: refusal.offset(),
+            ..Numbers::default()
         },
     }
 }
 
 // All of a text call's answer; what it does not say is 0.
-#[derive(Clone, Copy)]
+#[derive(Clone, Copy, Default)]
 pub struct TextNumbers {
     pub count: usize,
     pub number: u32,
@@ -143,21 +105,19 @@ pub struct TextNumbers {
 }
 
 // The answer of a text call.
-pub fn told_text(said: Texting) -> TextNumbers
+pub fn told_text(said: Result<usize, Refusal>) -> TextNumbers
     ensures { text_answer result.count result.number result.kind result.offset ≡ text_numbers said }
 {
     match said {
-        Texting::Wrote(count) => TextNumbers {
+        Ok(count) => TextNumbers {
             count,
-            number: 0,
-            kind: 0,
-            offset: 0,
+            ..TextNumbers::default()
         },
-        Texting::Refused(why) => TextNumbers {
-            count: 0,
-            number: why.number(),
-            kind: why.kind(),
-            offset: why.offset(),
+        Err(refusal) => TextNumbers {
+            number: refusal.number(),
+            kind: refusal.kind(),
+            offset: refusal.offset(),
+            ..TextNumbers::default()
         },
     }
 }

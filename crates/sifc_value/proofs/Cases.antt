@@ -1,22 +1,20 @@
 -- Worked values: the literals of document 02's ask 1 with the bits of their values, and bytes that are no literal, by the definition alone.
-use Rattle.std.specs.Prelude.{ℕ, Bool, true, false, ◌&&◌, T, List, [], ◌∷◌, ◌==◌}
+use Rattle.std.specs.Prelude.{ℕ, Bool, true, false, ◌&&◌, T, List, [], ◌∷◌, ◌==◌, Option, Some, None, Float}
 use Rattle.std.specs.Int.Count.{count_trailing_zeros}
 use Rattle.std.specs.Float.{binary64}
 use Rattle.std.specs.Float.Ieee.{round, to_bits, size, span as digit_span, climb, units, odd}
 use Rattle.sifc_word.specs.Base.{if◌then◌otherwise◌, span, within}
 use Rattle.sifc_lex.specs.Lex.{digit}
 use Rattle.sifc_value.specs.Value.{digits_of, counted, places_of, numeral, ends, literal, value_of}
-use Rattle.sifc_value.specs.declared.ValueAnswer.{ValueAnswer}
-use Rattle.sifc_value.specs.declared.ValueAnswer.TheVariants.{Number, NoNumber}
 
 -- the answer is a number with these bits; it is none
-has_bits : ℕ → ValueAnswer → Bool
-has_bits b (Number x) = to_bits binary64 x == b
-has_bits b NoNumber = false
+has_bits : ℕ → Option Float → Bool
+has_bits b (Some x) = to_bits binary64 x == b
+has_bits b None = false
 
-has_none : ValueAnswer → Bool
-has_none (Number x) = false
-has_none NoNumber = true
+has_none : Option Float → Bool
+has_none (Some x) = false
+has_none None = true
 
 pub record Case : Type 0 where
   pub bytes : List ℕ

@@ -1,28 +1,37 @@
 -- The value of a literal, by where its first digits end and what follows them. Assumes nothing.
-use Rattle.std.proofs.Common.{◌≡◌, ℕ, suc, ◌+◌, ◌-◌, ◌^◌, ◌<◌, ◌≤◌, Bool, true, false, ltb, List, [], ◌∷◌, ◌++◌, length, get_or, take, drop, sym, refl, ap, ◌∙◌, inl, inr, append-nil, eq-or-lt_of_le, add-one, arith, length-append, length-drop, drop_of_length-le, length-take-le, take_all, drop-cons, ltb-false, ltb-true, le-ltb, lt-ltb, eq-eqb, ne_eqb}
+use Rattle.std.proofs.Common.{◌≡◌, ℕ, suc, ◌+◌, ◌-◌, ◌^◌, ◌<◌, ◌≤◌, min, Bool, true, false, ltb, Some, None, List, [], ◌∷◌, ◌++◌, length, get_or, take, drop, sym, refl, ap, ◌∙◌, inl, inr, append-nil, eq-or-lt_of_le, add-one, arith, length-append, length-drop, drop_of_length-le, length-take-le, take_all, drop-cons, ltb-false, ltb-true, le-ltb, lt-ltb, eq-eqb, ne_eqb}
 use native.Mathlib.Nat.{sub-zero}
 use lib.Ieee.{binary64, round}
 use Rattle.sifc_word.specs.Base.{if◌then◌otherwise◌, span, within}
 use Rattle.sifc_word.specs.BaseLaws.{and-false, span-le, span-at-no, span-at-end}
 use Rattle.sifc_lex.specs.Lex.{digit}
-use Rattle.sifc_value.specs.Scan.{Capped, Read}
+use Rattle.sifc_value.specs.Scan.{Read}
 use Rattle.sifc_value.proofs.Scanned.{numeral-append}
-use Rattle.sifc_value.specs.declared.ValueAnswer.TheVariants.{Number, NoNumber}
 use Rattle.sifc_value.specs.Value.{digits_of, counted, places_of, numeral, ends, literal, value_of}
 
+-- ---- how far is read: the smaller of the length and a number of digits
+pub record Capped (n most r : ℕ) : Type 0 where
+  pub low : r ≤ n
+  pub high : r ≤ most
+  pub whole : r < most → r ≡ n
+  pub reach : (k : ℕ) → k ≤ n → k ≤ most → k ≤ r
+
+pub capped : {n most r : ℕ} → r ≡ min n most → Capped n most r
+capped e = record { low = omega arith; high = omega arith; whole = λ h. omega arith; reach = λ k h i. omega arith }
+
 -- ---- what is no literal
-refused : (s : List ℕ) → literal s ≡ false → value_of s ≡ NoNumber
+refused : (s : List ℕ) → literal s ≡ false → value_of s ≡ None
 unfolding value_of if◌then◌otherwise◌
 refused s e = rw e refl
 
-pub no_digit : (s : List ℕ) → span digit s ≡ 0 → value_of s ≡ NoNumber
+pub no_digit : (s : List ℕ) → span digit s ≡ 0 → value_of s ≡ None
 no_digit s e = refused s (unfold literal in simp (e))
 
 last-false : (s : List ℕ) → ltb (counted s) 20 ≡ false → literal s ≡ false
 unfolding literal
 last-false s e = simp (e, and-false)
 
-no_end : (s : List ℕ) → ends (drop (span digit s) s) ≡ false → value_of s ≡ NoNumber
+no_end : (s : List ℕ) → ends (drop (span digit s) s) ≡ false → value_of s ≡ None
 no_end s e = refused s (unfold literal in simp (e, and-false))
 
 digits-length : (s : List ℕ) → counted s ≡ span digit s + (length s - suc (span digit s))
@@ -32,7 +41,7 @@ digits-length s =
     ∙ ap (λ (n : ℕ). n + length (drop (suc (span digit s)) s)) (length-take-le (span digit s) s (span-le digit s))
     ∙ ap (λ (n : ℕ). span digit s + n) (length-drop (suc (span digit s)) s)
 
-too_long : (s : List ℕ) → 20 ≤ span digit s + (length s - suc (span digit s)) → value_of s ≡ NoNumber
+too_long : (s : List ℕ) → 20 ≤ span digit s + (length s - suc (span digit s)) → value_of s ≡ None
 too_long s h =
     let e : ltb (counted s) 20 ≡ false = le-ltb (counted s) 20 (let l = digits-length s in omega arith) in
     refused s (last-false s e)
@@ -43,7 +52,7 @@ unfolding ends
 ends-none = refl
 
 accepted : (s : List ℕ) (n p : ℕ) → 0 < span digit s → ends (drop (span digit s) s) ≡ true → span digit s + (length s - suc (span digit s)) ≤ 19
-    → n ≡ numeral 0 (digits_of s) → p ≡ places_of s → value_of s ≡ Number (round binary64 false n (10 ^ p))
+    → n ≡ numeral 0 (digits_of s) → p ≡ places_of s → value_of s ≡ Some (round binary64 false n (10 ^ p))
 unfolding value_of literal if◌then◌otherwise◌
 accepted s n p d e l h k =
     let t : ltb (counted s) 20 ≡ true = lt-ltb (counted s) 20 (let y = digits-length s in omega arith) in
@@ -57,7 +66,7 @@ module _ (s : List ℕ) (end number scale next : ℕ) (cap : Capped (length s) 1
   at-end l = let r = read.whole l in omega arith
 
   -- no digit at the front
-  pub none : next ≡ 0 → value_of s ≡ NoNumber
+  pub none : next ≡ 0 → value_of s ≡ None
   none e = no_digit s (go (ltb 0 end) refl)
     where
       go : (t : Bool) → ltb 0 end ≡ t → span digit s ≡ 0
@@ -72,7 +81,7 @@ module _ (s : List ℕ) (end number scale next : ℕ) (cap : Capped (length s) 1
   unfolding digits_of
   all_digits w e = rw w (ap (λ (t : List ℕ). take next s ++ t) (drop_of_length-le s {i = suc next} (omega arith)) ∙ append-nil (take next s))
 
-  pub only : 0 < next → next ≡ length s → value_of s ≡ Number (round binary64 false number 1)
+  pub only : 0 < next → next ≡ length s → value_of s ≡ Some (round binary64 false number 1)
   unfolding places_of
   only d e =
       let w : span digit s ≡ next = let l = span-le digit s in let r = run in omega arith in
@@ -81,10 +90,10 @@ module _ (s : List ℕ) (end number scale next : ℕ) (cap : Capped (length s) 1
       accepted s number 0 (omega arith) (ap ends (drop_of_length-le s {i = span digit s} (omega arith)) ∙ ends-none) (omega arith) (first-number ∙ ap (numeral 0) (sym (all_digits w e))) (omega arith)
 
   -- another byte than a point behind the first digits, of which at most 19 are looked at
-  pub other : next < length s → (get_or s next 0 ≡ 46 → ⊥) → value_of s ≡ NoNumber
+  pub other : next < length s → (get_or s next 0 ≡ 46 → ⊥) → value_of s ≡ None
   other i n = elim (eq-or-lt_of_le (let r = run in let y : next ≤ span digit s = omega arith in y)) [ inl e ↦ here e | inr g ↦ too_long s (more g (ltb next end) refl (ltb end 19) refl) ]
     where
-      here : next ≡ span digit s → value_of s ≡ NoNumber
+      here : next ≡ span digit s → value_of s ≡ None
       here e = no_end s (rw (← e, drop-cons s next 0 i) (unfold ends in rw (ne_eqb (get_or s next 0) 46 n) refl))
 
       more : next < span digit s → (t : Bool) → ltb next end ≡ t → (u : Bool) → ltb end 19 ≡ u → 20 ≤ span digit s + (length s - suc (span digit s))
@@ -102,17 +111,17 @@ module _ (s : List ℕ) (end number scale next : ℕ) (cap : Capped (length s) 1
 
     module _ (end₂ number₂ scale₂ next₂ : ℕ) (cap₂ : Capped (length s) 20 end₂) (read₂ : Read s (next + 1) end₂ number number₂ scale₂ next₂) where
       -- something else than digits behind the point, or too many of them
-      pub more : (next₂ ≡ length s → ⊥) → value_of s ≡ NoNumber
+      pub more : (next₂ ≡ length s → ⊥) → value_of s ≡ None
       unfolding ends
       more n = go (ltb next₂ end₂) refl (ltb end₂ 20) refl
         where
-          stuck : next₂ < end₂ → value_of s ≡ NoNumber
+          stuck : next₂ < end₂ → value_of s ≡ None
           stuck h =
               let r = read₂.whole h in
               let l = length-drop (next + 1) s in
               no_end s (rw behind (ne_eqb (span digit (drop (next + 1) s)) (length (drop (next + 1) s)) (λ e. n (omega arith))))
 
-          go : (t : Bool) → ltb next₂ end₂ ≡ t → (u : Bool) → ltb end₂ 20 ≡ u → value_of s ≡ NoNumber
+          go : (t : Bool) → ltb next₂ end₂ ≡ t → (u : Bool) → ltb end₂ 20 ≡ u → value_of s ≡ None
           go true h u k = stuck (ltb-true next₂ end₂ h)
           go false h true k = absurd (n (let w = cap₂.whole (ltb-true end₂ 20 k) in let z = ltb-false next₂ end₂ h in let l = read₂.stop in omega arith))
           go false h false k = too_long s (let x = ltb-false end₂ 20 k in let z = ltb-false next₂ end₂ h in let l = read₂.stop in let c = cap₂.low in let w = whole in omega arith)
@@ -129,7 +138,7 @@ module _ (s : List ℕ) (end number scale next : ℕ) (cap : Capped (length s) 1
           ∙ ap (λ (k : ℕ). numeral 0 (take k s ++ drop (suc k) s)) (sym whole)
 
       -- digits behind the point up to the end
-      pub pointed : 0 < next → next₂ ≡ length s → value_of s ≡ Number (round binary64 false number₂ (10 ^ (length s - next - 1)))
+      pub pointed : 0 < next → next₂ ≡ length s → value_of s ≡ Some (round binary64 false number₂ (10 ^ (length s - next - 1)))
       unfolding ends places_of
       pointed d e =
           let w = whole in

@@ -4,13 +4,6 @@ use Rattle.sifc_word.specs.Base.{span}
 use Rattle.sifc_lex.specs.Lex.{digit}
 use Rattle.sifc_value.specs.Value.{numeral}
 
--- the smaller of two numbers
-pub record Capped (n most r : ℕ) : Type 0 where
-  pub low : r ≤ n
-  pub high : r ≤ most
-  pub whole : r < most → r ≡ n
-  pub reach : (k : ℕ) → k ≤ n → k ≤ most → k ≤ r
-
 -- the digits of s from an index up to another: either all of a run, or up to the end
 pub record Read (s : List ℕ) (from end before number scale next : ℕ) : Type 0 where
   pub start : from ≤ next

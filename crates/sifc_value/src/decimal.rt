@@ -52,10 +52,7 @@ fn deeper(five: u64, split: Split) -> Split
 fn last_bit(rest: u64) -> u64
     ensures { result ≡ bit rest }
 {
-    if rest == 0 {
-        return 0;
-    }
-    1
+    u64::from(rest != 0)
 }
 
 // Twice the whole part, with an odd last bit in place of a remainder.

@@ -5,16 +5,9 @@ mod decimal;
 
 ghost use Rattle.std.specs.Prelude.{◌≡◌, ◌-◌, ◌^◌, ◌<◌, ◌≤◌, length};
 ghost use Rattle.sifc_value.specs.Value.{value_of};
-ghost use Rattle.sifc_value.specs.Scan.{Read, Capped};
+ghost use Rattle.sifc_value.specs.Scan.{Read};
 
 use decimal::decimal;
-
-// What a literal's bytes are: a number, or no literal.
-#[derive(Clone, Copy)]
-pub enum ValueAnswer {
-    Number(f64),
-    NoNumber,
-}
 
 // Digits that were read: the number that they make behind those before them, ten to the power of how
 // many they are, and the index behind them.
@@ -23,13 +16,6 @@ struct Run {
     number: u64,
     scale: u64,
     next: usize,
-}
-
-// The smaller of two numbers.
-fn capped(n: usize, most: usize) -> usize
-    ensures { Capped n most result }
-{
-    if n < most { n } else { most }
 }
 
 // Reads the digits from an index on, up to the index `end`. A number of fewer than 20 digits in all
@@ -43,54 +29,45 @@ fn digits(s: &[u8], from: usize, end: usize, before: u64) -> Run
 {
     let mut number = before;
     let mut scale: u64 = 1;
-    let mut next = from;
-    while next < end {
+    for next in from..end {
         let b = s[next];
-        if b < 48 {
+        if !b.is_ascii_digit() {
             return Run {
                 number,
                 scale,
                 next,
             };
         }
-        if 57 < b {
-            return Run {
-                number,
-                scale,
-                next,
-            };
-        }
-        number = number * 10 + ((b - 48) as u64);
+        number = number * 10 + u64::from(b - b'0');
         scale *= 10;
-        next += 1;
     }
     Run {
         number,
         scale,
-        next,
+        next: end,
     }
 }
 
 // The value of a literal. Bytes that are none, and 20 digits or more, have no value; no byte behind
 // the twentieth digit is read.
-pub fn value(literal: &[u8]) -> ValueAnswer
+pub fn value(literal: &[u8]) -> Option<f64>
     ensures { result ≡ value_of literal.now }
 {
     let n = literal.len();
-    let whole = digits(literal, 0, capped(n, 19), 0);
+    let whole = digits(literal, 0, n.min(19), 0);
     let point = whole.next;
     if point == 0 {
-        return ValueAnswer::NoNumber;
+        return None;
     }
     if point == n {
-        return ValueAnswer::Number(std::num::nearest_u64_to_f64(whole.number));
+        return Some(std::num::nearest_u64_to_f64(whole.number));
     }
-    if literal[point] != 46 {
-        return ValueAnswer::NoNumber;
+    if literal[point] != b'.' {
+        return None;
     }
-    let all = digits(literal, point + 1, capped(n, 20), whole.number);
+    let all = digits(literal, point + 1, n.min(20), whole.number);
     if all.next != n {
-        return ValueAnswer::NoNumber;
+        return None;
     }
-    ValueAnswer::Number(decimal(all.number, all.scale, n - point - 1))
+    Some(decimal(all.number, all.scale, n - point - 1))
 }

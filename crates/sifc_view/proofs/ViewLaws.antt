@@ -1,6 +1,6 @@
 -- The bound on turns never matters; and stepping a view through a script gives the token list of the definition (Lex.antt of sifc_lex).
-use Rattle.std.specs.Prelude.{ℕ, zero, suc, ◌+◌, ◌-◌, ◌≤◌, ◌<◌, List, [], ◌∷◌, Bool, true, false, ◌≡◌, refl, T, ltb, drop}
-use Rattle.std.proofs.Common.{sym, ◌∙◌, not-suc-le-zero, arith, lt-ltb, le-ltb, ltb-false, drop-drop}
+use Rattle.std.specs.Prelude.{ℕ, zero, suc, min, ◌+◌, ◌-◌, ◌≤◌, ◌<◌, List, [], ◌∷◌, Bool, true, false, ◌≡◌, refl, T, ltb, drop}
+use Rattle.std.proofs.Common.{sym, ◌∙◌, not-suc-le-zero, arith, lt-ltb, le-ltb, ltb-true, ltb-false, drop-drop}
 use Rattle.std.proofs.Math.Path.{ap, subst}
 use Rattle.std.proofs.Math.ListN.{length, length-drop}
 use Rattle.sifc_err.specs.declared.Token.{Token}
@@ -58,10 +58,19 @@ pub next-in : (s : List ℕ) (off : ℕ) → off ≤ length s → next_at s off 
 unfolding next_at
 next-in s off h = ap (λ (k : ℕ). next_of k (drop k s)) (clipped-in off (length s) h)
 
+-- the lesser of an offset and the end
+clipped-min : (off n : ℕ) → min off n ≡ clipped off n
+unfolding clipped if◌then◌otherwise◌
+clipped-min off n = go (ltb n off) refl
+  where
+    go : (b : Bool) → ltb n off ≡ b → min off n ≡ (if b then n otherwise off)
+    go true e = let z = ltb-true n off e in omega arith
+    go false e = let z = ltb-false n off e in omega arith
+
 -- where a call begins
-pub next_start : (s : List ℕ) (off at : ℕ) → at ≡ clipped off (length s) → (at ≤ length s) × (next_of at (drop at s) ≡ next_at s off)
+pub next_start : (s : List ℕ) (off at : ℕ) → at ≡ min off (length s) → (at ≤ length s) × (next_of at (drop at s) ≡ next_at s off)
 unfolding next_at
-next_start s off at e = (subst (λ (k : ℕ). k ≤ length s) (sym e) (clipped-le off (length s)), ap (λ (k : ℕ). next_of k (drop k s)) e)
+next_start s off at m = let e : at ≡ clipped off (length s) = m ∙ clipped-min off (length s) in (subst (λ (k : ℕ). k ≤ length s) (sym e) (clipped-le off (length s)), ap (λ (k : ℕ). next_of k (drop k s)) e)
 
 module _ (s : List ℕ) (off : ℕ) where
   -- bytes that are skipped

@@ -8,7 +8,6 @@ use Rattle.sifc_word.specs.Kind.{Eof}
 use Rattle.sifc_lex.specs.Lex.{token, step, end_kind}
 use Rattle.sifc_view.specs.declared.next.Lexed.{Lexed}
 use Rattle.sifc_view.specs.declared.view.Lexer.{Lexer}
-use Rattle.sifc_view.specs.declared.view.Stepped.{Stepped}
 
 -- a token, and where lexing goes on
 abbrev pub lexed : Token → ℕ → Lexed
@@ -41,6 +40,14 @@ next_at s off = next_of (clipped off (length s)) (drop (clipped off (length s)) 
 unfoldable pub viewed : ℕ → List ℕ → ℕ → List Token
 viewed zero s off = []
 viewed (suc f) s off = (next_at s off).token ∷ (if ltb (next_at s off).token.kind Eof then viewed f s (next_at s off).next otherwise [])
+
+-- a token, with the view moved on to where lexing goes on
+pub record Stepped : Type 0 where
+  pub token : Token
+  pub view : Lexer
+
+abbrev pub stepped_to : Token → Lexer → Stepped
+stepped_to t v = record { token = t; view = v }
 
 -- what lexing a view answers where l is found at its offset: the token, with the view moved on
 abbrev moved_on_by : Lexer → Lexed → Stepped

@@ -1,6 +1,6 @@
 // The next token at an offset of a script, by turns of lexing: `lex` of lex.rs over a plain slice.
 ghost use Rattle.std.specs.Prelude.{◌≡◌, length};
-ghost use Rattle.sifc_view.specs.View.{clipped, next_at};
+ghost use Rattle.sifc_view.specs.View.{next_at};
 
 use sifc_err::Token;
 use sifc_lex::{Step, end_kind, step_at};
@@ -12,21 +12,11 @@ pub struct Lexed {
     pub next: usize,
 }
 
-// An offset past the script's end stands for the end.
-fn clip(off: usize, n: usize) -> usize
-    ensures { result ≡ clipped off n }
-{
-    if n < off {
-        return n;
-    }
-    off
-}
-
-// The first token at an offset or after it.
+// The first token at an offset or after it. An offset past the script's end stands for the end.
 pub fn next_at(script: &[u8], off: usize) -> Lexed
     ensures { result ≡ next_at script.now off }
 {
-    let mut at = clip(off, script.len());
+    let mut at = off.min(script.len());
     loop {
         let st = step_at(script, at);
         match st {

@@ -1,6 +1,6 @@
 // The lexing view. Callers use token_from, whose parameters are plain.
 ghost use Rattle.std.specs.Prelude.{◌≡◌};
-ghost use Rattle.sifc_view.specs.View.{next_at, stepped};
+ghost use Rattle.sifc_view.specs.View.{next_at, stepped_to, stepped};
 
 use crate::next::{Lexed, next_at};
 use sifc_err::Token;
@@ -12,31 +12,21 @@ pub struct Lexer<'a> {
     pub off: usize,
 }
 
-// A token, with the view moved on to where lexing goes on.
-#[derive(Clone, Copy)]
-pub struct Stepped<'a> {
-    pub token: Token,
-    pub view: Lexer<'a>,
-}
+impl<'a> Lexer<'a> {
+    // A view at the script's start.
+    pub fn new(script: &'a [u8]) -> Lexer<'a>
+        ensures { (result.script ≡ script.entry) × (result.off ≡ 0) }
+    {
+        Lexer { script, off: 0 }
+    }
 
-// A view at the script's start.
-pub fn new<'a>(script: &'a [u8]) -> Lexer<'a>
-    ensures { (result.script ≡ script.entry) × (result.off ≡ 0) }
-{
-    Lexer { script, off: 0 }
-}
-
-// The next token, with the view moved on.
-pub fn lex<'a>(view: Lexer<'a>) -> Stepped<'a>
-    ensures { result ≡ stepped view.entry }
-{
-    let found = next_at(view.script, view.off);
-    Stepped {
-        token: found.token,
-        view: Lexer {
-            script: view.script,
-            off: found.next,
-        },
+    // The next token; the view moves on.
+    pub fn lex(&mut self) -> Token
+        ensures { stepped_to result self.new ≡ stepped self.old }
+    {
+        let found = next_at(self.script, self.off);
+        self.off = found.next;
+        found.token
     }
 }
 
@@ -44,11 +34,10 @@ pub fn lex<'a>(view: Lexer<'a>) -> Stepped<'a>
 pub fn token_from(script: &[u8], off: usize) -> Lexed
     ensures { result ≡ next_at script.now off }
 {
-    let mut view = new(script);
-    view.off = off;
-    let step = lex(view);
+    let mut view = Lexer { script, off };
+    let token = view.lex();
     Lexed {
-        token: step.token,
-        next: step.view.off,
+        token,
+        next: view.off,
     }
 }

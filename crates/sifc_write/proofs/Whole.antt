@@ -1,4 +1,5 @@
 -- The text that is written at the end of the buffer, moved to its front.
+use Rattle.std.specs.Prelude.{Err, Ok}
 use Prim.Native.Nat.{ℕ, ◌+◌, ◌-◌, ◌≤◌, ◌<◌}
 use native.Mathlib.Omega.{arith}
 use borrow.Author.Tests.{lt-ltb, le-ltb}
@@ -9,54 +10,51 @@ use lib.Seq.{drop-length, drop_at, length-take-le}
 use Rattle.sifc_err.specs.declared.Refusal.TheVariants.{TextFull}
 use Rattle.sifc_word.specs.Base.{if◌then◌otherwise◌}
 use Rattle.sifc_tokens.specs.Tokens.{padded, zeroed}
-use Rattle.sifc_def.specs.declared.Texting.TheVariants.{Wrote, Refused}
-use Rattle.sifc_put.specs.declared.write.Put.{Put}
-use Rattle.sifc_put.specs.declared.write.Put.TheVariants.{Done, Full}
-use Rattle.sifc_put.specs.Post.{Lang, SpotOf, WritesOf}
-use Rattle.sifc_put.specs.Steps.{gone, full}
+use Rattle.std.specs.Prelude.{Ok, Err}
+use Rattle.sifc_put.specs.declared.write.Full.{Full}
+use Rattle.sifc_put.specs.declared.write.Writer.{Writer}
+use Rattle.sifc_put.specs.Post.{Kind, Writes, inp_of}
 use Rattle.sifc_write.specs.Front.{buffered, fitted, Fronts}
 
 -- A text that is longer than the buffer is refused.
-fitted-full : (w t : List ℕ) → length t < length w → fitted w t ≡ buffered (Refused TextFull) (zeroed t)
+fitted-full : (w t : List ℕ) → length t < length w → fitted w t ≡ buffered (Err TextFull) (zeroed t)
 unfolding fitted if◌then◌otherwise◌
 fitted-full w t h = rw (lt-ltb (length t) (length w) h) refl
 
 -- Any other is at the front, and zeros are behind it.
-fitted-in : (w t : List ℕ) → length w ≤ length t → fitted w t ≡ buffered (Wrote (length w)) (padded w (length t))
+fitted-in : (w t : List ℕ) → length w ≤ length t → fitted w t ≡ buffered (Ok (length w)) (padded w (length t))
 unfolding fitted if◌then◌otherwise◌
 fitted-in w t h = rw (le-ltb (length t) (length w) h) refl
 
-module _ (L : Lang) {text t : List ℕ} {hi : ℕ} {r : Put} (q : WritesOf L text hi (length text) r t) where
+module _ (K : Kind) {p q : Writer} (end : p.at ≡ length p.text.now) where
   -- It has no room, and the buffer is set to 0.
-  pub no_room : {t₂ : List ℕ} → r ≡ Full → length t ≡ length text → t₂ ≡ take 0 t ++ replicate (length t - 0) 0 → Fronts L text hi (Refused TextFull) t₂
+  pub no_room : {f : Full} {t : List ℕ} → Writes K p (Err f) q → t ≡ take 0 q.text.now ++ replicate (length q.text.now - 0) 0 → Fronts (K (inp_of p)) p.text.now p.node (Err TextFull) t
   unfolding zeroed
-  no_room {t₂} e l s =
+  no_room {f} {t} w s =
       record {
         does = λ x lo g.
-            ap (buffered (Refused TextFull)) (s ∙ ap (λ (n : ℕ). replicate n 0) (let m : length t - 0 ≡ length text = omega arith in m))
-            ∙ sym (fitted-full (L.P x) text (full (q.does x lo g) e));
+            let h : p.at < length ((K (inp_of p)).P x) = (w.does x lo g).by in
+            ap (buffered (Err TextFull)) (s ∙ ap (λ (n : ℕ). replicate n 0) (let m : length q.text.now - 0 ≡ length p.text.now = omega (arith, w.goes.long) in m))
+            ∙ sym (fitted-full ((K (inp_of p)).P x) p.text.now (omega (arith, end)));
       }
 
-  -- It is written, from a on.
-  pub fits_in : {h a : ℕ} → SpotOf L text hi (length text) → r ≡ Done h a → a ≤ length text
-  fits_in z e = omega (arith, (gone (q.does z.tree z.lo z.spans) e).room)
-
-  -- It is moved to the front.
-  pub fronts : {t₂ : List ℕ} {h a : ℕ} → r ≡ Done h a → t₂ ≡ drop a t ++ replicate a 0 → Fronts L text hi (Wrote (length text - a)) t₂
+  -- It is written from q's place on, and moved to the front.
+  pub fronts : {u : Unit} {t : List ℕ} → Writes K p (Ok u) q → t ≡ drop q.at q.text.now ++ replicate q.at 0 → Fronts (K (inp_of p)) p.text.now p.node (Ok (length p.text.now - q.at)) t
   unfolding padded
-  fronts {t₂} {h} {a} e s =
+  fronts {u} {t} w s =
       record {
         does = λ x lo g.
-            let p = gone (q.does x lo g) e in
-            let w : List ℕ = L.P x in
-            let room : a + length w ≡ length text = p.room in
-            let k : length (take a text) ≡ a = length-take-le a text (omega arith) in
-            let b : a ≡ length text - length w = omega arith in
-            let n : length text - a ≡ length w = omega arith in
-            ap₂ (λ (i : ℕ) (y : List ℕ). buffered (Wrote i) y) n
+            let l = (w.does x lo g).by in
+            let b : List ℕ = (K (inp_of p)).P x in
+            let room : q.at + length b ≡ length p.text.now = l.room ∙ end in
+            let k : length (take q.at p.text.now) ≡ q.at = length-take-le q.at p.text.now (omega arith) in
+            let m : q.at ≡ length p.text.now - length b = omega arith in
+            let n : length p.text.now - q.at ≡ length b = omega arith in
+            ap₂ (λ (i : ℕ) (y : List ℕ). buffered (Ok i) y) n
             (s
-            ∙ ap (λ (y : List ℕ). drop a y ++ replicate a 0) p.same
-            ∙ ap (λ (y : List ℕ). y ++ replicate a 0) (drop_at (take a text) (w ++ drop (length text) text) a k ∙ ap (λ (y : List ℕ). w ++ y) (drop-length text) ∙ append-nil w)
-            ∙ ap (λ (i : ℕ). w ++ replicate i 0) b)
-            ∙ sym (fitted-in w text (omega arith));
+            ∙ ap (λ (y : List ℕ). drop q.at y ++ replicate q.at 0) l.same
+            ∙ ap (λ (y : List ℕ). y ++ replicate q.at 0)
+            (drop_at (take q.at p.text.now) (b ++ drop p.at p.text.now) q.at k ∙ ap (λ (i : ℕ). b ++ drop i p.text.now) end ∙ ap (λ (y : List ℕ). b ++ y) (drop-length p.text.now) ∙ append-nil b)
+            ∙ ap (λ (i : ℕ). b ++ replicate i 0) m)
+            ∙ sym (fitted-in b p.text.now (omega arith));
       }

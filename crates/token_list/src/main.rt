@@ -22,7 +22,7 @@ fn main(rt: HostRuntime) -> io::Result<()> {
 fn answer<W: Write>(out: &mut W, script: &[u8]) -> io::Result<()> {
     if MOST < script.len() {
         sif_show::print_refusal(out, Refusal::LongScript)?;
-        return sif_show::print(out, b"\n");
+        return writeln!(out);
     }
     sif_show::show(out, script, Layout::Lines)
 }

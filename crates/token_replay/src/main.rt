@@ -3,7 +3,7 @@
 // tokens are the Rust's.
 #![tactic(auto)]
 
-use sif_show::{Layout, after_newline, entry_at};
+use sif_show::{Layout, Scripts};
 use std::io;
 use std::io::{BufWriter, Read, Write};
 
@@ -18,19 +18,11 @@ fn main(rt: HostRuntime) -> io::Result<()> {
     out.flush()
 }
 
-// The entries one after the other; each is longer than nothing, or the list is over.
+// The scripts one after the other.
 fn replay_all<W: Write>(out: &mut W, list: &[u8]) -> io::Result<()> {
-    let mut at = 0;
-    for _ in 0..list.len() {
-        if list.len() <= at {
-            break;
-        }
-        let entry = entry_at(list, at);
-        let from = entry.from;
-        let end = entry.end;
-        sif_show::show(out, &list[from..end], Layout::List)?;
-        sif_show::print(out, b"\n")?;
-        at = after_newline(list, end);
+    for script in Scripts::new(list) {
+        sif_show::show(out, script, Layout::List)?;
+        writeln!(out)?;
     }
     Ok(())
 }

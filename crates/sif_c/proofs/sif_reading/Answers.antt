@@ -3,4 +3,4 @@ use Rattle.sif_c.proofs.Said.{told-call}
 use Rattle.sif_c.proofs.sif_reading.Goals as goal
 
 pub returns : goal.returns
-returns c = told-call _ _ _ _ c.told-numbers.ensures c.reading-said.ensures
+returns c = told-call _ _ _ _ c.told-numbers.ensures c.reading.ensures

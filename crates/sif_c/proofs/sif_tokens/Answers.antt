@@ -3,8 +3,7 @@ use Prim.Native.Nat.{ℕ, ◌≤◌}
 use native.Mathlib.Omega.{arith}
 use mathlib.Core.Path.{◌≡◌, ap, ◌∙◌, sym, subst}
 use Rattle.sifc_err.specs.declared.Refusal.{Refusal}
-use Rattle.sifc_tokens.specs.declared.call.TokensAnswer.{TokensAnswer}
-use Rattle.sifc_tokens.specs.declared.call.TokensAnswer.TheVariants.{Count, Refused}
+use Rattle.std.specs.Prelude.{Result}
 use Rattle.sifc_tokens.specs.Tokens.{Answer, answer_of, TokensCall, tokens_called, tokens_call}
 use Rattle.sifc_tokens.proofs.TokensLaws.{tokens-small}
 use Rattle.sif_c.proofs.Said.{said-count, said-refused}
@@ -13,17 +12,17 @@ use Rattle.sif_c.proofs.sif_tokens.Goals as goal
 pub overflow_cast-count : goal.overflow_cast-count
 overflow_cast-count c =
     let b = tokens-small c.args.script.now c.args.offs.now c.args.words.now in
-    let e = ap (λ (x : Answer). x.count) (ap (λ (x : TokensAnswer). answer_of x) (sym c.in-Count.is) ∙ ap (λ (x : TokensCall). x.answer) c.tokens-said.ensures) in
+    let e = ap (λ (x : Answer). x.count) (ap (λ (x : Result ℕ Refusal). answer_of x) (sym c.in-Ok.is) ∙ ap (λ (x : TokensCall). x.answer) c.tokens.ensures) in
     omega arith
 
 pub overflow_cast-offset : goal.overflow_cast-offset
 overflow_cast-offset c =
     let b = tokens-small c.args.script.now c.args.offs.now c.args.words.now in
-    let e = c.offset.ensures ∙ ap (λ (x : Answer). x.offset) (ap (λ (x : TokensAnswer). answer_of x) (sym c.in-Refused.is) ∙ ap (λ (x : TokensCall). x.answer) c.tokens-said.ensures) in
+    let e = c.offset.ensures ∙ ap (λ (x : Answer). x.offset) (ap (λ (x : Result ℕ Refusal). answer_of x) (sym c.in-Err.is) ∙ ap (λ (x : TokensCall). x.answer) c.tokens.ensures) in
     omega arith
 
-pub returns-in-Count : goal.returns-in-Count
-returns-in-Count c = said-count _ _ _ _ _ c.in-Count.is c.tokens-said.ensures
+pub returns-in-Ok : goal.returns-in-Ok
+returns-in-Ok c = said-count _ _ _ _ _ c.in-Ok.is c.tokens.ensures
 
-pub returns-in-Refused : goal.returns-in-Refused
-returns-in-Refused c = said-refused _ _ _ _ _ _ _ _ c.in-Refused.is c.number.ensures c.kind.ensures c.offset.ensures c.tokens-said.ensures
+pub returns-in-Err : goal.returns-in-Err
+returns-in-Err c = said-refused _ _ _ _ _ _ _ _ c.in-Err.is c.number.ensures c.kind.ensures c.offset.ensures c.tokens.ensures

@@ -1,23 +1,13 @@
-use Prim.Native.Nat.{◌<◌}
-use native.Mathlib.Omega.{arith}
-use borrow.Author.Rules.{rules}
-use mathlib.Core.Path.{◌≡◌, ◌∙◌}
-use lib.ListN.{length}
-use Rattle.sifc_deepest.proofs.DeepestLaws.{filled_none, filled_more, filled-all}
+use Rattle.std.proofs.Common.{◌≡◌, ℕ, ◌-◌, length, replicate, refl, ap, ◌∙◌, arith}
+use Rattle.std.proofs.lemmas.List.{length-replicate}
+use Rattle.sifc_tokens.specs.Tokens.{padded}
 use Rattle.sifc_deepest.proofs.fill.Goals as goal
 
-pub loop-i-init : goal.loop-i-init
-loop-i-init c = (omega arith, search rules, filled_none c.args.n c.args.script.now)
-
-pub loop-i-smaller : goal.loop-i-smaller
-loop-i-smaller c = omega arith
-
-pub loop-i-preserved : goal.loop-i-preserved
-loop-i-preserved c =
-    let l : c.loop-i.i < length c.args.script.now = omega arith in
-    (omega arith, search rules, filled_more c.args.n c.args.script.now _ _ _ c.requires l c.loop-i.invariant.2 c.byte_at.ensures)
-
 pub returns : goal.returns
+unfolding padded
 returns c =
-    let all : c.loop-i.i ≡ length c.args.script.now = omega arith in
-    c.loop-i.invariant.2 ∙ filled-all c.args.n c.args.script.now _ c.requires all
+    let s = c.split_at_mut-front.ensures in
+    let rest : length c.split_at_mut-front.result.1.now ≡ length c.args.script.now - c.args.n = omega (arith, s.front_len, s.back_len) in
+    let a : c.fill.new.self ≡ replicate c.args.n 40 = c.fill.ensures.after (λ y e. e) ∙ ap (λ k. replicate k 40) s.front_len in
+    let b : c.fill-2.new.self ≡ replicate (length c.args.script.now - c.args.n) 0 = c.fill-2.ensures.after (λ y e. e) ∙ ap (λ k. replicate k 0) rest in
+    rw (a, b, length-replicate {A = ℕ} c.args.n 40) refl

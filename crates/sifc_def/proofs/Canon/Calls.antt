@@ -1,5 +1,5 @@
 -- What a call's answer says of what was read, and the other way round: entry, the token room, the walk.
-use Rattle.std.specs.Prelude.{ℕ, suc, ◌-◌, ◌≤◌, ◌≡◌, refl, Bool, not, ◌⊎◌, ltb, length, replicate}
+use Rattle.std.specs.Prelude.{ℕ, suc, ◌-◌, ◌≤◌, ◌≡◌, refl, Bool, not, ◌⊎◌, ltb, length, replicate, Err, Ok}
 use Rattle.std.proofs.Math.Path.{sym, ap, subst}
 use Rattle.std.proofs.Common.{◌∙◌, inl, inr, arith, nltb→le}
 use mathlib.Core.List.{List, [], ◌∷◌, reverse}
@@ -12,16 +12,10 @@ use Rattle.sifc_err.specs.declared.Refusal.{Refusal}
 use Rattle.sifc_err.specs.declared.Refusal.TheVariants.{LongScript, NotAscii, Uneven, TokensFull, SourceFault, TooDeep, NodesFull, SymbolsFull, ErrorsFull, Flagged, TextFull}
 use Rattle.sifc_word.specs.Base.{if◌then◌otherwise◌, member, span}
 use Rattle.sifc_lex.specs.Lex.{ascii as is_ascii, lex, ending}
-use Rattle.sifc_def.specs.declared.Reading.{Reading}
-use Rattle.sifc_def.specs.declared.Reading.TheVariants.{Read, Refused}
-use Rattle.sifc_def.specs.declared.Texting.{Texting}
-use Rattle.sifc_def.specs.declared.Texting.TheVariants.{Wrote, Refused as NoText}
+use Rattle.sifc_def.specs.Answer.{Reading, Texting}
 use Rattle.sifc_def.specs.State.{St, Out, done, fail, refuse}
 use Rattle.sifc_def.specs.Walk.{End, walk}
-use Rattle.sifc_tokens.specs.declared.call.Checked.{Checked}
-use Rattle.sifc_tokens.specs.declared.call.Checked.TheVariants.{Fine}
-use Rattle.sifc_tokens.specs.declared.call.Checked.TheVariants as check
-use Rattle.sifc_tokens.specs.Tokens.{padded, zeroed, check_of}
+use Rattle.sifc_tokens.specs.Tokens.{Checked, passed, padded, zeroed, check_of}
 use Rattle.sifc_def.specs.Read.{depth_limit, Arrays, Rooms, rooms_of, cleared_arrays, even, entry, Found, Outcome, found, refused, fault_of, ctx_of, ended, read, Called, called, summary, filled, answered, reading, Written, written, text_found, texted, text_call}
 use Rattle.sifc_def.proofs.Canon.Bytes.{Plain}
 use Rattle.sifc_def.specs.Canon.Demand.{size_or_depth, Fits, FitsText, FlagDown, Writes, answered_bytes, bytes_of}
@@ -31,7 +25,7 @@ use Rattle.sifc_def.proofs.Canon.Rooms.{for_room, Alike, same_out, left_out, rig
 
 -- a reading, by what entry says and by what is read
 by_entry : List ℕ → Arrays → Checked → Outcome → Called Reading
-by_entry s a x o = elim x [ check.Refused r ↦ called (Refused r) a | Fine ↦ answered s a o ]
+by_entry s a x o = elim x [ Err r ↦ called (Err r) a | Ok _ ↦ answered s a o ]
 
 -- The reading call is that.
 reading-is : (s : List ℕ) (a : Arrays) → reading s a ≡ by_entry s a (entry s a) (read (rooms_of a) s)
@@ -40,7 +34,7 @@ reading-is s a = refl
 
 -- a text call, likewise
 by_entry_text : List ℕ → Arrays → List ℕ → Checked → Outcome → Written
-by_entry_text s a t x o = elim x [ check.Refused r ↦ written (NoText r) a t | Fine ↦ texted s a t o ]
+by_entry_text s a t x o = elim x [ Err r ↦ written (Err r) a t | Ok _ ↦ texted s a t o ]
 
 -- The text call is that.
 text-is : (s : List ℕ) (a : Arrays) (t : List ℕ) → text_call s a t ≡ by_entry_text s a t (entry s a) (read (rooms_of a) s)
@@ -60,13 +54,13 @@ read_is r s = refl
 
 -- there is a refusal for size or depth
 unfoldable pub Sized : Checked → Type 0
-Sized Fine = ⊥
-Sized (check.Refused r) = T (size_or_depth r)
+Sized (Ok _) = ⊥
+Sized (Err r) = T (size_or_depth r)
 
 -- what entry says, by its three tests: over 65,535 bytes, a byte of 128 or more, arrays of one length
 by_tests : List ℕ → Bool → Bool → Bool → Checked
 unfolding if◌then◌otherwise◌
-by_tests s p q e = elim (if p then check.Refused LongScript otherwise if q then check.Refused (NotAscii (span is_ascii s)) otherwise Fine) [ check.Refused r ↦ check.Refused r | Fine ↦ if e then Fine otherwise check.Refused Uneven ]
+by_tests s p q e = elim (if p then Err LongScript otherwise if q then Err (NotAscii (span is_ascii s)) otherwise passed) [ Err r ↦ Err r | Ok _ ↦ if e then passed otherwise Err Uneven ]
 
 -- Entry is that.
 entry-is : (s : List ℕ) (a : Arrays) → entry s a ≡ by_tests s (ltb 65535 (length s)) (ltb (span is_ascii s) (length s)) (even a)
@@ -74,25 +68,25 @@ unfolding entry check_of by_tests
 entry-is s a = refl
 
 -- a refusal is none
-refused-fine : {X : Type 0} (r : Refusal) → check.Refused r ≡ Fine → X
+refused-fine : {X : Type 0} (r : Refusal) → Err r ≡ passed → X
 refused-fine r e = absurd (let z : ◌≡◌ {A = ℕ} 0 1 = cc in let y : ⊥ = omega arith in y)
 
 -- a script that is not refused is ASCII
-ascii-only : (s : List ℕ) (a : Arrays) → entry s a ≡ Fine → ltb (span is_ascii s) (length s) ≡ false
+ascii-only : (s : List ℕ) (a : Arrays) → entry s a ≡ passed → ltb (span is_ascii s) (length s) ≡ false
 unfolding by_tests if◌then◌otherwise◌
 ascii-only s a h = go (ltb 65535 (length s)) (ltb (span is_ascii s) (length s)) (even a) (sym (entry-is s a) ∙ h)
   where
-    go : (p q e : Bool) → by_tests s p q e ≡ Fine → q ≡ false
+    go : (p q e : Bool) → by_tests s p q e ≡ passed → q ≡ false
     go true q e h = refused-fine LongScript h
     go false true e h = refused-fine (NotAscii (span is_ascii s)) h
     go false false e h = refl
 
 -- an ASCII script is refused for size, or not at all
-entry-ascii : (s : List ℕ) (a : Arrays) → ltb (span is_ascii s) (length s) ≡ false → (entry s a ≡ Fine) ⊎ Sized (entry s a)
+entry-ascii : (s : List ℕ) (a : Arrays) → ltb (span is_ascii s) (length s) ≡ false → (entry s a ≡ passed) ⊎ Sized (entry s a)
 unfolding by_tests if◌then◌otherwise◌ Sized size_or_depth member
 entry-ascii s a h = rw (entry-is s a) (go (ltb 65535 (length s)) (ltb (span is_ascii s) (length s)) (even a) h)
   where
-    go : (p q e : Bool) → q ≡ false → (by_tests s p q e ≡ Fine) ⊎ Sized (by_tests s p q e)
+    go : (p q e : Bool) → q ≡ false → (by_tests s p q e ≡ passed) ⊎ Sized (by_tests s p q e)
     go true q e h = inr tt
     go false true e h = absurd (subst (λ (x : Bool). T x) h tt)
     go false false true h = inl refl
@@ -214,11 +208,11 @@ refused-too r s x w t = go (ltb r.tokens (length (lex s))) (read_is r s)
 
 -- the call on s with the arrays a enters, and finds f
 pub record Reads (s : List ℕ) (a : Arrays) (f : Found) : Type 0 where
-  pub entered : entry s a ≡ Fine
+  pub entered : entry s a ≡ passed
   pub found_it : read (rooms_of a) s ≡ found f
 
 -- what a reading answers and leaves, then
-pub reads-reading : (s : List ℕ) (a : Arrays) (f : Found) → Reads s a f → reading s a ≡ called (Read (summary (ctx_of (rooms_of a) s) f)) (filled (ctx_of (rooms_of a) s) f a)
+pub reads-reading : (s : List ℕ) (a : Arrays) (f : Found) → Reads s a f → reading s a ≡ called (Ok (summary (ctx_of (rooms_of a) s) f)) (filled (ctx_of (rooms_of a) s) f a)
 unfolding by_entry answered
 reads-reading s a f h = reading-is s a ∙ ap (λ (x : Checked). by_entry s a x (read (rooms_of a) s)) h.entered ∙ ap (answered s a) h.found_it
 
@@ -233,9 +227,9 @@ pub flag-down : (s : List ℕ) (a : Arrays) → FlagDown (reading s a).answer �
 flag-down s a h = go (entry s a) (read (rooms_of a) s) refl refl (subst (λ (c : Called Reading). FlagDown c.answer) (reading-is s a) h)
   where
     go : (x : Checked) (o : Outcome) → entry s a ≡ x → read (rooms_of a) s ≡ o → FlagDown (by_entry s a x o).answer → Down s a
-    go (check.Refused x) o e k d = absurd (unfold by_entry FlagDown in d)
-    go Fine (refused x) e k d = absurd (unfold by_entry answered FlagDown in d)
-    go Fine (found f) e k d = record { what = f; reads = record { entered = e; found_it = k }; flag = unfold by_entry answered FlagDown in d }
+    go (Err x) o e k d = absurd (unfold by_entry FlagDown in d)
+    go (Ok _) (refused x) e k d = absurd (unfold by_entry answered FlagDown in d)
+    go (Ok _) (found f) e k d = record { what = f; reads = record { entered = e; found_it = k }; flag = unfold by_entry answered FlagDown in d }
 
 -- A call that meets no refusal for size or depth meets not this one.
 spared : (x : Refusal) → T (size_or_depth x) → T (not (size_or_depth x)) → ⊥
@@ -249,11 +243,11 @@ spared x t u = go (size_or_depth x) t u
 pub fits-reads : (s : List ℕ) (a : Arrays) (f : Found) → ltb (span is_ascii s) (length s) ≡ false → Finds (rooms_of a) s f → Fits (reading s a).answer → Reads s a f
 fits-reads s a f b n h = go (entry s a) refl (entry-ascii s a b) n (subst (λ (c : Called Reading). Fits c.answer) (reading-is s a) h)
   where
-    go : (x : Checked) → entry s a ≡ x → (x ≡ Fine) ⊎ Sized x → Finds (rooms_of a) s f → Fits (by_entry s a x (read (rooms_of a) s)).answer → Reads s a f
-    go (check.Refused x) e (inl z) m k = refused-fine x z
-    go (check.Refused x) e (inr z) m k = absurd (spared x (unfold Sized in z) (unfold by_entry Fits in k))
-    go Fine e z (finds m) k = record { entered = e; found_it = m }
-    go Fine e z (cramped x m t) k = absurd (spared x t (unfold by_entry answered Fits in subst (λ (o : Outcome). Fits (answered s a o).answer) m k))
+    go : (x : Checked) → entry s a ≡ x → (x ≡ passed) ⊎ Sized x → Finds (rooms_of a) s f → Fits (by_entry s a x (read (rooms_of a) s)).answer → Reads s a f
+    go (Err x) e (inl z) m k = refused-fine x z
+    go (Err x) e (inr z) m k = absurd (spared x (unfold Sized in z) (unfold by_entry Fits in k))
+    go (Ok _) e z (finds m) k = record { entered = e; found_it = m }
+    go (Ok _) e z (cramped x m t) k = absurd (spared x t (unfold by_entry answered Fits in subst (λ (o : Outcome). Fits (answered s a o).answer) m k))
 
 -- Neither of the two refusals, so the text is written.
 chosen : (p q : Bool) (x y z : Written) (t : List ℕ) → p ≡ false → (FitsText y.answer → ⊥) → Writes z t → FitsText (if p then x otherwise if q then y otherwise z).answer → Writes (if p then x otherwise if q then y otherwise z) t
@@ -266,21 +260,21 @@ chosen false false x y z t e n w k = w
 texted-writes : (s : List ℕ) (a : Arrays) (t : List ℕ) (f : Found) → f.flag ≡ false → FitsText (texted s a t (found f)).answer → Writes (texted s a t (found f)) (text_found s f)
 unfolding texted FitsText size_or_depth member padded
 texted-writes s a t f d k =
-    chosen f.flag (ltb (length t) (length (text_found s f))) (written (NoText Flagged) (cleared_arrays a) (zeroed t)) (written (NoText TextFull) (cleared_arrays a) (zeroed t))
-    (written (Wrote (length (text_found s f))) (filled (ctx_of (rooms_of a) s) f a) (padded (text_found s f) (length t))) (text_found s f) d (λ u. u)
+    chosen f.flag (ltb (length t) (length (text_found s f))) (written (Err Flagged) (cleared_arrays a) (zeroed t)) (written (Err TextFull) (cleared_arrays a) (zeroed t))
+    (written (Ok (length (text_found s f))) (filled (ctx_of (rooms_of a) s) f a) (padded (text_found s f) (length t))) (text_found s f) d (λ u. u)
     (record { count = refl; bytes = take-append_seam (text_found s f) (replicate (length t - length (text_found s f)) 0) }) k
 
 -- A text call of an ASCII script, read with the flag down, that meets no refusal for size or depth writes the text of what is found.
 pub fits-text : (s : List ℕ) (a : Arrays) (t : List ℕ) (f : Found) → ltb (span is_ascii s) (length s) ≡ false → f.flag ≡ false → Finds (rooms_of a) s f → FitsText (text_call s a t).answer → Writes (text_call s a t) (text_found s f)
 fits-text s a t f b d n h = rw (text-is s a t) (go (entry s a) (entry-ascii s a b) n (subst (λ (c : Written). FitsText c.answer) (text-is s a t) h))
   where
-    go : (x : Checked) → (x ≡ Fine) ⊎ Sized x → Finds (rooms_of a) s f → FitsText (by_entry_text s a t x (read (rooms_of a) s)).answer → Writes (by_entry_text s a t x (read (rooms_of a) s)) (text_found s f)
-    go (check.Refused x) (inl z) m k = refused-fine x z
-    go (check.Refused x) (inr z) m k = absurd (spared x (unfold Sized in z) (unfold by_entry_text FitsText in k))
-    go Fine z (finds m) k =
+    go : (x : Checked) → (x ≡ passed) ⊎ Sized x → Finds (rooms_of a) s f → FitsText (by_entry_text s a t x (read (rooms_of a) s)).answer → Writes (by_entry_text s a t x (read (rooms_of a) s)) (text_found s f)
+    go (Err x) (inl z) m k = refused-fine x z
+    go (Err x) (inr z) m k = absurd (spared x (unfold Sized in z) (unfold by_entry_text FitsText in k))
+    go (Ok _) z (finds m) k =
         let k' : FitsText (texted s a t (found f)).answer = unfold by_entry_text in subst (λ (o : Outcome). FitsText (texted s a t o).answer) m k in
         unfold by_entry_text in subst (λ (o : Outcome). Writes (texted s a t o) (text_found s f)) (sym m) (texted-writes s a t f d k')
-    go Fine z (cramped x m u) k = absurd (spared x u (unfold by_entry_text texted FitsText in subst (λ (o : Outcome). FitsText (texted s a t o).answer) m k))
+    go (Ok _) z (cramped x m u) k = absurd (spared x u (unfold by_entry_text texted FitsText in subst (λ (o : Outcome). FitsText (texted s a t o).answer) m k))
 
 -- The bytes of a call that writes t are t.
 pub writes_bytes : (w : Written) (t : List ℕ) → Writes w t → bytes_of w ≡ t

@@ -1,5 +1,5 @@
 -- The arrays that a reading leaves tell its labels: two readings have the same tree, as document 01 words it, exactly when their label lists are equal.
-use Rattle.std.specs.Prelude.{ℕ, zero, suc, ◌+◌, ◌-◌, ◌*◌, ◌/◌, ◌%◌, ◌<◌, ◌≡◌, refl, Bool, true, false, eqb, replicate}
+use Rattle.std.specs.Prelude.{ℕ, zero, suc, ◌+◌, ◌-◌, ◌*◌, ◌/◌, ◌%◌, ◌<◌, ◌≡◌, refl, Bool, true, false, eqb, replicate, Ok}
 use Rattle.std.proofs.Math.Path.{sym, ap}
 use Rattle.std.proofs.Common.{ap₂, ◌∙◌, subst, inl, inr, arith, mod-eq_of_lt, zero-add, eqb→eq, ltb→lt, lit<}
 use mathlib.Core.List.{List, [], ◌∷◌, ◌++◌, map}
@@ -11,8 +11,7 @@ use Rattle.sifc_err.specs.declared.Token.{Token}
 use Rattle.sifc_word.specs.Base.{if◌then◌otherwise◌, member, part}
 use Rattle.sifc_lex.specs.Lex.{token, lex}
 use Rattle.sifc_lex.proofs.LexLaws.{Run, last, more, lex-runs}
-use Rattle.sifc_def.specs.declared.Reading.{Reading}
-use Rattle.sifc_def.specs.declared.Reading.TheVariants.{Read}
+use Rattle.sifc_def.specs.Answer.{Reading}
 use Rattle.sifc_def.specs.Ast.{Block}
 use Rattle.sifc_def.specs.Label.{Lab, lab, has_token, scope_of, text_of, label, labels}
 use Rattle.sifc_tokens.specs.Tokens.{token_word, offs_of, words_of, padded}
@@ -96,7 +95,7 @@ pub record Told (s : List ℕ) (ns : List Node) (c : Called Reading) : Type 0 wh
   pub texts : (i : ℕ) → token_text s c.arrays i ≡ (word_in s (token_at (lex s) i)).text
 
 -- a reading that finds f tells of its nodes
-pub told : (s : List ℕ) (c : Ctx) (f : Found) (a : Arrays) → f.toks ≡ lex s → Told s f.nodes (called (Read (summary c f)) (filled c f a))
+pub told : (s : List ℕ) (c : Ctx) (f : Found) (a : Arrays) → f.toks ≡ lex s → Told s f.nodes (called (Ok (summary c f)) (filled c f a))
 unfolding node_count padded offs_of words_of
 told s c f a e =
     record {

@@ -4,14 +4,11 @@
 -- trees are the same in shape, flags, scopes and token texts, positions ignored; trees and error flags are those that demand 2's definition gives. For each of
 -- the two, reading its canonical text gives the same tree with the flag down, and the canonical text of that text is itself, byte for byte. Premise: none of
 -- these calls meets a refusal for size or depth (1, 3, 4, 6 to 9 or 11 of document 01, each given exactly when its table says)."
-use Rattle.std.specs.Prelude.{ℕ, ◌/◌, ◌%◌, ◌<◌, ◌≡◌, ◌↔◌, List, [], ◌∷◌, Bool, false, not, T, take, length, get_or}
+use Rattle.std.specs.Prelude.{ℕ, ◌/◌, ◌%◌, ◌<◌, ◌≡◌, ◌↔◌, List, [], ◌∷◌, Bool, false, not, T, take, length, get_or, Err, Ok}
 use Rattle.sifc_err.specs.declared.Refusal.{Refusal}
 use Rattle.sifc_err.specs.Refusal.{number_of}
 use Rattle.sifc_word.specs.Base.{member, part}
-use Rattle.sifc_def.specs.declared.Reading.{Reading}
-use Rattle.sifc_def.specs.declared.Reading.TheVariants.{Read, Refused}
-use Rattle.sifc_def.specs.declared.Texting.{Texting}
-use Rattle.sifc_def.specs.declared.Texting.TheVariants.{Wrote, Refused as NoText}
+use Rattle.sifc_def.specs.Answer.{Reading, Texting}
 use Rattle.sifc_def.specs.Ast.{Block}
 use Rattle.sifc_def.specs.Label.{has_token}
 use Rattle.sifc_def.specs.Read.{Arrays, Called, reading, Written, text_call}
@@ -24,25 +21,25 @@ size_or_depth r = member (number_of r) (1 ∷ 3 ∷ 4 ∷ 6 ∷ 7 ∷ 8 ∷ 9 �
 
 -- a reading that meets none
 unfoldable pub Fits : Reading → Type 0
-Fits (Read m) = Unit {0}
-Fits (Refused r) = T (not (size_or_depth r))
+Fits (Ok m) = Unit {0}
+Fits (Err r) = T (not (size_or_depth r))
 
 -- a text call that meets none
 unfoldable pub FitsText : Texting → Type 0
-FitsText (Wrote n) = Unit {0}
-FitsText (NoText r) = T (not (size_or_depth r))
+FitsText (Ok n) = Unit {0}
+FitsText (Err r) = T (not (size_or_depth r))
 
 -- ── readings ──
 
 -- "A script is read with the flag down when its reading meets no refusal and answers the error flag down; listed errors may remain."
 unfoldable pub FlagDown : Reading → Type 0
-FlagDown (Read m) = m.flag ≡ false
-FlagDown (Refused r) = ⊥
+FlagDown (Ok m) = m.flag ≡ false
+FlagDown (Err r) = ⊥
 
 -- how many nodes a reading answers
 unfoldable pub node_count : Reading → ℕ
-node_count (Read m) = m.nodes
-node_count (Refused r) = 0
+node_count (Ok m) = m.nodes
+node_count (Err r) = 0
 
 -- the first word of node i in the lent arrays
 abbrev pub head_at : Arrays → ℕ → ℕ
@@ -74,13 +71,13 @@ pub record SameTree (s : List ℕ) (c : Called Reading) (s' : List ℕ) (c' : Ca
 
 -- "A canonical text is the bytes that the text call writes, as many as it answers": a call that writes the text t
 pub record Writes (w : Written) (t : List ℕ) : Type 0 where
-  pub count : w.answer ≡ Wrote (length t)
+  pub count : w.answer ≡ Ok (length t)
   pub bytes : take (length t) w.text ≡ t
 
 -- so many bytes of the buffer as are answered
 unfoldable pub answered_bytes : Texting → List ℕ → List ℕ
-answered_bytes (Wrote n) t = take n t
-answered_bytes (NoText r) t = []
+answered_bytes (Ok n) t = take n t
+answered_bytes (Err r) t = []
 
 -- the bytes that a text call writes, none where it is refused
 abbrev pub bytes_of : Written → List ℕ

@@ -11,4 +11,4 @@ blank : (n : ℕ) (s : List ℕ) (a : Arrays) (x : Recorded) (r : ParseErr) → 
 blank n s a x r e b = e ∙ ap (λ (y : ParseErr). reading_records s a (replicate n y)) b
 
 pub returns : goal.returns
-returns g c = ap call_of (blank 1024 _ _ _ _ c.reading_records-said.ensures c.blank-e.ensures)
+returns g c = ap call_of (blank 1024 _ _ _ _ c.reading_records-said.ensures c.blank-errors.ensures)

@@ -1,4 +1,4 @@
-use native.Mathlib.Omega.{arith}
+use Rattle.std.proofs.Common.{refl, arith}
 use Rattle.sifc_lent.proofs.Spots.{placing, placing-long, placing-more, placed, place-small}
 use Rattle.sifc_lent.proofs.place.set_places.Goals as goal
 
@@ -26,14 +26,8 @@ offset_bounds-places-i-in-loop-i c = omega (arith, placing-long c.loop-i.invaria
 pub bounds-places-i-in-loop-i : goal.bounds-places-i-in-loop-i
 bounds-places-i-in-loop-i c = omega (arith, placing-long c.loop-i.invariant c.requires.1, c.requires.1)
 
-pub overflow_add-i : goal.overflow_add-i
-overflow_add-i c = omega (arith, placing-long c.loop-i.invariant c.requires.1, c.requires.1)
-
-pub loop-i-smaller : goal.loop-i-smaller
-loop-i-smaller c = omega arith
-
 pub loop-i-preserved : goal.loop-i-preserved
-loop-i-preserved c = placing-more c.loop-i.invariant c.requires.1 c.loop-i-test.true c.wide.ensures c.off_at-off.ensures c.spot_at-spot.ensures c.token_place-place.ensures c.place_word.ensures
+loop-i-preserved c = placing-more c.loop-i.invariant c.requires.1 c.loop-i-test.true refl c.off_at-off.ensures c.spot_at-spot.ensures c.token_place-place.ensures c.place_word.ensures
 
 pub shape_of-places : goal.shape_of-places
 shape_of-places c = placing-long c.loop-i.invariant c.requires.1

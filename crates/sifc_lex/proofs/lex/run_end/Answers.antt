@@ -1,24 +1,22 @@
-use mathlib.Core.Path.{sym, ◌∙◌, refl}
-use native.Mathlib.Omega.{arith}
-use native.Mathlib.Numerals.{add-one}
+use Rattle.std.proofs.Common.{◌∙◌, sym, ◌<◌, get_or, arith, add-one}
 use Rattle.sifc_word.specs.BaseLaws.{span-at-yes, span-at-no, span-at-end}
-use Rattle.sifc_lex.specs.Class.{test_of}
 use Rattle.sifc_lex.proofs.lex.run_end.Goals as goal
 
-pub loop-i-init : goal.loop-i-init
-loop-i-init c = (omega arith, c.requires, refl)
-
-pub returns-then-not-in_class : goal.returns-then-not-in_class
-returns-then-not-in_class c =
-    let z = span-at-no (test_of c.args.class) c.args.s.now c.loop-i.i c.loop-i-test.true (sym c.in_class.ensures ∙ c.if-not-in_class.true) in
-    omega arith
+pub returns-then-not-passes-clause-run : goal.returns-then-not-passes-clause-run
+returns-then-not-passes-clause-run g c = λ test h.
+    let byte : get_or c.args.s.now c.loop-i.i 0 < 256 = omega (arith, c.type_inv.s c.loop-i.i) in
+    let e = sym (h _ _ byte c.passes.ensures) ∙ c.if-not-passes.true in
+    let z = span-at-no test c.args.s.now c.loop-i.i c.loop-i-test.true e in
+    omega (arith, c.loop-i.invariant test h)
 
 pub loop-i-preserved : goal.loop-i-preserved
-loop-i-preserved c =
-    let z = span-at-yes (test_of c.args.class) c.args.s.now c.loop-i.i c.loop-i-test.true (sym c.in_class.ensures ∙ c.if-not-in_class.false) in
-    (omega arith, omega arith, rw add-one (omega arith))
+loop-i-preserved g c = λ test h.
+    let byte : get_or c.args.s.now c.loop-i.i 0 < 256 = omega (arith, c.type_inv.s c.loop-i.i) in
+    let e = sym (h _ _ byte c.passes.ensures) ∙ c.if-not-passes.false in
+    let z = span-at-yes test c.args.s.now c.loop-i.i c.loop-i-test.true e in
+    rw add-one (omega (arith, c.loop-i.invariant test h))
 
-pub returns : goal.returns
-returns c =
-    let z = span-at-end (test_of c.args.class) c.args.s.now c.loop-i.i c.loop-i-test.false in
-    omega arith
+pub returns-clause-run : goal.returns-clause-run
+returns-clause-run g c = λ test h.
+    let z = span-at-end test c.args.s.now c.loop-i.i c.loop-i-test.false in
+    omega (arith, c.loop-i.invariant test h)

@@ -1,4 +1,3 @@
-use borrow.Author.Rules.{rules}
 use mathlib.Core.Path.{refl}
 use Rattle.sifc_lent.specs.Parts.{settled_of}
 use Rattle.sifc_lent.proofs.PartLaws.{same-arrays}

@@ -7,6 +7,6 @@ pub returns-then-second-eq0 : goal.returns-then-second-eq0
 unfolding invalid_tkn if◌then◌otherwise◌
 returns-then-second-eq0 c = simp (eq-eqb _ 0 c.if-second-eq0.true)
 
-pub returns : goal.returns
+pub returns-else-second-eq0 : goal.returns-else-second-eq0
 unfolding invalid_tkn if◌then◌otherwise◌
-returns c = simp (ne_eqb _ 0 c.if-second-eq0.false)
+returns-else-second-eq0 c = simp (ne_eqb _ 0 c.if-second-eq0.false)

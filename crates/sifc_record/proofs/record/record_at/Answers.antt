@@ -1,4 +1,4 @@
-use mathlib.Core.Path.{sym}
+use mathlib.Core.Path.{sym, refl}
 use native.Mathlib.Omega.{arith}
 use lib.ListN.{take}
 use lib.Seq.{length-take-le}
@@ -12,8 +12,5 @@ slice_bounds-ty_of-end c = sym (length-take-le _ _ c.requires.offs)
 pub slice_bounds-ty_of-end-2 : goal.slice_bounds-ty_of-end-2
 slice_bounds-ty_of-end-2 c = sym (length-take-le _ _ c.requires.words)
 
-pub overflow_add-result : goal.overflow_add-result
-overflow_add-result c = record { fits = omega (arith, c.wide.ensures, c.shared_slice_known-5-1.given c.args.i) }
-
 pub returns : goal.returns
-returns c = recorded-at (toks_of (take c.args.tokens c.args.offs.now) (take c.args.tokens c.args.words.now)) _ _ _ _ _ _ c.wide.ensures c.wide-2.ensures c.ty_of-ty.ensures c.why_of-why.ensures
+returns c = recorded-at (toks_of (take c.args.tokens c.args.offs.now) (take c.args.tokens c.args.words.now)) _ _ _ _ _ _ refl refl c.ty_of-ty.ensures c.why_of-why.ensures

@@ -24,7 +24,7 @@ loop-i-preserved c =
 pub returns : goal.returns
 returns c =
     let ts = toks_of (take c.args.tokens c.args.offs.now) (take c.args.tokens c.args.words.now) in
-    let e : c.loop-i.i ≡ c.args.n = omega (arith, c.loop-i.invariant.0, c.loop-i-test.false) in
+    let e : c.loop-i.i ≡ c.args.n = omega arith in
     c.clear.ensures
     ∙ ap (blank_from c.args.from) (over (firsts ts c.args.places.now c.args.reasons.now) c.args.errors.now c.loop-i.invariant.1)
     ∙ filled ts c.args.places.now c.args.reasons.now c.args.n c.args.from c.loop-i.i c.args.errors.now e

@@ -1,4 +1,4 @@
-use Rattle.std.proofs.Common.{◌-◌, ◌≤◌, take}
+use Rattle.std.proofs.Common.{◌≤◌, take}
 use Rattle.sifc_symtab.specs.Toks.{toks_of}
 use Rattle.sifc_record.proofs.Turn.{Turn}
 use Rattle.sifc_record.proofs.Lists.{firsts}
@@ -6,6 +6,3 @@ use Rattle.sifc_record.proofs.slice.fill.Given as goal
 
 abbrev pub invariant-loop-i : goal.invariant-loop-i
 invariant-loop-i l = (l.i ≤ l.n) × Turn (firsts (toks_of (take l.tokens l.offs) (take l.tokens l.words)) l.places l.reasons) l.fn.errors l.i l.errors
-
-abbrev pub decreases-loop-i : goal.decreases-loop-i
-decreases-loop-i l = l.n - l.i

@@ -8,19 +8,19 @@ pub after_entry-answer-requires : goal.after_entry-answer-requires
 after_entry-answer-requires c = entered-is c.args.script.now (arrays c.args.offs.now c.args.words.now c.args.heads.now c.args.loads.now c.args.symbols.now c.args.places.now c.args.reasons.now) c.requires
 
 pub write_found-requires : goal.write_found-requires
-write_found-requires c = left_is c.args.script.now (arrays c.args.offs.now c.args.words.now c.args.heads.now c.args.loads.now c.args.symbols.now c.args.places.now c.args.reasons.now) c.after_entry-answer.ensures c.requires (record { offs = c.after_entry-answer.auto.offs; words = c.after_entry-answer.auto.words; heads = c.after_entry-answer.auto.heads; loads = c.after_entry-answer.auto.loads; symbols = c.after_entry-answer.auto.symbols; places = c.after_entry-answer.auto.places; reasons = c.after_entry-answer.auto.reasons }) c.in-Read.is
+write_found-requires c = left_is c.args.script.now (arrays c.args.offs.now c.args.words.now c.args.heads.now c.args.loads.now c.args.symbols.now c.args.places.now c.args.reasons.now) c.after_entry-answer.ensures c.requires (record { offs = c.after_entry-answer.auto.offs; words = c.after_entry-answer.auto.words; heads = c.after_entry-answer.auto.heads; loads = c.after_entry-answer.auto.loads; symbols = c.after_entry-answer.auto.symbols; places = c.after_entry-answer.auto.places; reasons = c.after_entry-answer.auto.reasons }) c.in-Ok.is
 
-pub shape_of-offs-in-Read : goal.shape_of-offs-in-Read
-shape_of-offs-in-Read c = c.write_found.auto.offs ∙ c.after_entry-answer.auto.offs
+pub shape_of-offs-in-Ok : goal.shape_of-offs-in-Ok
+shape_of-offs-in-Ok c = c.write_found.auto.offs ∙ c.after_entry-answer.auto.offs
 
-pub shape_of-words-in-Read : goal.shape_of-words-in-Read
-shape_of-words-in-Read c = c.write_found.auto.words ∙ c.after_entry-answer.auto.words
+pub shape_of-words-in-Ok : goal.shape_of-words-in-Ok
+shape_of-words-in-Ok c = c.write_found.auto.words ∙ c.after_entry-answer.auto.words
 
-pub shape_of-heads-in-Read : goal.shape_of-heads-in-Read
-shape_of-heads-in-Read c = c.write_found.auto.heads ∙ c.after_entry-answer.auto.heads
+pub shape_of-heads-in-Ok : goal.shape_of-heads-in-Ok
+shape_of-heads-in-Ok c = c.write_found.auto.heads ∙ c.after_entry-answer.auto.heads
 
-pub returns-in-Read : goal.returns-in-Read
-returns-in-Read c = texts-is c.args.script.now (arrays c.args.offs.now c.args.words.now c.args.heads.now c.args.loads.now c.args.symbols.now c.args.places.now c.args.reasons.now) c.after_entry-answer.ensures c.requires (record { offs = c.after_entry-answer.auto.offs; words = c.after_entry-answer.auto.words; heads = c.after_entry-answer.auto.heads; loads = c.after_entry-answer.auto.loads; symbols = c.after_entry-answer.auto.symbols; places = c.after_entry-answer.auto.places; reasons = c.after_entry-answer.auto.reasons }) c.in-Read.is c.write_found.ensures
+pub returns-in-Ok : goal.returns-in-Ok
+returns-in-Ok c = texts-is c.args.script.now (arrays c.args.offs.now c.args.words.now c.args.heads.now c.args.loads.now c.args.symbols.now c.args.places.now c.args.reasons.now) c.after_entry-answer.ensures c.requires (record { offs = c.after_entry-answer.auto.offs; words = c.after_entry-answer.auto.words; heads = c.after_entry-answer.auto.heads; loads = c.after_entry-answer.auto.loads; symbols = c.after_entry-answer.auto.symbols; places = c.after_entry-answer.auto.places; reasons = c.after_entry-answer.auto.reasons }) c.in-Ok.is c.write_found.ensures
 
-pub returns-in-Refused : goal.returns-in-Refused
-returns-in-Refused c = refused-is c.args.script.now (arrays c.args.offs.now c.args.words.now c.args.heads.now c.args.loads.now c.args.symbols.now c.args.places.now c.args.reasons.now) c.after_entry-answer.ensures c.args.text.now c.in-Refused.is c.clear_from.ensures
+pub returns-in-Err : goal.returns-in-Err
+returns-in-Err c = refused-is c.args.script.now (arrays c.args.offs.now c.args.words.now c.args.heads.now c.args.loads.now c.args.symbols.now c.args.places.now c.args.reasons.now) c.after_entry-answer.ensures c.args.text.now c.in-Err.is (c.fill.ensures.after (λ y e. e))

@@ -7,40 +7,40 @@ pub clear_used-requires : goal.clear_used-requires
 clear_used-requires c = used c.args.script.now c.args.offs.now c.args.words.now c.args.heads.now c.args.loads.now c.args.symbols.now c.args.places.now c.args.reasons.now c.args.m c.requires
 
 pub returns-then-m : goal.returns-then-m
-returns-then-m c = flagged c.args.script.now c.args.offs.now c.args.words.now c.args.heads.now c.args.loads.now c.args.symbols.now c.args.places.now c.args.reasons.now c.args.m c.if-m.true (emptied c.args.script.now c.args.offs.now c.args.words.now c.args.heads.now c.args.loads.now c.args.symbols.now c.args.places.now c.args.reasons.now c.args.m c.requires c.clear_used.ensures) c.clear_from.ensures
+returns-then-m c = flagged c.args.script.now c.args.offs.now c.args.words.now c.args.heads.now c.args.loads.now c.args.symbols.now c.args.places.now c.args.reasons.now c.args.m c.if-m.true (emptied c.args.script.now c.args.offs.now c.args.words.now c.args.heads.now c.args.loads.now c.args.symbols.now c.args.places.now c.args.reasons.now c.args.m c.requires c.clear_used.ensures) (c.fill.ensures.after (λ y e. e))
 
-pub slice_bounds-os-end : goal.slice_bounds-os-end
-slice_bounds-os-end c = in-offs c.args.script.now c.args.offs.now c.args.words.now c.args.heads.now c.args.loads.now c.args.symbols.now c.args.places.now c.args.reasons.now c.args.m c.requires
+pub slice_bounds-tree-end : goal.slice_bounds-tree-end
+slice_bounds-tree-end c = in-offs c.args.script.now c.args.offs.now c.args.words.now c.args.heads.now c.args.loads.now c.args.symbols.now c.args.places.now c.args.reasons.now c.args.m c.requires
 
-pub slice_bounds-os-end-2 : goal.slice_bounds-os-end-2
-slice_bounds-os-end-2 c = sym (length-take-le _ _ (in-offs c.args.script.now c.args.offs.now c.args.words.now c.args.heads.now c.args.loads.now c.args.symbols.now c.args.places.now c.args.reasons.now c.args.m c.requires))
+pub slice_bounds-tree-end-2 : goal.slice_bounds-tree-end-2
+slice_bounds-tree-end-2 c = sym (length-take-le _ _ (in-offs c.args.script.now c.args.offs.now c.args.words.now c.args.heads.now c.args.loads.now c.args.symbols.now c.args.places.now c.args.reasons.now c.args.m c.requires))
 
-pub slice_bounds-ws-end : goal.slice_bounds-ws-end
-slice_bounds-ws-end c = in_words c.args.script.now c.args.offs.now c.args.words.now c.args.heads.now c.args.loads.now c.args.symbols.now c.args.places.now c.args.reasons.now c.args.m c.requires
+pub slice_bounds-tree-end-3 : goal.slice_bounds-tree-end-3
+slice_bounds-tree-end-3 c = in_words c.args.script.now c.args.offs.now c.args.words.now c.args.heads.now c.args.loads.now c.args.symbols.now c.args.places.now c.args.reasons.now c.args.m c.requires
 
-pub slice_bounds-ws-end-2 : goal.slice_bounds-ws-end-2
-slice_bounds-ws-end-2 c = sym (length-take-le _ _ (in_words c.args.script.now c.args.offs.now c.args.words.now c.args.heads.now c.args.loads.now c.args.symbols.now c.args.places.now c.args.reasons.now c.args.m c.requires))
+pub slice_bounds-tree-end-4 : goal.slice_bounds-tree-end-4
+slice_bounds-tree-end-4 c = sym (length-take-le _ _ (in_words c.args.script.now c.args.offs.now c.args.words.now c.args.heads.now c.args.loads.now c.args.symbols.now c.args.places.now c.args.reasons.now c.args.m c.requires))
 
-pub slice_bounds-hs-end : goal.slice_bounds-hs-end
-slice_bounds-hs-end c = in-nodes c.args.script.now c.args.offs.now c.args.words.now c.args.heads.now c.args.loads.now c.args.symbols.now c.args.places.now c.args.reasons.now c.args.m c.requires
+pub slice_bounds-tree-end-5 : goal.slice_bounds-tree-end-5
+slice_bounds-tree-end-5 c = in-nodes c.args.script.now c.args.offs.now c.args.words.now c.args.heads.now c.args.loads.now c.args.symbols.now c.args.places.now c.args.reasons.now c.args.m c.requires
 
-pub slice_bounds-hs-end-2 : goal.slice_bounds-hs-end-2
-slice_bounds-hs-end-2 c = sym (length-take-le _ _ (in-nodes c.args.script.now c.args.offs.now c.args.words.now c.args.heads.now c.args.loads.now c.args.symbols.now c.args.places.now c.args.reasons.now c.args.m c.requires))
+pub slice_bounds-tree-end-6 : goal.slice_bounds-tree-end-6
+slice_bounds-tree-end-6 c = sym (length-take-le _ _ (in-nodes c.args.script.now c.args.offs.now c.args.words.now c.args.heads.now c.args.loads.now c.args.symbols.now c.args.places.now c.args.reasons.now c.args.m c.requires))
 
-pub slice_bounds-ls-end : goal.slice_bounds-ls-end
-slice_bounds-ls-end c = in-loads c.args.script.now c.args.offs.now c.args.words.now c.args.heads.now c.args.loads.now c.args.symbols.now c.args.places.now c.args.reasons.now c.args.m c.requires
+pub slice_bounds-tree-end-7 : goal.slice_bounds-tree-end-7
+slice_bounds-tree-end-7 c = in-loads c.args.script.now c.args.offs.now c.args.words.now c.args.heads.now c.args.loads.now c.args.symbols.now c.args.places.now c.args.reasons.now c.args.m c.requires
 
-pub slice_bounds-ls-end-2 : goal.slice_bounds-ls-end-2
-slice_bounds-ls-end-2 c = sym (length-take-le _ _ (in-loads c.args.script.now c.args.offs.now c.args.words.now c.args.heads.now c.args.loads.now c.args.symbols.now c.args.places.now c.args.reasons.now c.args.m c.requires))
+pub slice_bounds-tree-end-8 : goal.slice_bounds-tree-end-8
+slice_bounds-tree-end-8 c = sym (length-take-le _ _ (in-loads c.args.script.now c.args.offs.now c.args.words.now c.args.heads.now c.args.loads.now c.args.symbols.now c.args.places.now c.args.reasons.now c.args.m c.requires))
 
-pub write_tree-put-requires : goal.write_tree-put-requires
-write_tree-put-requires c = spot c.args.script.now c.args.offs.now c.args.words.now c.args.heads.now c.args.loads.now c.args.symbols.now c.args.places.now c.args.reasons.now c.args.m c.requires c.if-m.false
+pub write_tree-requires : goal.write_tree-requires
+write_tree-requires c = spot c.args.script.now c.args.offs.now c.args.words.now c.args.heads.now c.args.loads.now c.args.symbols.now c.args.places.now c.args.reasons.now c.args.m c.requires c.if-m.false
 
-pub clear_used-requires-in-Refused : goal.clear_used-requires-in-Refused
-clear_used-requires-in-Refused c = used c.args.script.now c.args.offs.now c.args.words.now c.args.heads.now c.args.loads.now c.args.symbols.now c.args.places.now c.args.reasons.now c.args.m c.requires
+pub clear_used-requires-in-Err : goal.clear_used-requires-in-Err
+clear_used-requires-in-Err c = used c.args.script.now c.args.offs.now c.args.words.now c.args.heads.now c.args.loads.now c.args.symbols.now c.args.places.now c.args.reasons.now c.args.m c.requires
 
-pub returns-in-Wrote : goal.returns-in-Wrote
-returns-in-Wrote c = wrote c.args.script.now c.args.offs.now c.args.words.now c.args.heads.now c.args.loads.now c.args.symbols.now c.args.places.now c.args.reasons.now c.args.m c.if-m.false c.write_tree-put.ensures c.in-Wrote.is
+pub returns-in-Ok : goal.returns-in-Ok
+returns-in-Ok c = wrote c.args.script.now c.args.offs.now c.args.words.now c.args.heads.now c.args.loads.now c.args.symbols.now c.args.places.now c.args.reasons.now c.args.m c.if-m.false c.write_tree.ensures c.in-Ok.is
 
-pub returns-in-Refused : goal.returns-in-Refused
-returns-in-Refused c = full c.args.script.now c.args.offs.now c.args.words.now c.args.heads.now c.args.loads.now c.args.symbols.now c.args.places.now c.args.reasons.now c.args.m c.if-m.false c.write_tree-put.ensures c.in-Refused.is (emptied c.args.script.now c.args.offs.now c.args.words.now c.args.heads.now c.args.loads.now c.args.symbols.now c.args.places.now c.args.reasons.now c.args.m c.requires c.clear_used-in-Refused.ensures)
+pub returns-in-Err : goal.returns-in-Err
+returns-in-Err c = full c.args.script.now c.args.offs.now c.args.words.now c.args.heads.now c.args.loads.now c.args.symbols.now c.args.places.now c.args.reasons.now c.args.m c.if-m.false c.write_tree.ensures c.in-Err.is (emptied c.args.script.now c.args.offs.now c.args.words.now c.args.heads.now c.args.loads.now c.args.symbols.now c.args.places.now c.args.reasons.now c.args.m c.requires c.clear_used-in-Err.ensures)

@@ -1,541 +1,376 @@
-use Prim.Native.Nat.{ℕ, ◌+◌, ◌-◌, ◌≤◌, ◌/◌, ◌%◌}
-use borrow.Author.Rules.{rules}
 use native.Mathlib.Omega.{arith}
-use native.Mathlib.Nat.{le_refl}
-use mathlib.Core.Path.{◌≡◌, refl, ◌∙◌}
-use lib.ListN.{length, get_or}
-use Rattle.sifc_put.specs.Place.{inp}
-use Rattle.sifc_put.specs.Post.{fixed, seq, comma}
-use Rattle.sifc_put.specs.Frame.{Part, opening, narrowed, spot, stop, stays, put, here, end, empty, cut-seq, fixed-low}
-use Rattle.sifc_put.specs.Rows.{cut_list, no-list}
-use Rattle.sifc_text_expr.specs.Kinds.{expr_l, operand_l, exprs_l, subscript_l, link_of}
-use Rattle.sifc_text_expr.proofs.Roots.{loose-le, readable, expr-low, operand_low, exprs-low}
-use Rattle.sifc_text_expr.proofs.Forms.{sign_l, sign_low, own_l, own-low, target_l, closed_l, two_l, call_l, index_l, element_l, linked_l, is-bare, is-closed, is-two, is_one, is-chain, is-prim, is_call, counts_target, is-subscript, is-index, is-element, is-linked}
+use mathlib.Core.Path.{sym, ◌∙◌}
+use Prim.Native.Nat.{◌-◌}
+use Rattle.sifc_put.specs.Post.{inp_of}
+use Rattle.sifc_put.proofs.Frame.{spot, put, here, end, stop}
+use Rattle.sifc_put.proofs.Rows.{next-list, no-list}
+use Rattle.sifc_text_expr.specs.Kinds.{expr_l}
+use Rattle.sifc_text_expr.proofs.Roots.{readable, root, root-head}
+use Rattle.sifc_text_expr.proofs.Forms.{counts_target, bare-part, closed-part, prim-part, one-part, chain-part, call-part, subscript-part, index-part, element-part, dot-part, set-part, joined-part, two-part, left-part}
 use Rattle.sifc_text_expr.proofs.writer.+expressions.Goals as goal
 
-pub call-overflow_sub-m : goal.call-overflow_sub-m
-call-overflow_sub-m t c = omega (arith, (readable (inp c.args.script.now c.args.offs.now c.args.words.now c.args.heads.now c.args.loads.now) c.requires.0.tree c.requires.0.lo c.args.hi c.requires.0.spans).some)
-
-pub call-offset_bounds-heads-m : goal.call-offset_bounds-heads-m
-call-offset_bounds-heads-m t c = omega (arith, (readable (inp c.args.script.now c.args.offs.now c.args.words.now c.args.heads.now c.args.loads.now) c.requires.0.tree c.requires.0.lo c.args.hi c.requires.0.spans).in_heads)
-
-pub call-bounds-heads-m : goal.call-bounds-heads-m
-call-bounds-heads-m t c = (readable (inp c.args.script.now c.args.offs.now c.args.words.now c.args.heads.now c.args.loads.now) c.requires.0.tree c.requires.0.lo c.args.hi c.requires.0.spans).in_heads
+pub call-children-count-requires : goal.call-children-count-requires
+call-children-count-requires t c = root-head c.args.w.now c.requires.0
 
 pub call-overflow_sub-count : goal.call-overflow_sub-count
-call-overflow_sub-count t c = omega (arith, c.wide-count.ensures, counts_target (inp c.args.script.now c.args.offs.now c.args.words.now c.args.heads.now c.args.loads.now) c.args.hi c.requires.1 c.requires.0.tree c.requires.0.lo c.requires.0.spans)
+call-overflow_sub-count t c = omega (arith, c.children-count.ensures, counts_target (inp_of c.args.w.now) c.args.w.now.node c.requires.1 c.requires.0.tree c.requires.0.lo c.requires.0.spans)
 
-pub call-put_sign-closed-requires : goal.call-put_sign-closed-requires
-call-put_sign-closed-requires t c = c.requires.0.room
+pub call-overflow_sub-w : goal.call-overflow_sub-w
+call-overflow_sub-w t c = omega (arith, (root c.args.w.now c.requires.0).some)
 
-pub call-returns-in_default : goal.call-returns-in_default
-call-returns-in_default t c =
-    let c0 = narrowed (call_l (inp c.args.script.now c.args.offs.now c.args.words.now c.args.heads.now c.args.loads.now) (c.wide-count.result - 1)) (c.args.hi - 1) (opening {L = expr_l (inp c.args.script.now c.args.offs.now c.args.words.now c.args.heads.now c.args.loads.now)} {text = c.args.text.now} {hi = c.args.hi} {at = c.args.at}) (is_call (inp c.args.script.now c.args.offs.now c.args.words.now c.args.heads.now c.args.loads.now) c.args.hi (c.wide-count.result - 1) c.requires.1 (omega (arith, c.wide-count.ensures))) (omega arith) in
-    stop (seq (seq (target_l (inp c.args.script.now c.args.offs.now c.args.words.now c.args.heads.now c.args.loads.now)) (sign_l 40)) (exprs_l (inp c.args.script.now c.args.offs.now c.args.words.now c.args.heads.now c.args.loads.now) (c.wide-count.result - 1))) (sign_l 41) c0 (cut-seq (seq (seq (target_l (inp c.args.script.now c.args.offs.now c.args.words.now c.args.heads.now c.args.loads.now)) (sign_l 40)) (exprs_l (inp c.args.script.now c.args.offs.now c.args.words.now c.args.heads.now c.args.loads.now) (c.wide-count.result - 1))) (sign_l 41) _) c.put_sign-closed.ensures c.in_default.is
+pub call-returns-in_err-put_sign : goal.call-returns-in_err-put_sign
+call-returns-in_err-put_sign t c =
+    let c0 = call-part c.args.w.now c.requires.1 c.children-count.ensures in
+    stop c0 c.in_err-put_sign.ensures c.from_residual.ensures.0
 
-pub call-exprs-inner-requires : goal.call-exprs-inner-requires
-call-exprs-inner-requires t c =
-    let c0 = narrowed (call_l (inp c.args.script.now c.args.offs.now c.args.words.now c.args.heads.now c.args.loads.now) (c.wide-count.result - 1)) (c.args.hi - 1) (opening {L = expr_l (inp c.args.script.now c.args.offs.now c.args.words.now c.args.heads.now c.args.loads.now)} {text = c.args.text.now} {hi = c.args.hi} {at = c.args.at}) (is_call (inp c.args.script.now c.args.offs.now c.args.words.now c.args.heads.now c.args.loads.now) c.args.hi (c.wide-count.result - 1) c.requires.1 (omega (arith, c.wide-count.ensures))) (omega arith) in
-    let c1 = put (seq (seq (target_l (inp c.args.script.now c.args.offs.now c.args.words.now c.args.heads.now c.args.loads.now)) (sign_l 40)) (exprs_l (inp c.args.script.now c.args.offs.now c.args.words.now c.args.heads.now c.args.loads.now) (c.wide-count.result - 1))) (sign_l 41) c0 (cut-seq (seq (seq (target_l (inp c.args.script.now c.args.offs.now c.args.words.now c.args.heads.now c.args.loads.now)) (sign_l 40)) (exprs_l (inp c.args.script.now c.args.offs.now c.args.words.now c.args.heads.now c.args.loads.now) (c.wide-count.result - 1))) (sign_l 41) _) c.requires.0 (sign_low 41) c.put_sign-closed.ensures c.put_sign-closed.auto.text c.in-Done.is in
-    (omega (arith, c.decreases, (readable (inp c.args.script.now c.args.offs.now c.args.words.now c.args.heads.now c.args.loads.now) c.requires.0.tree c.requires.0.lo c.args.hi c.requires.0.spans).some, stays (seq (seq (target_l (inp c.args.script.now c.args.offs.now c.args.words.now c.args.heads.now c.args.loads.now)) (sign_l 40)) (exprs_l (inp c.args.script.now c.args.offs.now c.args.words.now c.args.heads.now c.args.loads.now) (c.wide-count.result - 1))) (sign_l 41) c0 (cut-seq (seq (seq (target_l (inp c.args.script.now c.args.offs.now c.args.words.now c.args.heads.now c.args.loads.now)) (sign_l 40)) (exprs_l (inp c.args.script.now c.args.offs.now c.args.words.now c.args.heads.now c.args.loads.now) (c.wide-count.result - 1))) (sign_l 41) _) c.requires.0 (sign_low 41) c.put_sign-closed.ensures c.in-Done.is), spot (seq (target_l (inp c.args.script.now c.args.offs.now c.args.words.now c.args.heads.now c.args.loads.now)) (sign_l 40)) (exprs_l (inp c.args.script.now c.args.offs.now c.args.words.now c.args.heads.now c.args.loads.now) (c.wide-count.result - 1)) c1 (cut-seq (seq (target_l (inp c.args.script.now c.args.offs.now c.args.words.now c.args.heads.now c.args.loads.now)) (sign_l 40)) (exprs_l (inp c.args.script.now c.args.offs.now c.args.words.now c.args.heads.now c.args.loads.now) (c.wide-count.result - 1)) _) c.requires.0)
+pub call-exprs-requires : goal.call-exprs-requires
+call-exprs-requires t c =
+    let c0 = call-part c.args.w.now c.requires.1 c.children-count.ensures in
+    let c1 = put c.requires.0 c0 c.in_ok-put_sign.ensures in
+    (omega (arith, c.decreases, (root c.args.w.now c.requires.0).some, c.in_ok-put_sign.ensures.goes.node), spot c.requires.0 c1)
 
-pub call-returns-in_default-inner : goal.call-returns-in_default-inner
-call-returns-in_default-inner t c =
-    let c0 = narrowed (call_l (inp c.args.script.now c.args.offs.now c.args.words.now c.args.heads.now c.args.loads.now) (c.wide-count.result - 1)) (c.args.hi - 1) (opening {L = expr_l (inp c.args.script.now c.args.offs.now c.args.words.now c.args.heads.now c.args.loads.now)} {text = c.args.text.now} {hi = c.args.hi} {at = c.args.at}) (is_call (inp c.args.script.now c.args.offs.now c.args.words.now c.args.heads.now c.args.loads.now) c.args.hi (c.wide-count.result - 1) c.requires.1 (omega (arith, c.wide-count.ensures))) (omega arith) in
-    let c1 = put (seq (seq (target_l (inp c.args.script.now c.args.offs.now c.args.words.now c.args.heads.now c.args.loads.now)) (sign_l 40)) (exprs_l (inp c.args.script.now c.args.offs.now c.args.words.now c.args.heads.now c.args.loads.now) (c.wide-count.result - 1))) (sign_l 41) c0 (cut-seq (seq (seq (target_l (inp c.args.script.now c.args.offs.now c.args.words.now c.args.heads.now c.args.loads.now)) (sign_l 40)) (exprs_l (inp c.args.script.now c.args.offs.now c.args.words.now c.args.heads.now c.args.loads.now) (c.wide-count.result - 1))) (sign_l 41) _) c.requires.0 (sign_low 41) c.put_sign-closed.ensures c.put_sign-closed.auto.text c.in-Done.is in
-    stop (seq (target_l (inp c.args.script.now c.args.offs.now c.args.words.now c.args.heads.now c.args.loads.now)) (sign_l 40)) (exprs_l (inp c.args.script.now c.args.offs.now c.args.words.now c.args.heads.now c.args.loads.now) (c.wide-count.result - 1)) c1 (cut-seq (seq (target_l (inp c.args.script.now c.args.offs.now c.args.words.now c.args.heads.now c.args.loads.now)) (sign_l 40)) (exprs_l (inp c.args.script.now c.args.offs.now c.args.words.now c.args.heads.now c.args.loads.now) (c.wide-count.result - 1)) _) c.exprs-inner.ensures c.in_default-inner.is
+pub call-returns-in_err-exprs : goal.call-returns-in_err-exprs
+call-returns-in_err-exprs t c =
+    let c0 = call-part c.args.w.now c.requires.1 c.children-count.ensures in
+    let c1 = put c.requires.0 c0 c.in_ok-put_sign.ensures in
+    stop c1 c.in_err-exprs.ensures c.from_residual-in_err-exprs.ensures.0
 
-pub call-put_sign-opened-requires : goal.call-put_sign-opened-requires
-call-put_sign-opened-requires t c =
-    let c0 = narrowed (call_l (inp c.args.script.now c.args.offs.now c.args.words.now c.args.heads.now c.args.loads.now) (c.wide-count.result - 1)) (c.args.hi - 1) (opening {L = expr_l (inp c.args.script.now c.args.offs.now c.args.words.now c.args.heads.now c.args.loads.now)} {text = c.args.text.now} {hi = c.args.hi} {at = c.args.at}) (is_call (inp c.args.script.now c.args.offs.now c.args.words.now c.args.heads.now c.args.loads.now) c.args.hi (c.wide-count.result - 1) c.requires.1 (omega (arith, c.wide-count.ensures))) (omega arith) in
-    let c1 = put (seq (seq (target_l (inp c.args.script.now c.args.offs.now c.args.words.now c.args.heads.now c.args.loads.now)) (sign_l 40)) (exprs_l (inp c.args.script.now c.args.offs.now c.args.words.now c.args.heads.now c.args.loads.now) (c.wide-count.result - 1))) (sign_l 41) c0 (cut-seq (seq (seq (target_l (inp c.args.script.now c.args.offs.now c.args.words.now c.args.heads.now c.args.loads.now)) (sign_l 40)) (exprs_l (inp c.args.script.now c.args.offs.now c.args.words.now c.args.heads.now c.args.loads.now) (c.wide-count.result - 1))) (sign_l 41) _) c.requires.0 (sign_low 41) c.put_sign-closed.ensures c.put_sign-closed.auto.text c.in-Done.is in
-    let c2 = put (seq (target_l (inp c.args.script.now c.args.offs.now c.args.words.now c.args.heads.now c.args.loads.now)) (sign_l 40)) (exprs_l (inp c.args.script.now c.args.offs.now c.args.words.now c.args.heads.now c.args.loads.now) (c.wide-count.result - 1)) c1 (cut-seq (seq (target_l (inp c.args.script.now c.args.offs.now c.args.words.now c.args.heads.now c.args.loads.now)) (sign_l 40)) (exprs_l (inp c.args.script.now c.args.offs.now c.args.words.now c.args.heads.now c.args.loads.now) (c.wide-count.result - 1)) _) c.requires.0 (exprs-low (inp c.args.script.now c.args.offs.now c.args.words.now c.args.heads.now c.args.loads.now) (c.wide-count.result - 1)) c.exprs-inner.ensures c.exprs-inner.auto.text c.in-Done-inner.is in
-    (here c2 c.requires.0).room
-
-pub call-returns-in_default-opened : goal.call-returns-in_default-opened
-call-returns-in_default-opened t c =
-    let c0 = narrowed (call_l (inp c.args.script.now c.args.offs.now c.args.words.now c.args.heads.now c.args.loads.now) (c.wide-count.result - 1)) (c.args.hi - 1) (opening {L = expr_l (inp c.args.script.now c.args.offs.now c.args.words.now c.args.heads.now c.args.loads.now)} {text = c.args.text.now} {hi = c.args.hi} {at = c.args.at}) (is_call (inp c.args.script.now c.args.offs.now c.args.words.now c.args.heads.now c.args.loads.now) c.args.hi (c.wide-count.result - 1) c.requires.1 (omega (arith, c.wide-count.ensures))) (omega arith) in
-    let c1 = put (seq (seq (target_l (inp c.args.script.now c.args.offs.now c.args.words.now c.args.heads.now c.args.loads.now)) (sign_l 40)) (exprs_l (inp c.args.script.now c.args.offs.now c.args.words.now c.args.heads.now c.args.loads.now) (c.wide-count.result - 1))) (sign_l 41) c0 (cut-seq (seq (seq (target_l (inp c.args.script.now c.args.offs.now c.args.words.now c.args.heads.now c.args.loads.now)) (sign_l 40)) (exprs_l (inp c.args.script.now c.args.offs.now c.args.words.now c.args.heads.now c.args.loads.now) (c.wide-count.result - 1))) (sign_l 41) _) c.requires.0 (sign_low 41) c.put_sign-closed.ensures c.put_sign-closed.auto.text c.in-Done.is in
-    let c2 = put (seq (target_l (inp c.args.script.now c.args.offs.now c.args.words.now c.args.heads.now c.args.loads.now)) (sign_l 40)) (exprs_l (inp c.args.script.now c.args.offs.now c.args.words.now c.args.heads.now c.args.loads.now) (c.wide-count.result - 1)) c1 (cut-seq (seq (target_l (inp c.args.script.now c.args.offs.now c.args.words.now c.args.heads.now c.args.loads.now)) (sign_l 40)) (exprs_l (inp c.args.script.now c.args.offs.now c.args.words.now c.args.heads.now c.args.loads.now) (c.wide-count.result - 1)) _) c.requires.0 (exprs-low (inp c.args.script.now c.args.offs.now c.args.words.now c.args.heads.now c.args.loads.now) (c.wide-count.result - 1)) c.exprs-inner.ensures c.exprs-inner.auto.text c.in-Done-inner.is in
-    stop (target_l (inp c.args.script.now c.args.offs.now c.args.words.now c.args.heads.now c.args.loads.now)) (sign_l 40) c2 (cut-seq (target_l (inp c.args.script.now c.args.offs.now c.args.words.now c.args.heads.now c.args.loads.now)) (sign_l 40) _) c.put_sign-opened.ensures c.in_default-opened.is
+pub call-returns-in_err-put_sign-2 : goal.call-returns-in_err-put_sign-2
+call-returns-in_err-put_sign-2 t c =
+    let c0 = call-part c.args.w.now c.requires.1 c.children-count.ensures in
+    let c1 = put c.requires.0 c0 c.in_ok-put_sign.ensures in
+    let c2 = put c.requires.0 c1 c.in_ok-exprs.ensures in
+    stop c2 c.in_err-put_sign-2.ensures c.from_residual-in_err-put_sign-2.ensures.0
 
 pub call-leaf-requires : goal.call-leaf-requires
 call-leaf-requires t c =
-    let c0 = narrowed (call_l (inp c.args.script.now c.args.offs.now c.args.words.now c.args.heads.now c.args.loads.now) (c.wide-count.result - 1)) (c.args.hi - 1) (opening {L = expr_l (inp c.args.script.now c.args.offs.now c.args.words.now c.args.heads.now c.args.loads.now)} {text = c.args.text.now} {hi = c.args.hi} {at = c.args.at}) (is_call (inp c.args.script.now c.args.offs.now c.args.words.now c.args.heads.now c.args.loads.now) c.args.hi (c.wide-count.result - 1) c.requires.1 (omega (arith, c.wide-count.ensures))) (omega arith) in
-    let c1 = put (seq (seq (target_l (inp c.args.script.now c.args.offs.now c.args.words.now c.args.heads.now c.args.loads.now)) (sign_l 40)) (exprs_l (inp c.args.script.now c.args.offs.now c.args.words.now c.args.heads.now c.args.loads.now) (c.wide-count.result - 1))) (sign_l 41) c0 (cut-seq (seq (seq (target_l (inp c.args.script.now c.args.offs.now c.args.words.now c.args.heads.now c.args.loads.now)) (sign_l 40)) (exprs_l (inp c.args.script.now c.args.offs.now c.args.words.now c.args.heads.now c.args.loads.now) (c.wide-count.result - 1))) (sign_l 41) _) c.requires.0 (sign_low 41) c.put_sign-closed.ensures c.put_sign-closed.auto.text c.in-Done.is in
-    let c2 = put (seq (target_l (inp c.args.script.now c.args.offs.now c.args.words.now c.args.heads.now c.args.loads.now)) (sign_l 40)) (exprs_l (inp c.args.script.now c.args.offs.now c.args.words.now c.args.heads.now c.args.loads.now) (c.wide-count.result - 1)) c1 (cut-seq (seq (target_l (inp c.args.script.now c.args.offs.now c.args.words.now c.args.heads.now c.args.loads.now)) (sign_l 40)) (exprs_l (inp c.args.script.now c.args.offs.now c.args.words.now c.args.heads.now c.args.loads.now) (c.wide-count.result - 1)) _) c.requires.0 (exprs-low (inp c.args.script.now c.args.offs.now c.args.words.now c.args.heads.now c.args.loads.now) (c.wide-count.result - 1)) c.exprs-inner.ensures c.exprs-inner.auto.text c.in-Done-inner.is in
-    let c3 = put (target_l (inp c.args.script.now c.args.offs.now c.args.words.now c.args.heads.now c.args.loads.now)) (sign_l 40) c2 (cut-seq (target_l (inp c.args.script.now c.args.offs.now c.args.words.now c.args.heads.now c.args.loads.now)) (sign_l 40) _) c.requires.0 (sign_low 40) c.put_sign-opened.ensures c.put_sign-opened.auto.text c.in-Done-opened.is in
-    here c3 c.requires.0
+    let c0 = call-part c.args.w.now c.requires.1 c.children-count.ensures in
+    let c1 = put c.requires.0 c0 c.in_ok-put_sign.ensures in
+    let c2 = put c.requires.0 c1 c.in_ok-exprs.ensures in
+    let c3 = put c.requires.0 c2 c.in_ok-put_sign-2.ensures in
+    here c.requires.0 c3
 
 pub call-returns : goal.call-returns
 call-returns t c =
-    let c0 = narrowed (call_l (inp c.args.script.now c.args.offs.now c.args.words.now c.args.heads.now c.args.loads.now) (c.wide-count.result - 1)) (c.args.hi - 1) (opening {L = expr_l (inp c.args.script.now c.args.offs.now c.args.words.now c.args.heads.now c.args.loads.now)} {text = c.args.text.now} {hi = c.args.hi} {at = c.args.at}) (is_call (inp c.args.script.now c.args.offs.now c.args.words.now c.args.heads.now c.args.loads.now) c.args.hi (c.wide-count.result - 1) c.requires.1 (omega (arith, c.wide-count.ensures))) (omega arith) in
-    let c1 = put (seq (seq (target_l (inp c.args.script.now c.args.offs.now c.args.words.now c.args.heads.now c.args.loads.now)) (sign_l 40)) (exprs_l (inp c.args.script.now c.args.offs.now c.args.words.now c.args.heads.now c.args.loads.now) (c.wide-count.result - 1))) (sign_l 41) c0 (cut-seq (seq (seq (target_l (inp c.args.script.now c.args.offs.now c.args.words.now c.args.heads.now c.args.loads.now)) (sign_l 40)) (exprs_l (inp c.args.script.now c.args.offs.now c.args.words.now c.args.heads.now c.args.loads.now) (c.wide-count.result - 1))) (sign_l 41) _) c.requires.0 (sign_low 41) c.put_sign-closed.ensures c.put_sign-closed.auto.text c.in-Done.is in
-    let c2 = put (seq (target_l (inp c.args.script.now c.args.offs.now c.args.words.now c.args.heads.now c.args.loads.now)) (sign_l 40)) (exprs_l (inp c.args.script.now c.args.offs.now c.args.words.now c.args.heads.now c.args.loads.now) (c.wide-count.result - 1)) c1 (cut-seq (seq (target_l (inp c.args.script.now c.args.offs.now c.args.words.now c.args.heads.now c.args.loads.now)) (sign_l 40)) (exprs_l (inp c.args.script.now c.args.offs.now c.args.words.now c.args.heads.now c.args.loads.now) (c.wide-count.result - 1)) _) c.requires.0 (exprs-low (inp c.args.script.now c.args.offs.now c.args.words.now c.args.heads.now c.args.loads.now) (c.wide-count.result - 1)) c.exprs-inner.ensures c.exprs-inner.auto.text c.in-Done-inner.is in
-    let c3 = put (target_l (inp c.args.script.now c.args.offs.now c.args.words.now c.args.heads.now c.args.loads.now)) (sign_l 40) c2 (cut-seq (target_l (inp c.args.script.now c.args.offs.now c.args.words.now c.args.heads.now c.args.loads.now)) (sign_l 40) _) c.requires.0 (sign_low 40) c.put_sign-opened.ensures c.put_sign-opened.auto.text c.in-Done-opened.is in
-    end c3 c.requires.0.room c.leaf.ensures
+    let c0 = call-part c.args.w.now c.requires.1 c.children-count.ensures in
+    let c1 = put c.requires.0 c0 c.in_ok-put_sign.ensures in
+    let c2 = put c.requires.0 c1 c.in_ok-exprs.ensures in
+    let c3 = put c.requires.0 c2 c.in_ok-put_sign-2.ensures in
+    end c.requires.0 c3 c.leaf.ensures
 
-pub element-overflow_sub-hi : goal.element-overflow_sub-hi
-element-overflow_sub-hi t c = omega (arith, (readable (inp c.args.script.now c.args.offs.now c.args.words.now c.args.heads.now c.args.loads.now) c.requires.0.tree c.requires.0.lo c.args.hi c.requires.0.spans).some)
+pub element-overflow_sub-w : goal.element-overflow_sub-w
+element-overflow_sub-w t c = omega (arith, (root c.args.w.now c.requires.0).some)
 
-pub element-expr-value-requires : goal.element-expr-value-requires
-element-expr-value-requires t c =
-    let c0 = narrowed (element_l (inp c.args.script.now c.args.offs.now c.args.words.now c.args.heads.now c.args.loads.now)) (c.args.hi - 1) (opening {L = expr_l (inp c.args.script.now c.args.offs.now c.args.words.now c.args.heads.now c.args.loads.now)} {text = c.args.text.now} {hi = c.args.hi} {at = c.args.at}) (is-element (inp c.args.script.now c.args.offs.now c.args.words.now c.args.heads.now c.args.loads.now) c.args.hi c.requires.1) (omega arith) in
-    (omega (arith, c.decreases, (readable (inp c.args.script.now c.args.offs.now c.args.words.now c.args.heads.now c.args.loads.now) c.requires.0.tree c.requires.0.lo c.args.hi c.requires.0.spans).some), spot (seq (subscript_l (inp c.args.script.now c.args.offs.now c.args.words.now c.args.heads.now c.args.loads.now)) (sign_l 61)) (expr_l (inp c.args.script.now c.args.offs.now c.args.words.now c.args.heads.now c.args.loads.now)) c0 (cut-seq (seq (subscript_l (inp c.args.script.now c.args.offs.now c.args.words.now c.args.heads.now c.args.loads.now)) (sign_l 61)) (expr_l (inp c.args.script.now c.args.offs.now c.args.words.now c.args.heads.now c.args.loads.now)) _) c.requires.0)
+pub element-expr-requires : goal.element-expr-requires
+element-expr-requires t c =
+    let c0 = element-part c.args.w.now c.requires.1 in
+    (omega (arith, c.decreases, (root c.args.w.now c.requires.0).some), spot c.requires.0 c0)
 
-pub element-returns-in_default : goal.element-returns-in_default
-element-returns-in_default t c =
-    let c0 = narrowed (element_l (inp c.args.script.now c.args.offs.now c.args.words.now c.args.heads.now c.args.loads.now)) (c.args.hi - 1) (opening {L = expr_l (inp c.args.script.now c.args.offs.now c.args.words.now c.args.heads.now c.args.loads.now)} {text = c.args.text.now} {hi = c.args.hi} {at = c.args.at}) (is-element (inp c.args.script.now c.args.offs.now c.args.words.now c.args.heads.now c.args.loads.now) c.args.hi c.requires.1) (omega arith) in
-    stop (seq (subscript_l (inp c.args.script.now c.args.offs.now c.args.words.now c.args.heads.now c.args.loads.now)) (sign_l 61)) (expr_l (inp c.args.script.now c.args.offs.now c.args.words.now c.args.heads.now c.args.loads.now)) c0 (cut-seq (seq (subscript_l (inp c.args.script.now c.args.offs.now c.args.words.now c.args.heads.now c.args.loads.now)) (sign_l 61)) (expr_l (inp c.args.script.now c.args.offs.now c.args.words.now c.args.heads.now c.args.loads.now)) _) c.expr-value.ensures c.in_default.is
+pub element-returns-in_err-expr : goal.element-returns-in_err-expr
+element-returns-in_err-expr t c =
+    let c0 = element-part c.args.w.now c.requires.1 in
+    stop c0 c.in_err-expr.ensures c.from_residual.ensures.0
 
-pub element-put_sign-sign-requires : goal.element-put_sign-sign-requires
-element-put_sign-sign-requires t c =
-    let c0 = narrowed (element_l (inp c.args.script.now c.args.offs.now c.args.words.now c.args.heads.now c.args.loads.now)) (c.args.hi - 1) (opening {L = expr_l (inp c.args.script.now c.args.offs.now c.args.words.now c.args.heads.now c.args.loads.now)} {text = c.args.text.now} {hi = c.args.hi} {at = c.args.at}) (is-element (inp c.args.script.now c.args.offs.now c.args.words.now c.args.heads.now c.args.loads.now) c.args.hi c.requires.1) (omega arith) in
-    let c1 = put (seq (subscript_l (inp c.args.script.now c.args.offs.now c.args.words.now c.args.heads.now c.args.loads.now)) (sign_l 61)) (expr_l (inp c.args.script.now c.args.offs.now c.args.words.now c.args.heads.now c.args.loads.now)) c0 (cut-seq (seq (subscript_l (inp c.args.script.now c.args.offs.now c.args.words.now c.args.heads.now c.args.loads.now)) (sign_l 61)) (expr_l (inp c.args.script.now c.args.offs.now c.args.words.now c.args.heads.now c.args.loads.now)) _) c.requires.0 (expr-low (inp c.args.script.now c.args.offs.now c.args.words.now c.args.heads.now c.args.loads.now)) c.expr-value.ensures c.expr-value.auto.text c.in-Done.is in
-    (here c1 c.requires.0).room
-
-pub element-returns-in_default-sign : goal.element-returns-in_default-sign
-element-returns-in_default-sign t c =
-    let c0 = narrowed (element_l (inp c.args.script.now c.args.offs.now c.args.words.now c.args.heads.now c.args.loads.now)) (c.args.hi - 1) (opening {L = expr_l (inp c.args.script.now c.args.offs.now c.args.words.now c.args.heads.now c.args.loads.now)} {text = c.args.text.now} {hi = c.args.hi} {at = c.args.at}) (is-element (inp c.args.script.now c.args.offs.now c.args.words.now c.args.heads.now c.args.loads.now) c.args.hi c.requires.1) (omega arith) in
-    let c1 = put (seq (subscript_l (inp c.args.script.now c.args.offs.now c.args.words.now c.args.heads.now c.args.loads.now)) (sign_l 61)) (expr_l (inp c.args.script.now c.args.offs.now c.args.words.now c.args.heads.now c.args.loads.now)) c0 (cut-seq (seq (subscript_l (inp c.args.script.now c.args.offs.now c.args.words.now c.args.heads.now c.args.loads.now)) (sign_l 61)) (expr_l (inp c.args.script.now c.args.offs.now c.args.words.now c.args.heads.now c.args.loads.now)) _) c.requires.0 (expr-low (inp c.args.script.now c.args.offs.now c.args.words.now c.args.heads.now c.args.loads.now)) c.expr-value.ensures c.expr-value.auto.text c.in-Done.is in
-    stop (subscript_l (inp c.args.script.now c.args.offs.now c.args.words.now c.args.heads.now c.args.loads.now)) (sign_l 61) c1 (cut-seq (subscript_l (inp c.args.script.now c.args.offs.now c.args.words.now c.args.heads.now c.args.loads.now)) (sign_l 61) _) c.put_sign-sign.ensures c.in_default-sign.is
+pub element-returns-in_err-put_sign : goal.element-returns-in_err-put_sign
+element-returns-in_err-put_sign t c =
+    let c0 = element-part c.args.w.now c.requires.1 in
+    let c1 = put c.requires.0 c0 c.in_ok-expr.ensures in
+    stop c1 c.in_err-put_sign.ensures c.from_residual-in_err-put_sign.ensures.0
 
 pub element-subscript-requires : goal.element-subscript-requires
 element-subscript-requires t c =
-    let c0 = narrowed (element_l (inp c.args.script.now c.args.offs.now c.args.words.now c.args.heads.now c.args.loads.now)) (c.args.hi - 1) (opening {L = expr_l (inp c.args.script.now c.args.offs.now c.args.words.now c.args.heads.now c.args.loads.now)} {text = c.args.text.now} {hi = c.args.hi} {at = c.args.at}) (is-element (inp c.args.script.now c.args.offs.now c.args.words.now c.args.heads.now c.args.loads.now) c.args.hi c.requires.1) (omega arith) in
-    let c1 = put (seq (subscript_l (inp c.args.script.now c.args.offs.now c.args.words.now c.args.heads.now c.args.loads.now)) (sign_l 61)) (expr_l (inp c.args.script.now c.args.offs.now c.args.words.now c.args.heads.now c.args.loads.now)) c0 (cut-seq (seq (subscript_l (inp c.args.script.now c.args.offs.now c.args.words.now c.args.heads.now c.args.loads.now)) (sign_l 61)) (expr_l (inp c.args.script.now c.args.offs.now c.args.words.now c.args.heads.now c.args.loads.now)) _) c.requires.0 (expr-low (inp c.args.script.now c.args.offs.now c.args.words.now c.args.heads.now c.args.loads.now)) c.expr-value.ensures c.expr-value.auto.text c.in-Done.is in
-    let c2 = put (subscript_l (inp c.args.script.now c.args.offs.now c.args.words.now c.args.heads.now c.args.loads.now)) (sign_l 61) c1 (cut-seq (subscript_l (inp c.args.script.now c.args.offs.now c.args.words.now c.args.heads.now c.args.loads.now)) (sign_l 61) _) c.requires.0 (sign_low 61) c.put_sign-sign.ensures c.put_sign-sign.auto.text c.in-Done-sign.is in
-    (omega (arith, c.decreases, (readable (inp c.args.script.now c.args.offs.now c.args.words.now c.args.heads.now c.args.loads.now) c.requires.0.tree c.requires.0.lo c.args.hi c.requires.0.spans).some, stays (seq (subscript_l (inp c.args.script.now c.args.offs.now c.args.words.now c.args.heads.now c.args.loads.now)) (sign_l 61)) (expr_l (inp c.args.script.now c.args.offs.now c.args.words.now c.args.heads.now c.args.loads.now)) c0 (cut-seq (seq (subscript_l (inp c.args.script.now c.args.offs.now c.args.words.now c.args.heads.now c.args.loads.now)) (sign_l 61)) (expr_l (inp c.args.script.now c.args.offs.now c.args.words.now c.args.heads.now c.args.loads.now)) _) c.requires.0 (expr-low (inp c.args.script.now c.args.offs.now c.args.words.now c.args.heads.now c.args.loads.now)) c.expr-value.ensures c.in-Done.is, stays (subscript_l (inp c.args.script.now c.args.offs.now c.args.words.now c.args.heads.now c.args.loads.now)) (sign_l 61) c1 (cut-seq (subscript_l (inp c.args.script.now c.args.offs.now c.args.words.now c.args.heads.now c.args.loads.now)) (sign_l 61) _) c.requires.0 (sign_low 61) c.put_sign-sign.ensures c.in-Done-sign.is), here c2 c.requires.0)
+    let c0 = element-part c.args.w.now c.requires.1 in
+    let c1 = put c.requires.0 c0 c.in_ok-expr.ensures in
+    let c2 = put c.requires.0 c1 c.in_ok-put_sign.ensures in
+    (omega (arith, c.decreases, (root c.args.w.now c.requires.0).some, c.in_ok-expr.ensures.goes.node, c.in_ok-put_sign.ensures.goes.node), here c.requires.0 c2)
 
 pub element-returns : goal.element-returns
 element-returns t c =
-    let c0 = narrowed (element_l (inp c.args.script.now c.args.offs.now c.args.words.now c.args.heads.now c.args.loads.now)) (c.args.hi - 1) (opening {L = expr_l (inp c.args.script.now c.args.offs.now c.args.words.now c.args.heads.now c.args.loads.now)} {text = c.args.text.now} {hi = c.args.hi} {at = c.args.at}) (is-element (inp c.args.script.now c.args.offs.now c.args.words.now c.args.heads.now c.args.loads.now) c.args.hi c.requires.1) (omega arith) in
-    let c1 = put (seq (subscript_l (inp c.args.script.now c.args.offs.now c.args.words.now c.args.heads.now c.args.loads.now)) (sign_l 61)) (expr_l (inp c.args.script.now c.args.offs.now c.args.words.now c.args.heads.now c.args.loads.now)) c0 (cut-seq (seq (subscript_l (inp c.args.script.now c.args.offs.now c.args.words.now c.args.heads.now c.args.loads.now)) (sign_l 61)) (expr_l (inp c.args.script.now c.args.offs.now c.args.words.now c.args.heads.now c.args.loads.now)) _) c.requires.0 (expr-low (inp c.args.script.now c.args.offs.now c.args.words.now c.args.heads.now c.args.loads.now)) c.expr-value.ensures c.expr-value.auto.text c.in-Done.is in
-    let c2 = put (subscript_l (inp c.args.script.now c.args.offs.now c.args.words.now c.args.heads.now c.args.loads.now)) (sign_l 61) c1 (cut-seq (subscript_l (inp c.args.script.now c.args.offs.now c.args.words.now c.args.heads.now c.args.loads.now)) (sign_l 61) _) c.requires.0 (sign_low 61) c.put_sign-sign.ensures c.put_sign-sign.auto.text c.in-Done-sign.is in
-    end c2 c.requires.0.room c.subscript.ensures
+    let c0 = element-part c.args.w.now c.requires.1 in
+    let c1 = put c.requires.0 c0 c.in_ok-expr.ensures in
+    let c2 = put c.requires.0 c1 c.in_ok-put_sign.ensures in
+    end c.requires.0 c2 c.subscript.ensures
 
-pub expr-loop-text-init : goal.expr-loop-text-init
-expr-loop-text-init t c = opening
+pub expr-kind-requires : goal.expr-kind-requires
+expr-kind-requires t c = root-head c.loop-w.w (here c.requires c.loop-w.invariant)
 
-pub expr-overflow_sub-m : goal.expr-overflow_sub-m
-expr-overflow_sub-m t c =
-    let s = here c.loop-text.invariant c.requires in
-    let n = readable (inp c.args.script.now c.args.offs.now c.args.words.now c.args.heads.now c.args.loads.now) s.tree s.lo c.loop-text.h s.spans in
-    omega (arith, n.some)
+pub expr-height-n-requires : goal.expr-height-n-requires
+expr-height-n-requires t c = root c.loop-w.w (here c.requires c.loop-w.invariant)
 
-pub expr-offset_bounds-heads-m : goal.expr-offset_bounds-heads-m
-expr-offset_bounds-heads-m t c =
-    let s = here c.loop-text.invariant c.requires in
-    let n = readable (inp c.args.script.now c.args.offs.now c.args.words.now c.args.heads.now c.args.loads.now) s.tree s.lo c.loop-text.h s.spans in
-    omega (arith, n.in_heads)
-
-pub expr-bounds-heads-m : goal.expr-bounds-heads-m
-expr-bounds-heads-m t c =
-    let s = here c.loop-text.invariant c.requires in
-    let n = readable (inp c.args.script.now c.args.offs.now c.args.words.now c.args.heads.now c.args.loads.now) s.tree s.lo c.loop-text.h s.spans in
-    n.in_heads
-
-pub expr-simple-requires : goal.expr-simple-requires
-expr-simple-requires t c =
-    let s = here c.loop-text.invariant c.requires in
-    let n = readable (inp c.args.script.now c.args.offs.now c.args.words.now c.args.heads.now c.args.loads.now) s.tree s.lo c.loop-text.h s.spans in
-    (omega (arith, c.decreases, c.loop-text.invariant.low), (s, c.if-heads-m-ne-BINARY_EXPR.true))
-
-pub expr-returns-then-heads-m-ne-BINARY_EXPR : goal.expr-returns-then-heads-m-ne-BINARY_EXPR
-expr-returns-then-heads-m-ne-BINARY_EXPR t c = end c.loop-text.invariant c.requires.room c.simple.ensures
-
-pub expr-offset_bounds-loads-m : goal.expr-offset_bounds-loads-m
-expr-offset_bounds-loads-m t c =
-    let s = here c.loop-text.invariant c.requires in
-    let n = readable (inp c.args.script.now c.args.offs.now c.args.words.now c.args.heads.now c.args.loads.now) s.tree s.lo c.loop-text.h s.spans in
-    omega (arith, n.in_loads)
-
-pub expr-bounds-loads-m : goal.expr-bounds-loads-m
-expr-bounds-loads-m t c =
-    let s = here c.loop-text.invariant c.requires in
-    let n = readable (inp c.args.script.now c.args.offs.now c.args.words.now c.args.heads.now c.args.loads.now) s.tree s.lo c.loop-text.h s.spans in
-    n.in_loads
-
-pub expr-offset_bounds-words-tok : goal.expr-offset_bounds-words-tok
-expr-offset_bounds-words-tok t c =
-    let s = here c.loop-text.invariant c.requires in
-    let n = readable (inp c.args.script.now c.args.offs.now c.args.words.now c.args.heads.now c.args.loads.now) s.tree s.lo c.loop-text.h s.spans in
-    omega (arith, n.operator c.if-heads-m-ne-BINARY_EXPR.false, c.wide-tok.ensures)
-
-pub expr-bounds-words-tok : goal.expr-bounds-words-tok
-expr-bounds-words-tok t c =
-    let s = here c.loop-text.invariant c.requires in
-    let n = readable (inp c.args.script.now c.args.offs.now c.args.words.now c.args.heads.now c.args.loads.now) s.tree s.lo c.loop-text.h s.spans in
-    omega (arith, n.operator c.if-heads-m-ne-BINARY_EXPR.false, c.wide-tok.ensures)
-
-pub expr-operand-right-requires : goal.expr-operand-right-requires
-expr-operand-right-requires t c =
-    let s = here c.loop-text.invariant c.requires in
-    let n = readable (inp c.args.script.now c.args.offs.now c.args.words.now c.args.heads.now c.args.loads.now) s.tree s.lo c.loop-text.h s.spans in
-    let b0 = narrowed (two_l (inp c.args.script.now c.args.offs.now c.args.words.now c.args.heads.now c.args.loads.now) c.loop-text.h c.looseness-n.result) (c.loop-text.h - 1) c.loop-text.invariant (is-two (inp c.args.script.now c.args.offs.now c.args.words.now c.args.heads.now c.args.loads.now) c.loop-text.h _ _ c.if-heads-m-ne-BINARY_EXPR.false c.wide-tok.ensures c.looseness-n.ensures) (omega arith) in
-    (omega (arith, c.decreases, c.loop-text.invariant.low, n.some), spot (seq (operand_l (inp c.args.script.now c.args.offs.now c.args.words.now c.args.heads.now c.args.loads.now) (c.looseness-n.result + 1)) (own_l (inp c.args.script.now c.args.offs.now c.args.words.now c.args.heads.now c.args.loads.now) c.loop-text.h)) (operand_l (inp c.args.script.now c.args.offs.now c.args.words.now c.args.heads.now c.args.loads.now) c.looseness-n.result) b0 (cut-seq (seq (operand_l (inp c.args.script.now c.args.offs.now c.args.words.now c.args.heads.now c.args.loads.now) (c.looseness-n.result + 1)) (own_l (inp c.args.script.now c.args.offs.now c.args.words.now c.args.heads.now c.args.loads.now) c.loop-text.h)) (operand_l (inp c.args.script.now c.args.offs.now c.args.words.now c.args.heads.now c.args.loads.now) c.looseness-n.result) _) c.requires)
-
-pub expr-returns-in_default : goal.expr-returns-in_default
-expr-returns-in_default t c =
-    let b0 = narrowed (two_l (inp c.args.script.now c.args.offs.now c.args.words.now c.args.heads.now c.args.loads.now) c.loop-text.h c.looseness-n.result) (c.loop-text.h - 1) c.loop-text.invariant (is-two (inp c.args.script.now c.args.offs.now c.args.words.now c.args.heads.now c.args.loads.now) c.loop-text.h _ _ c.if-heads-m-ne-BINARY_EXPR.false c.wide-tok.ensures c.looseness-n.ensures) (omega arith) in
-    stop (seq (operand_l (inp c.args.script.now c.args.offs.now c.args.words.now c.args.heads.now c.args.loads.now) (c.looseness-n.result + 1)) (own_l (inp c.args.script.now c.args.offs.now c.args.words.now c.args.heads.now c.args.loads.now) c.loop-text.h)) (operand_l (inp c.args.script.now c.args.offs.now c.args.words.now c.args.heads.now c.args.loads.now) c.looseness-n.result) b0 (cut-seq (seq (operand_l (inp c.args.script.now c.args.offs.now c.args.words.now c.args.heads.now c.args.loads.now) (c.looseness-n.result + 1)) (own_l (inp c.args.script.now c.args.offs.now c.args.words.now c.args.heads.now c.args.loads.now) c.loop-text.h)) (operand_l (inp c.args.script.now c.args.offs.now c.args.words.now c.args.heads.now c.args.loads.now) c.looseness-n.result) _) c.operand-right.ensures c.in_default.is
-
-pub expr-put_token-op-requires : goal.expr-put_token-op-requires
-expr-put_token-op-requires t c =
-    let b0 = narrowed (two_l (inp c.args.script.now c.args.offs.now c.args.words.now c.args.heads.now c.args.loads.now) c.loop-text.h c.looseness-n.result) (c.loop-text.h - 1) c.loop-text.invariant (is-two (inp c.args.script.now c.args.offs.now c.args.words.now c.args.heads.now c.args.loads.now) c.loop-text.h _ _ c.if-heads-m-ne-BINARY_EXPR.false c.wide-tok.ensures c.looseness-n.ensures) (omega arith) in
-    let b1 = put (seq (operand_l (inp c.args.script.now c.args.offs.now c.args.words.now c.args.heads.now c.args.loads.now) (c.looseness-n.result + 1)) (own_l (inp c.args.script.now c.args.offs.now c.args.words.now c.args.heads.now c.args.loads.now) c.loop-text.h)) (operand_l (inp c.args.script.now c.args.offs.now c.args.words.now c.args.heads.now c.args.loads.now) c.looseness-n.result) b0 (cut-seq (seq (operand_l (inp c.args.script.now c.args.offs.now c.args.words.now c.args.heads.now c.args.loads.now) (c.looseness-n.result + 1)) (own_l (inp c.args.script.now c.args.offs.now c.args.words.now c.args.heads.now c.args.loads.now) c.loop-text.h)) (operand_l (inp c.args.script.now c.args.offs.now c.args.words.now c.args.heads.now c.args.loads.now) c.looseness-n.result) _) c.requires (operand_low (inp c.args.script.now c.args.offs.now c.args.words.now c.args.heads.now c.args.loads.now) c.looseness-n.result) c.operand-right.ensures c.operand-right.auto.text c.in-Done.is in
-    spot (operand_l (inp c.args.script.now c.args.offs.now c.args.words.now c.args.heads.now c.args.loads.now) (c.looseness-n.result + 1)) (own_l (inp c.args.script.now c.args.offs.now c.args.words.now c.args.heads.now c.args.loads.now) c.loop-text.h) b1 (cut-seq (operand_l (inp c.args.script.now c.args.offs.now c.args.words.now c.args.heads.now c.args.loads.now) (c.looseness-n.result + 1)) (own_l (inp c.args.script.now c.args.offs.now c.args.words.now c.args.heads.now c.args.loads.now) c.loop-text.h) _) c.requires
-
-pub expr-returns-in_default-op : goal.expr-returns-in_default-op
-expr-returns-in_default-op t c =
-    let b0 = narrowed (two_l (inp c.args.script.now c.args.offs.now c.args.words.now c.args.heads.now c.args.loads.now) c.loop-text.h c.looseness-n.result) (c.loop-text.h - 1) c.loop-text.invariant (is-two (inp c.args.script.now c.args.offs.now c.args.words.now c.args.heads.now c.args.loads.now) c.loop-text.h _ _ c.if-heads-m-ne-BINARY_EXPR.false c.wide-tok.ensures c.looseness-n.ensures) (omega arith) in
-    let b1 = put (seq (operand_l (inp c.args.script.now c.args.offs.now c.args.words.now c.args.heads.now c.args.loads.now) (c.looseness-n.result + 1)) (own_l (inp c.args.script.now c.args.offs.now c.args.words.now c.args.heads.now c.args.loads.now) c.loop-text.h)) (operand_l (inp c.args.script.now c.args.offs.now c.args.words.now c.args.heads.now c.args.loads.now) c.looseness-n.result) b0 (cut-seq (seq (operand_l (inp c.args.script.now c.args.offs.now c.args.words.now c.args.heads.now c.args.loads.now) (c.looseness-n.result + 1)) (own_l (inp c.args.script.now c.args.offs.now c.args.words.now c.args.heads.now c.args.loads.now) c.loop-text.h)) (operand_l (inp c.args.script.now c.args.offs.now c.args.words.now c.args.heads.now c.args.loads.now) c.looseness-n.result) _) c.requires (operand_low (inp c.args.script.now c.args.offs.now c.args.words.now c.args.heads.now c.args.loads.now) c.looseness-n.result) c.operand-right.ensures c.operand-right.auto.text c.in-Done.is in
-    stop (operand_l (inp c.args.script.now c.args.offs.now c.args.words.now c.args.heads.now c.args.loads.now) (c.looseness-n.result + 1)) (own_l (inp c.args.script.now c.args.offs.now c.args.words.now c.args.heads.now c.args.loads.now) c.loop-text.h) b1 (cut-seq (operand_l (inp c.args.script.now c.args.offs.now c.args.words.now c.args.heads.now c.args.loads.now) (c.looseness-n.result + 1)) (own_l (inp c.args.script.now c.args.offs.now c.args.words.now c.args.heads.now c.args.loads.now) c.loop-text.h) _) c.put_token-op.ensures c.in_default-op.is
-
-pub expr-height-requires : goal.expr-height-requires
-expr-height-requires t c =
-    let b0 = narrowed (two_l (inp c.args.script.now c.args.offs.now c.args.words.now c.args.heads.now c.args.loads.now) c.loop-text.h c.looseness-n.result) (c.loop-text.h - 1) c.loop-text.invariant (is-two (inp c.args.script.now c.args.offs.now c.args.words.now c.args.heads.now c.args.loads.now) c.loop-text.h _ _ c.if-heads-m-ne-BINARY_EXPR.false c.wide-tok.ensures c.looseness-n.ensures) (omega arith) in
-    let b1 = put (seq (operand_l (inp c.args.script.now c.args.offs.now c.args.words.now c.args.heads.now c.args.loads.now) (c.looseness-n.result + 1)) (own_l (inp c.args.script.now c.args.offs.now c.args.words.now c.args.heads.now c.args.loads.now) c.loop-text.h)) (operand_l (inp c.args.script.now c.args.offs.now c.args.words.now c.args.heads.now c.args.loads.now) c.looseness-n.result) b0 (cut-seq (seq (operand_l (inp c.args.script.now c.args.offs.now c.args.words.now c.args.heads.now c.args.loads.now) (c.looseness-n.result + 1)) (own_l (inp c.args.script.now c.args.offs.now c.args.words.now c.args.heads.now c.args.loads.now) c.loop-text.h)) (operand_l (inp c.args.script.now c.args.offs.now c.args.words.now c.args.heads.now c.args.loads.now) c.looseness-n.result) _) c.requires (operand_low (inp c.args.script.now c.args.offs.now c.args.words.now c.args.heads.now c.args.loads.now) c.looseness-n.result) c.operand-right.ensures c.operand-right.auto.text c.in-Done.is in
-    let b2 = put (operand_l (inp c.args.script.now c.args.offs.now c.args.words.now c.args.heads.now c.args.loads.now) (c.looseness-n.result + 1)) (own_l (inp c.args.script.now c.args.offs.now c.args.words.now c.args.heads.now c.args.loads.now) c.loop-text.h) b1 (cut-seq (operand_l (inp c.args.script.now c.args.offs.now c.args.words.now c.args.heads.now c.args.loads.now) (c.looseness-n.result + 1)) (own_l (inp c.args.script.now c.args.offs.now c.args.words.now c.args.heads.now c.args.loads.now) c.loop-text.h) _) c.requires (own-low (inp c.args.script.now c.args.offs.now c.args.words.now c.args.heads.now c.args.loads.now) c.loop-text.h) c.put_token-op.ensures c.put_token-op.auto.text c.in-Done-op.is in
-    let z = here b2 c.requires in
-    readable (inp c.args.script.now c.args.offs.now c.args.words.now c.args.heads.now c.args.loads.now) z.tree z.lo _ z.spans
-
-pub expr-overflow_add-n : goal.expr-overflow_add-n
-expr-overflow_add-n t c = omega (arith, loose-le (get_or c.args.words.now c.wide-tok.result 0 % 64), c.looseness-n.ensures)
+pub expr-overflow_sub-w : goal.expr-overflow_sub-w
+expr-overflow_sub-w t c = omega (arith, (root c.loop-w.w (here c.requires c.loop-w.invariant)).some)
 
 pub expr-operand-requires : goal.expr-operand-requires
 expr-operand-requires t c =
-    let b0 = narrowed (two_l (inp c.args.script.now c.args.offs.now c.args.words.now c.args.heads.now c.args.loads.now) c.loop-text.h c.looseness-n.result) (c.loop-text.h - 1) c.loop-text.invariant (is-two (inp c.args.script.now c.args.offs.now c.args.words.now c.args.heads.now c.args.loads.now) c.loop-text.h _ _ c.if-heads-m-ne-BINARY_EXPR.false c.wide-tok.ensures c.looseness-n.ensures) (omega arith) in
-    let b1 = put (seq (operand_l (inp c.args.script.now c.args.offs.now c.args.words.now c.args.heads.now c.args.loads.now) (c.looseness-n.result + 1)) (own_l (inp c.args.script.now c.args.offs.now c.args.words.now c.args.heads.now c.args.loads.now) c.loop-text.h)) (operand_l (inp c.args.script.now c.args.offs.now c.args.words.now c.args.heads.now c.args.loads.now) c.looseness-n.result) b0 (cut-seq (seq (operand_l (inp c.args.script.now c.args.offs.now c.args.words.now c.args.heads.now c.args.loads.now) (c.looseness-n.result + 1)) (own_l (inp c.args.script.now c.args.offs.now c.args.words.now c.args.heads.now c.args.loads.now) c.loop-text.h)) (operand_l (inp c.args.script.now c.args.offs.now c.args.words.now c.args.heads.now c.args.loads.now) c.looseness-n.result) _) c.requires (operand_low (inp c.args.script.now c.args.offs.now c.args.words.now c.args.heads.now c.args.loads.now) c.looseness-n.result) c.operand-right.ensures c.operand-right.auto.text c.in-Done.is in
-    let b2 = put (operand_l (inp c.args.script.now c.args.offs.now c.args.words.now c.args.heads.now c.args.loads.now) (c.looseness-n.result + 1)) (own_l (inp c.args.script.now c.args.offs.now c.args.words.now c.args.heads.now c.args.loads.now) c.loop-text.h) b1 (cut-seq (operand_l (inp c.args.script.now c.args.offs.now c.args.words.now c.args.heads.now c.args.loads.now) (c.looseness-n.result + 1)) (own_l (inp c.args.script.now c.args.offs.now c.args.words.now c.args.heads.now c.args.loads.now) c.loop-text.h) _) c.requires (own-low (inp c.args.script.now c.args.offs.now c.args.words.now c.args.heads.now c.args.loads.now) c.loop-text.h) c.put_token-op.ensures c.put_token-op.auto.text c.in-Done-op.is in
-    let s = here c.loop-text.invariant c.requires in
-    let n = readable (inp c.args.script.now c.args.offs.now c.args.words.now c.args.heads.now c.args.loads.now) s.tree s.lo c.loop-text.h s.spans in
-    (omega (arith, c.decreases, c.loop-text.invariant.low, n.some, stays (seq (operand_l (inp c.args.script.now c.args.offs.now c.args.words.now c.args.heads.now c.args.loads.now) (c.looseness-n.result + 1)) (own_l (inp c.args.script.now c.args.offs.now c.args.words.now c.args.heads.now c.args.loads.now) c.loop-text.h)) (operand_l (inp c.args.script.now c.args.offs.now c.args.words.now c.args.heads.now c.args.loads.now) c.looseness-n.result) b0 (cut-seq (seq (operand_l (inp c.args.script.now c.args.offs.now c.args.words.now c.args.heads.now c.args.loads.now) (c.looseness-n.result + 1)) (own_l (inp c.args.script.now c.args.offs.now c.args.words.now c.args.heads.now c.args.loads.now) c.loop-text.h)) (operand_l (inp c.args.script.now c.args.offs.now c.args.words.now c.args.heads.now c.args.loads.now) c.looseness-n.result) _) c.requires (operand_low (inp c.args.script.now c.args.offs.now c.args.words.now c.args.heads.now c.args.loads.now) c.looseness-n.result) c.operand-right.ensures c.in-Done.is, stays (operand_l (inp c.args.script.now c.args.offs.now c.args.words.now c.args.heads.now c.args.loads.now) (c.looseness-n.result + 1)) (own_l (inp c.args.script.now c.args.offs.now c.args.words.now c.args.heads.now c.args.loads.now) c.loop-text.h) b1 (cut-seq (operand_l (inp c.args.script.now c.args.offs.now c.args.words.now c.args.heads.now c.args.loads.now) (c.looseness-n.result + 1)) (own_l (inp c.args.script.now c.args.offs.now c.args.words.now c.args.heads.now c.args.loads.now) c.loop-text.h) _) c.requires (own-low (inp c.args.script.now c.args.offs.now c.args.words.now c.args.heads.now c.args.loads.now) c.loop-text.h) c.put_token-op.ensures c.in-Done-op.is), here b2 c.requires)
+    let c0 = two-part c.loop-w.w c.loop-w.invariant c.kind.ensures c.if-kind-ne-BINARY_EXPR.false c.height-n.ensures in
+    (omega (arith, c.decreases, (root c.loop-w.w (here c.requires c.loop-w.invariant)).some, c.loop-w.invariant.goes.node), spot c.requires c0)
+
+pub expr-returns-in_err-operand : goal.expr-returns-in_err-operand
+expr-returns-in_err-operand t c =
+    let c0 = two-part c.loop-w.w c.loop-w.invariant c.kind.ensures c.if-kind-ne-BINARY_EXPR.false c.height-n.ensures in
+    stop c0 c.in_err-operand.ensures c.from_residual.ensures.0
+
+pub expr-put_token-requires : goal.expr-put_token-requires
+expr-put_token-requires t c =
+    let c0 = two-part c.loop-w.w c.loop-w.invariant c.kind.ensures c.if-kind-ne-BINARY_EXPR.false c.height-n.ensures in
+    let c1 = put c.requires c0 c.in_ok-operand.ensures in
+    spot c.requires c1
+
+pub expr-returns-in_err-put_token : goal.expr-returns-in_err-put_token
+expr-returns-in_err-put_token t c =
+    let c0 = two-part c.loop-w.w c.loop-w.invariant c.kind.ensures c.if-kind-ne-BINARY_EXPR.false c.height-n.ensures in
+    let c1 = put c.requires c0 c.in_ok-operand.ensures in
+    stop c1 c.in_err-put_token.ensures c.from_residual-in_err-put_token.ensures.0
+
+pub expr-height-requires : goal.expr-height-requires
+expr-height-requires t c =
+    let c0 = two-part c.loop-w.w c.loop-w.invariant c.kind.ensures c.if-kind-ne-BINARY_EXPR.false c.height-n.ensures in
+    let c1 = put c.requires c0 c.in_ok-operand.ensures in
+    let c2 = put c.requires c1 c.in_ok-put_token.ensures in
+    readable (inp_of c.put_token.new.self) (here c.requires c2).tree (here c.requires c2).lo c.put_token.new.self.node (here c.requires c2).spans
+
+pub expr-operand-requires-then-n-height : goal.expr-operand-requires-then-n-height
+expr-operand-requires-then-n-height t c =
+    let c0 = two-part c.loop-w.w c.loop-w.invariant c.kind.ensures c.if-kind-ne-BINARY_EXPR.false c.height-n.ensures in
+    let c1 = put c.requires c0 c.in_ok-operand.ensures in
+    let c2 = put c.requires c1 c.in_ok-put_token.ensures in
+    (omega (arith, c.decreases, (root c.loop-w.w (here c.requires c.loop-w.invariant)).some, c.loop-w.invariant.goes.node, c.in_ok-operand.ensures.goes.node, c.in_ok-put_token.ensures.goes.node), here c.requires c2)
 
 pub expr-returns-then-n-height : goal.expr-returns-then-n-height
 expr-returns-then-n-height t c =
-    let b0 = narrowed (two_l (inp c.args.script.now c.args.offs.now c.args.words.now c.args.heads.now c.args.loads.now) c.loop-text.h c.looseness-n.result) (c.loop-text.h - 1) c.loop-text.invariant (is-two (inp c.args.script.now c.args.offs.now c.args.words.now c.args.heads.now c.args.loads.now) c.loop-text.h _ _ c.if-heads-m-ne-BINARY_EXPR.false c.wide-tok.ensures c.looseness-n.ensures) (omega arith) in
-    let b1 = put (seq (operand_l (inp c.args.script.now c.args.offs.now c.args.words.now c.args.heads.now c.args.loads.now) (c.looseness-n.result + 1)) (own_l (inp c.args.script.now c.args.offs.now c.args.words.now c.args.heads.now c.args.loads.now) c.loop-text.h)) (operand_l (inp c.args.script.now c.args.offs.now c.args.words.now c.args.heads.now c.args.loads.now) c.looseness-n.result) b0 (cut-seq (seq (operand_l (inp c.args.script.now c.args.offs.now c.args.words.now c.args.heads.now c.args.loads.now) (c.looseness-n.result + 1)) (own_l (inp c.args.script.now c.args.offs.now c.args.words.now c.args.heads.now c.args.loads.now) c.loop-text.h)) (operand_l (inp c.args.script.now c.args.offs.now c.args.words.now c.args.heads.now c.args.loads.now) c.looseness-n.result) _) c.requires (operand_low (inp c.args.script.now c.args.offs.now c.args.words.now c.args.heads.now c.args.loads.now) c.looseness-n.result) c.operand-right.ensures c.operand-right.auto.text c.in-Done.is in
-    let b2 = put (operand_l (inp c.args.script.now c.args.offs.now c.args.words.now c.args.heads.now c.args.loads.now) (c.looseness-n.result + 1)) (own_l (inp c.args.script.now c.args.offs.now c.args.words.now c.args.heads.now c.args.loads.now) c.loop-text.h) b1 (cut-seq (operand_l (inp c.args.script.now c.args.offs.now c.args.words.now c.args.heads.now c.args.loads.now) (c.looseness-n.result + 1)) (own_l (inp c.args.script.now c.args.offs.now c.args.words.now c.args.heads.now c.args.loads.now) c.loop-text.h) _) c.requires (own-low (inp c.args.script.now c.args.offs.now c.args.words.now c.args.heads.now c.args.loads.now) c.loop-text.h) c.put_token-op.ensures c.put_token-op.auto.text c.in-Done-op.is in
-    end b2 c.requires.room c.operand.ensures
+    let c0 = two-part c.loop-w.w c.loop-w.invariant c.kind.ensures c.if-kind-ne-BINARY_EXPR.false c.height-n.ensures in
+    let c1 = put c.requires c0 c.in_ok-operand.ensures in
+    let c2 = put c.requires c1 c.in_ok-put_token.ensures in
+    end c.requires c2 c.operand-then-n-height.ensures
 
-pub expr-loop-text-smaller : goal.expr-loop-text-smaller
-expr-loop-text-smaller t c =
-    let b0 = narrowed (two_l (inp c.args.script.now c.args.offs.now c.args.words.now c.args.heads.now c.args.loads.now) c.loop-text.h c.looseness-n.result) (c.loop-text.h - 1) c.loop-text.invariant (is-two (inp c.args.script.now c.args.offs.now c.args.words.now c.args.heads.now c.args.loads.now) c.loop-text.h _ _ c.if-heads-m-ne-BINARY_EXPR.false c.wide-tok.ensures c.looseness-n.ensures) (omega arith) in
-    let b1 = put (seq (operand_l (inp c.args.script.now c.args.offs.now c.args.words.now c.args.heads.now c.args.loads.now) (c.looseness-n.result + 1)) (own_l (inp c.args.script.now c.args.offs.now c.args.words.now c.args.heads.now c.args.loads.now) c.loop-text.h)) (operand_l (inp c.args.script.now c.args.offs.now c.args.words.now c.args.heads.now c.args.loads.now) c.looseness-n.result) b0 (cut-seq (seq (operand_l (inp c.args.script.now c.args.offs.now c.args.words.now c.args.heads.now c.args.loads.now) (c.looseness-n.result + 1)) (own_l (inp c.args.script.now c.args.offs.now c.args.words.now c.args.heads.now c.args.loads.now) c.loop-text.h)) (operand_l (inp c.args.script.now c.args.offs.now c.args.words.now c.args.heads.now c.args.loads.now) c.looseness-n.result) _) c.requires (operand_low (inp c.args.script.now c.args.offs.now c.args.words.now c.args.heads.now c.args.loads.now) c.looseness-n.result) c.operand-right.ensures c.operand-right.auto.text c.in-Done.is in
-    let b2 = put (operand_l (inp c.args.script.now c.args.offs.now c.args.words.now c.args.heads.now c.args.loads.now) (c.looseness-n.result + 1)) (own_l (inp c.args.script.now c.args.offs.now c.args.words.now c.args.heads.now c.args.loads.now) c.loop-text.h) b1 (cut-seq (operand_l (inp c.args.script.now c.args.offs.now c.args.words.now c.args.heads.now c.args.loads.now) (c.looseness-n.result + 1)) (own_l (inp c.args.script.now c.args.offs.now c.args.words.now c.args.heads.now c.args.loads.now) c.loop-text.h) _) c.requires (own-low (inp c.args.script.now c.args.offs.now c.args.words.now c.args.heads.now c.args.loads.now) c.loop-text.h) c.put_token-op.ensures c.put_token-op.auto.text c.in-Done-op.is in
-    let s = here c.loop-text.invariant c.requires in
-    let n = readable (inp c.args.script.now c.args.offs.now c.args.words.now c.args.heads.now c.args.loads.now) s.tree s.lo c.loop-text.h s.spans in
-    omega (arith, n.some, stays (seq (operand_l (inp c.args.script.now c.args.offs.now c.args.words.now c.args.heads.now c.args.loads.now) (c.looseness-n.result + 1)) (own_l (inp c.args.script.now c.args.offs.now c.args.words.now c.args.heads.now c.args.loads.now) c.loop-text.h)) (operand_l (inp c.args.script.now c.args.offs.now c.args.words.now c.args.heads.now c.args.loads.now) c.looseness-n.result) b0 (cut-seq (seq (operand_l (inp c.args.script.now c.args.offs.now c.args.words.now c.args.heads.now c.args.loads.now) (c.looseness-n.result + 1)) (own_l (inp c.args.script.now c.args.offs.now c.args.words.now c.args.heads.now c.args.loads.now) c.loop-text.h)) (operand_l (inp c.args.script.now c.args.offs.now c.args.words.now c.args.heads.now c.args.loads.now) c.looseness-n.result) _) c.requires (operand_low (inp c.args.script.now c.args.offs.now c.args.words.now c.args.heads.now c.args.loads.now) c.looseness-n.result) c.operand-right.ensures c.in-Done.is, stays (operand_l (inp c.args.script.now c.args.offs.now c.args.words.now c.args.heads.now c.args.loads.now) (c.looseness-n.result + 1)) (own_l (inp c.args.script.now c.args.offs.now c.args.words.now c.args.heads.now c.args.loads.now) c.loop-text.h) b1 (cut-seq (operand_l (inp c.args.script.now c.args.offs.now c.args.words.now c.args.heads.now c.args.loads.now) (c.looseness-n.result + 1)) (own_l (inp c.args.script.now c.args.offs.now c.args.words.now c.args.heads.now c.args.loads.now) c.loop-text.h) _) c.requires (own-low (inp c.args.script.now c.args.offs.now c.args.words.now c.args.heads.now c.args.loads.now) c.loop-text.h) c.put_token-op.ensures c.in-Done-op.is)
+pub expr-loop-w-smaller : goal.expr-loop-w-smaller
+expr-loop-w-smaller t c = omega (arith, (root c.loop-w.w (here c.requires c.loop-w.invariant)).some, c.in_ok-operand.ensures.goes.node, c.in_ok-put_token.ensures.goes.node)
 
-pub expr-loop-text-preserved : goal.expr-loop-text-preserved
-expr-loop-text-preserved t c =
-    let b0 = narrowed (two_l (inp c.args.script.now c.args.offs.now c.args.words.now c.args.heads.now c.args.loads.now) c.loop-text.h c.looseness-n.result) (c.loop-text.h - 1) c.loop-text.invariant (is-two (inp c.args.script.now c.args.offs.now c.args.words.now c.args.heads.now c.args.loads.now) c.loop-text.h _ _ c.if-heads-m-ne-BINARY_EXPR.false c.wide-tok.ensures c.looseness-n.ensures) (omega arith) in
-    let b1 = put (seq (operand_l (inp c.args.script.now c.args.offs.now c.args.words.now c.args.heads.now c.args.loads.now) (c.looseness-n.result + 1)) (own_l (inp c.args.script.now c.args.offs.now c.args.words.now c.args.heads.now c.args.loads.now) c.loop-text.h)) (operand_l (inp c.args.script.now c.args.offs.now c.args.words.now c.args.heads.now c.args.loads.now) c.looseness-n.result) b0 (cut-seq (seq (operand_l (inp c.args.script.now c.args.offs.now c.args.words.now c.args.heads.now c.args.loads.now) (c.looseness-n.result + 1)) (own_l (inp c.args.script.now c.args.offs.now c.args.words.now c.args.heads.now c.args.loads.now) c.loop-text.h)) (operand_l (inp c.args.script.now c.args.offs.now c.args.words.now c.args.heads.now c.args.loads.now) c.looseness-n.result) _) c.requires (operand_low (inp c.args.script.now c.args.offs.now c.args.words.now c.args.heads.now c.args.loads.now) c.looseness-n.result) c.operand-right.ensures c.operand-right.auto.text c.in-Done.is in
-    let b2 = put (operand_l (inp c.args.script.now c.args.offs.now c.args.words.now c.args.heads.now c.args.loads.now) (c.looseness-n.result + 1)) (own_l (inp c.args.script.now c.args.offs.now c.args.words.now c.args.heads.now c.args.loads.now) c.loop-text.h) b1 (cut-seq (operand_l (inp c.args.script.now c.args.offs.now c.args.words.now c.args.heads.now c.args.loads.now) (c.looseness-n.result + 1)) (own_l (inp c.args.script.now c.args.offs.now c.args.words.now c.args.heads.now c.args.loads.now) c.loop-text.h) _) c.requires (own-low (inp c.args.script.now c.args.offs.now c.args.words.now c.args.heads.now c.args.loads.now) c.loop-text.h) c.put_token-op.ensures c.put_token-op.auto.text c.in-Done-op.is in
-    narrowed (expr_l (inp c.args.script.now c.args.offs.now c.args.words.now c.args.heads.now c.args.loads.now)) _ b2 (is-bare (inp c.args.script.now c.args.offs.now c.args.words.now c.args.heads.now c.args.loads.now) _ _ _ c.height.ensures (omega (arith, c.if-n-height.false))) (le_refl _)
+pub expr-loop-w-preserved : goal.expr-loop-w-preserved
+expr-loop-w-preserved t c =
+    let c0 = two-part c.loop-w.w c.loop-w.invariant c.kind.ensures c.if-kind-ne-BINARY_EXPR.false c.height-n.ensures in
+    let c1 = put c.requires c0 c.in_ok-operand.ensures in
+    let c2 = put c.requires c1 c.in_ok-put_token.ensures in
+    left-part c.put_token.new.self c2 c.height.ensures c.if-n-height.false
 
-pub exprs-loop-left-init : goal.exprs-loop-left-init
-exprs-loop-left-init t c = opening
+pub exprs-expr-requires : goal.exprs-expr-requires
+exprs-expr-requires t c =
+    let c0 = next-list expr_l c.loop-left.left (λ e. omega (arith, c.loop-left-test.true, e)) c.loop-left.invariant in
+    (omega (arith, c.decreases, c.loop-left.invariant.goes.node), spot c.requires c0)
 
-pub exprs-expr-next-requires : goal.exprs-expr-next-requires
-exprs-expr-next-requires t c = (omega (arith, c.decreases, c.loop-left.invariant.low), spot (seq (exprs_l (inp c.args.script.now c.args.offs.now c.args.words.now c.args.heads.now c.args.loads.now) (c.loop-left.left - 1)) (fixed (comma (c.loop-left.left - 1)))) (expr_l (inp c.args.script.now c.args.offs.now c.args.words.now c.args.heads.now c.args.loads.now)) c.loop-left.invariant (cut_list (expr_l (inp c.args.script.now c.args.offs.now c.args.words.now c.args.heads.now c.args.loads.now)) c.loop-left.left _ (λ z. omega (arith, c.loop-left-test.true, z))) c.requires)
+pub exprs-returns-in_err-expr : goal.exprs-returns-in_err-expr
+exprs-returns-in_err-expr t c =
+    let c0 = next-list expr_l c.loop-left.left (λ e. omega (arith, c.loop-left-test.true, e)) c.loop-left.invariant in
+    stop c0 c.in_err-expr.ensures c.from_residual.ensures.0
 
-pub exprs-returns-in_default : goal.exprs-returns-in_default
-exprs-returns-in_default t c = stop (seq (exprs_l (inp c.args.script.now c.args.offs.now c.args.words.now c.args.heads.now c.args.loads.now) (c.loop-left.left - 1)) (fixed (comma (c.loop-left.left - 1)))) (expr_l (inp c.args.script.now c.args.offs.now c.args.words.now c.args.heads.now c.args.loads.now)) c.loop-left.invariant (cut_list (expr_l (inp c.args.script.now c.args.offs.now c.args.words.now c.args.heads.now c.args.loads.now)) c.loop-left.left _ (λ z. omega (arith, c.loop-left-test.true, z))) c.expr-next.ensures c.in_default.is
-
-pub exprs-overflow_sub-left : goal.exprs-overflow_sub-left
-exprs-overflow_sub-left t c = omega (arith, c.loop-left-test.true)
-
-pub exprs-separator-comma-requires : goal.exprs-separator-comma-requires
-exprs-separator-comma-requires t c =
-    let c1 = put (seq (exprs_l (inp c.args.script.now c.args.offs.now c.args.words.now c.args.heads.now c.args.loads.now) (c.loop-left.left - 1)) (fixed (comma (c.loop-left.left - 1)))) (expr_l (inp c.args.script.now c.args.offs.now c.args.words.now c.args.heads.now c.args.loads.now)) c.loop-left.invariant (cut_list (expr_l (inp c.args.script.now c.args.offs.now c.args.words.now c.args.heads.now c.args.loads.now)) c.loop-left.left _ (λ z. omega (arith, c.loop-left-test.true, z))) c.requires (expr-low (inp c.args.script.now c.args.offs.now c.args.words.now c.args.heads.now c.args.loads.now)) c.expr-next.ensures c.expr-next.auto.text c.in-Done.is in
-    (here c1 c.requires).room
-
-pub exprs-returns-in_default-comma : goal.exprs-returns-in_default-comma
-exprs-returns-in_default-comma t c =
-    let c1 = put (seq (exprs_l (inp c.args.script.now c.args.offs.now c.args.words.now c.args.heads.now c.args.loads.now) (c.loop-left.left - 1)) (fixed (comma (c.loop-left.left - 1)))) (expr_l (inp c.args.script.now c.args.offs.now c.args.words.now c.args.heads.now c.args.loads.now)) c.loop-left.invariant (cut_list (expr_l (inp c.args.script.now c.args.offs.now c.args.words.now c.args.heads.now c.args.loads.now)) c.loop-left.left _ (λ z. omega (arith, c.loop-left-test.true, z))) c.requires (expr-low (inp c.args.script.now c.args.offs.now c.args.words.now c.args.heads.now c.args.loads.now)) c.expr-next.ensures c.expr-next.auto.text c.in-Done.is in
-    stop (exprs_l (inp c.args.script.now c.args.offs.now c.args.words.now c.args.heads.now c.args.loads.now) (c.loop-left.left - 1)) (fixed (comma (c.loop-left.left - 1))) c1 (cut-seq (exprs_l (inp c.args.script.now c.args.offs.now c.args.words.now c.args.heads.now c.args.loads.now) (c.loop-left.left - 1)) (fixed (comma (c.loop-left.left - 1))) _) c.separator-comma.ensures c.in_default-comma.is
-
-pub exprs-loop-left-smaller : goal.exprs-loop-left-smaller
-exprs-loop-left-smaller t c = omega (arith, c.loop-left-test.true)
+pub exprs-returns-in_err-separator : goal.exprs-returns-in_err-separator
+exprs-returns-in_err-separator t c =
+    let c0 = next-list expr_l c.loop-left.left (λ e. omega (arith, c.loop-left-test.true, e)) c.loop-left.invariant in
+    let c1 = put c.requires c0 c.in_ok-expr.ensures in
+    stop c1 c.in_err-separator.ensures c.from_residual-in_err-separator.ensures.0
 
 pub exprs-loop-left-preserved : goal.exprs-loop-left-preserved
 exprs-loop-left-preserved t c =
-    let c1 = put (seq (exprs_l (inp c.args.script.now c.args.offs.now c.args.words.now c.args.heads.now c.args.loads.now) (c.loop-left.left - 1)) (fixed (comma (c.loop-left.left - 1)))) (expr_l (inp c.args.script.now c.args.offs.now c.args.words.now c.args.heads.now c.args.loads.now)) c.loop-left.invariant (cut_list (expr_l (inp c.args.script.now c.args.offs.now c.args.words.now c.args.heads.now c.args.loads.now)) c.loop-left.left _ (λ z. omega (arith, c.loop-left-test.true, z))) c.requires (expr-low (inp c.args.script.now c.args.offs.now c.args.words.now c.args.heads.now c.args.loads.now)) c.expr-next.ensures c.expr-next.auto.text c.in-Done.is in
-    put (exprs_l (inp c.args.script.now c.args.offs.now c.args.words.now c.args.heads.now c.args.loads.now) (c.loop-left.left - 1)) (fixed (comma (c.loop-left.left - 1))) c1 (cut-seq (exprs_l (inp c.args.script.now c.args.offs.now c.args.words.now c.args.heads.now c.args.loads.now) (c.loop-left.left - 1)) (fixed (comma (c.loop-left.left - 1))) _) c.requires (fixed-low (comma (c.loop-left.left - 1))) c.separator-comma.ensures c.separator-comma.auto.text c.in-Done-comma.is
+    let c0 = next-list expr_l c.loop-left.left (λ e. omega (arith, c.loop-left-test.true, e)) c.loop-left.invariant in
+    let c1 = put c.requires c0 c.in_ok-expr.ensures in
+    let c2 = put c.requires c1 c.in_ok-separator.ensures in
+    c2
 
 pub exprs-returns : goal.exprs-returns
-exprs-returns t c =
-    let e : c.loop-left.left ≡ 0 = omega (arith, c.loop-left-test.false) in
-    empty c.loop-left.invariant (no-list (expr_l (inp c.args.script.now c.args.offs.now c.args.words.now c.args.heads.now c.args.loads.now)) _ _ e)
+exprs-returns t c = no-list expr_l c.loop-left.left (omega (arith, c.loop-left-test.false)) c.loop-left.invariant
 
-pub linked-overflow_sub-m : goal.linked-overflow_sub-m
-linked-overflow_sub-m t c = omega (arith, (readable (inp c.args.script.now c.args.offs.now c.args.words.now c.args.heads.now c.args.loads.now) c.requires.0.tree c.requires.0.lo c.args.hi c.requires.0.spans).some)
+pub linked-expr-requires : goal.linked-expr-requires
+linked-expr-requires t c =
+    let c0 = joined-part c.args.w.now c.args.sign in
+    (omega (arith, c.decreases), spot c.requires c0)
 
-pub linked-offset_bounds-heads-m : goal.linked-offset_bounds-heads-m
-linked-offset_bounds-heads-m t c = omega (arith, (readable (inp c.args.script.now c.args.offs.now c.args.words.now c.args.heads.now c.args.loads.now) c.requires.0.tree c.requires.0.lo c.args.hi c.requires.0.spans).in_heads)
+pub linked-returns-in_err-expr : goal.linked-returns-in_err-expr
+linked-returns-in_err-expr t c =
+    let c0 = joined-part c.args.w.now c.args.sign in
+    stop c0 c.in_err-expr.ensures c.from_residual.ensures.0
 
-pub linked-bounds-heads-m : goal.linked-bounds-heads-m
-linked-bounds-heads-m t c = (readable (inp c.args.script.now c.args.offs.now c.args.words.now c.args.heads.now c.args.loads.now) c.requires.0.tree c.requires.0.lo c.args.hi c.requires.0.spans).in_heads
-
-pub linked-expr-value-requires : goal.linked-expr-value-requires
-linked-expr-value-requires t c =
-    let c0 = narrowed (linked_l (inp c.args.script.now c.args.offs.now c.args.words.now c.args.heads.now c.args.loads.now) (link_of (get_or c.args.heads.now (c.args.hi - 1) 0 % 32))) (c.args.hi - 1) (opening {L = expr_l (inp c.args.script.now c.args.offs.now c.args.words.now c.args.heads.now c.args.loads.now)} {text = c.args.text.now} {hi = c.args.hi} {at = c.args.at}) (is-linked (inp c.args.script.now c.args.offs.now c.args.words.now c.args.heads.now c.args.loads.now) c.args.hi (link_of (get_or c.args.heads.now (c.args.hi - 1) 0 % 32)) (c.requires.1, c.requires.2, c.requires.3, c.requires.4, c.requires.5, c.requires.6) refl) (omega arith) in
-    (omega (arith, c.decreases, (readable (inp c.args.script.now c.args.offs.now c.args.words.now c.args.heads.now c.args.loads.now) c.requires.0.tree c.requires.0.lo c.args.hi c.requires.0.spans).some), spot (seq (target_l (inp c.args.script.now c.args.offs.now c.args.words.now c.args.heads.now c.args.loads.now)) (sign_l (link_of (get_or c.args.heads.now (c.args.hi - 1) 0 % 32)))) (expr_l (inp c.args.script.now c.args.offs.now c.args.words.now c.args.heads.now c.args.loads.now)) c0 (cut-seq (seq (target_l (inp c.args.script.now c.args.offs.now c.args.words.now c.args.heads.now c.args.loads.now)) (sign_l (link_of (get_or c.args.heads.now (c.args.hi - 1) 0 % 32)))) (expr_l (inp c.args.script.now c.args.offs.now c.args.words.now c.args.heads.now c.args.loads.now)) _) c.requires.0)
-
-pub linked-returns-in_default : goal.linked-returns-in_default
-linked-returns-in_default t c =
-    let c0 = narrowed (linked_l (inp c.args.script.now c.args.offs.now c.args.words.now c.args.heads.now c.args.loads.now) (link_of (get_or c.args.heads.now (c.args.hi - 1) 0 % 32))) (c.args.hi - 1) (opening {L = expr_l (inp c.args.script.now c.args.offs.now c.args.words.now c.args.heads.now c.args.loads.now)} {text = c.args.text.now} {hi = c.args.hi} {at = c.args.at}) (is-linked (inp c.args.script.now c.args.offs.now c.args.words.now c.args.heads.now c.args.loads.now) c.args.hi (link_of (get_or c.args.heads.now (c.args.hi - 1) 0 % 32)) (c.requires.1, c.requires.2, c.requires.3, c.requires.4, c.requires.5, c.requires.6) refl) (omega arith) in
-    stop (seq (target_l (inp c.args.script.now c.args.offs.now c.args.words.now c.args.heads.now c.args.loads.now)) (sign_l (link_of (get_or c.args.heads.now (c.args.hi - 1) 0 % 32)))) (expr_l (inp c.args.script.now c.args.offs.now c.args.words.now c.args.heads.now c.args.loads.now)) c0 (cut-seq (seq (target_l (inp c.args.script.now c.args.offs.now c.args.words.now c.args.heads.now c.args.loads.now)) (sign_l (link_of (get_or c.args.heads.now (c.args.hi - 1) 0 % 32)))) (expr_l (inp c.args.script.now c.args.offs.now c.args.words.now c.args.heads.now c.args.loads.now)) _) c.expr-value.ensures c.in_default.is
-
-pub linked-put_sign-sign-requires : goal.linked-put_sign-sign-requires
-linked-put_sign-sign-requires t c =
-    let c0 = narrowed (linked_l (inp c.args.script.now c.args.offs.now c.args.words.now c.args.heads.now c.args.loads.now) c.link.result) (c.args.hi - 1) (opening {L = expr_l (inp c.args.script.now c.args.offs.now c.args.words.now c.args.heads.now c.args.loads.now)} {text = c.args.text.now} {hi = c.args.hi} {at = c.args.at}) (is-linked (inp c.args.script.now c.args.offs.now c.args.words.now c.args.heads.now c.args.loads.now) c.args.hi c.link.result (c.requires.1, c.requires.2, c.requires.3, c.requires.4, c.requires.5, c.requires.6) c.link.ensures) (omega arith) in
-    let c1 = put (seq (target_l (inp c.args.script.now c.args.offs.now c.args.words.now c.args.heads.now c.args.loads.now)) (sign_l c.link.result)) (expr_l (inp c.args.script.now c.args.offs.now c.args.words.now c.args.heads.now c.args.loads.now)) c0 (cut-seq (seq (target_l (inp c.args.script.now c.args.offs.now c.args.words.now c.args.heads.now c.args.loads.now)) (sign_l c.link.result)) (expr_l (inp c.args.script.now c.args.offs.now c.args.words.now c.args.heads.now c.args.loads.now)) _) c.requires.0 (expr-low (inp c.args.script.now c.args.offs.now c.args.words.now c.args.heads.now c.args.loads.now)) c.expr-value.ensures c.expr-value.auto.text c.in-Done.is in
-    (here c1 c.requires.0).room
-
-pub linked-returns-in_default-sign : goal.linked-returns-in_default-sign
-linked-returns-in_default-sign t c =
-    let c0 = narrowed (linked_l (inp c.args.script.now c.args.offs.now c.args.words.now c.args.heads.now c.args.loads.now) c.link.result) (c.args.hi - 1) (opening {L = expr_l (inp c.args.script.now c.args.offs.now c.args.words.now c.args.heads.now c.args.loads.now)} {text = c.args.text.now} {hi = c.args.hi} {at = c.args.at}) (is-linked (inp c.args.script.now c.args.offs.now c.args.words.now c.args.heads.now c.args.loads.now) c.args.hi c.link.result (c.requires.1, c.requires.2, c.requires.3, c.requires.4, c.requires.5, c.requires.6) c.link.ensures) (omega arith) in
-    let c1 = put (seq (target_l (inp c.args.script.now c.args.offs.now c.args.words.now c.args.heads.now c.args.loads.now)) (sign_l c.link.result)) (expr_l (inp c.args.script.now c.args.offs.now c.args.words.now c.args.heads.now c.args.loads.now)) c0 (cut-seq (seq (target_l (inp c.args.script.now c.args.offs.now c.args.words.now c.args.heads.now c.args.loads.now)) (sign_l c.link.result)) (expr_l (inp c.args.script.now c.args.offs.now c.args.words.now c.args.heads.now c.args.loads.now)) _) c.requires.0 (expr-low (inp c.args.script.now c.args.offs.now c.args.words.now c.args.heads.now c.args.loads.now)) c.expr-value.ensures c.expr-value.auto.text c.in-Done.is in
-    stop (target_l (inp c.args.script.now c.args.offs.now c.args.words.now c.args.heads.now c.args.loads.now)) (sign_l c.link.result) c1 (cut-seq (target_l (inp c.args.script.now c.args.offs.now c.args.words.now c.args.heads.now c.args.loads.now)) (sign_l c.link.result) _) c.put_sign-sign.ensures c.in_default-sign.is
+pub linked-returns-in_err-put_sign : goal.linked-returns-in_err-put_sign
+linked-returns-in_err-put_sign t c =
+    let c0 = joined-part c.args.w.now c.args.sign in
+    let c1 = put c.requires c0 c.in_ok-expr.ensures in
+    stop c1 c.in_err-put_sign.ensures c.from_residual-in_err-put_sign.ensures.0
 
 pub linked-leaf-requires : goal.linked-leaf-requires
 linked-leaf-requires t c =
-    let c0 = narrowed (linked_l (inp c.args.script.now c.args.offs.now c.args.words.now c.args.heads.now c.args.loads.now) c.link.result) (c.args.hi - 1) (opening {L = expr_l (inp c.args.script.now c.args.offs.now c.args.words.now c.args.heads.now c.args.loads.now)} {text = c.args.text.now} {hi = c.args.hi} {at = c.args.at}) (is-linked (inp c.args.script.now c.args.offs.now c.args.words.now c.args.heads.now c.args.loads.now) c.args.hi c.link.result (c.requires.1, c.requires.2, c.requires.3, c.requires.4, c.requires.5, c.requires.6) c.link.ensures) (omega arith) in
-    let c1 = put (seq (target_l (inp c.args.script.now c.args.offs.now c.args.words.now c.args.heads.now c.args.loads.now)) (sign_l c.link.result)) (expr_l (inp c.args.script.now c.args.offs.now c.args.words.now c.args.heads.now c.args.loads.now)) c0 (cut-seq (seq (target_l (inp c.args.script.now c.args.offs.now c.args.words.now c.args.heads.now c.args.loads.now)) (sign_l c.link.result)) (expr_l (inp c.args.script.now c.args.offs.now c.args.words.now c.args.heads.now c.args.loads.now)) _) c.requires.0 (expr-low (inp c.args.script.now c.args.offs.now c.args.words.now c.args.heads.now c.args.loads.now)) c.expr-value.ensures c.expr-value.auto.text c.in-Done.is in
-    let c2 = put (target_l (inp c.args.script.now c.args.offs.now c.args.words.now c.args.heads.now c.args.loads.now)) (sign_l c.link.result) c1 (cut-seq (target_l (inp c.args.script.now c.args.offs.now c.args.words.now c.args.heads.now c.args.loads.now)) (sign_l c.link.result) _) c.requires.0 (sign_low c.link.result) c.put_sign-sign.ensures c.put_sign-sign.auto.text c.in-Done-sign.is in
-    here c2 c.requires.0
+    let c0 = joined-part c.args.w.now c.args.sign in
+    let c1 = put c.requires c0 c.in_ok-expr.ensures in
+    let c2 = put c.requires c1 c.in_ok-put_sign.ensures in
+    here c.requires c2
 
 pub linked-returns : goal.linked-returns
 linked-returns t c =
-    let c0 = narrowed (linked_l (inp c.args.script.now c.args.offs.now c.args.words.now c.args.heads.now c.args.loads.now) c.link.result) (c.args.hi - 1) (opening {L = expr_l (inp c.args.script.now c.args.offs.now c.args.words.now c.args.heads.now c.args.loads.now)} {text = c.args.text.now} {hi = c.args.hi} {at = c.args.at}) (is-linked (inp c.args.script.now c.args.offs.now c.args.words.now c.args.heads.now c.args.loads.now) c.args.hi c.link.result (c.requires.1, c.requires.2, c.requires.3, c.requires.4, c.requires.5, c.requires.6) c.link.ensures) (omega arith) in
-    let c1 = put (seq (target_l (inp c.args.script.now c.args.offs.now c.args.words.now c.args.heads.now c.args.loads.now)) (sign_l c.link.result)) (expr_l (inp c.args.script.now c.args.offs.now c.args.words.now c.args.heads.now c.args.loads.now)) c0 (cut-seq (seq (target_l (inp c.args.script.now c.args.offs.now c.args.words.now c.args.heads.now c.args.loads.now)) (sign_l c.link.result)) (expr_l (inp c.args.script.now c.args.offs.now c.args.words.now c.args.heads.now c.args.loads.now)) _) c.requires.0 (expr-low (inp c.args.script.now c.args.offs.now c.args.words.now c.args.heads.now c.args.loads.now)) c.expr-value.ensures c.expr-value.auto.text c.in-Done.is in
-    let c2 = put (target_l (inp c.args.script.now c.args.offs.now c.args.words.now c.args.heads.now c.args.loads.now)) (sign_l c.link.result) c1 (cut-seq (target_l (inp c.args.script.now c.args.offs.now c.args.words.now c.args.heads.now c.args.loads.now)) (sign_l c.link.result) _) c.requires.0 (sign_low c.link.result) c.put_sign-sign.ensures c.put_sign-sign.auto.text c.in-Done-sign.is in
-    end c2 c.requires.0.room c.leaf.ensures
+    let c0 = joined-part c.args.w.now c.args.sign in
+    let c1 = put c.requires c0 c.in_ok-expr.ensures in
+    let c2 = put c.requires c1 c.in_ok-put_sign.ensures in
+    end c.requires c2 c.leaf.ensures
 
 pub operand-height-requires : goal.operand-height-requires
-operand-height-requires t c = readable (inp c.args.script.now c.args.offs.now c.args.words.now c.args.heads.now c.args.loads.now) c.requires.tree c.requires.lo c.args.hi c.requires.spans
-
-pub operand-expr-requires : goal.operand-expr-requires
-operand-expr-requires t c =
-    let b = narrowed (expr_l (inp c.args.script.now c.args.offs.now c.args.words.now c.args.heads.now c.args.loads.now)) _ (opening {L = operand_l (inp c.args.script.now c.args.offs.now c.args.words.now c.args.heads.now c.args.loads.now) c.args.below} {text = c.args.text.now} {hi = c.args.hi} {at = c.args.at}) (is-bare (inp c.args.script.now c.args.offs.now c.args.words.now c.args.heads.now c.args.loads.now) _ _ _ c.height.ensures c.if-height-below.true) (le_refl _) in
-    (omega (arith, c.decreases), here b c.requires)
+operand-height-requires t c = readable (inp_of c.args.w.now) c.requires.tree c.requires.lo c.args.w.now.node c.requires.spans
 
 pub operand-returns-then-height-below : goal.operand-returns-then-height-below
-operand-returns-then-height-below t c =
-    let b = narrowed (expr_l (inp c.args.script.now c.args.offs.now c.args.words.now c.args.heads.now c.args.loads.now)) _ (opening {L = operand_l (inp c.args.script.now c.args.offs.now c.args.words.now c.args.heads.now c.args.loads.now) c.args.below} {text = c.args.text.now} {hi = c.args.hi} {at = c.args.at}) (is-bare (inp c.args.script.now c.args.offs.now c.args.words.now c.args.heads.now c.args.loads.now) _ _ _ c.height.ensures c.if-height-below.true) (le_refl _) in
-    end b c.requires.room c.expr.ensures
+operand-returns-then-height-below t c = end c.requires (bare-part c.args.w.now c.args.below c.height.ensures c.if-height-below.true) c.expr.ensures
 
-pub operand-put_sign-closed-requires : goal.operand-put_sign-closed-requires
-operand-put_sign-closed-requires t c = c.requires.room
+pub operand-returns-in_err-put_sign : goal.operand-returns-in_err-put_sign
+operand-returns-in_err-put_sign t c =
+    let c0 = closed-part c.args.w.now c.args.below c.height.ensures c.if-height-below.false in
+    stop c0 c.in_err-put_sign.ensures c.from_residual.ensures.0
 
-pub operand-returns-in_default : goal.operand-returns-in_default
-operand-returns-in_default t c =
-    let p0 = narrowed (closed_l (inp c.args.script.now c.args.offs.now c.args.words.now c.args.heads.now c.args.loads.now)) _ (opening {L = operand_l (inp c.args.script.now c.args.offs.now c.args.words.now c.args.heads.now c.args.loads.now) c.args.below} {text = c.args.text.now} {hi = c.args.hi} {at = c.args.at}) (is-closed (inp c.args.script.now c.args.offs.now c.args.words.now c.args.heads.now c.args.loads.now) _ _ _ c.height.ensures c.if-height-below.false) (le_refl _) in
-    stop (seq (sign_l 40) (expr_l (inp c.args.script.now c.args.offs.now c.args.words.now c.args.heads.now c.args.loads.now))) (sign_l 41) p0 (cut-seq (seq (sign_l 40) (expr_l (inp c.args.script.now c.args.offs.now c.args.words.now c.args.heads.now c.args.loads.now))) (sign_l 41) _) c.put_sign-closed.ensures c.in_default.is
+pub operand-expr-requires-2 : goal.operand-expr-requires-2
+operand-expr-requires-2 t c =
+    let c0 = closed-part c.args.w.now c.args.below c.height.ensures c.if-height-below.false in
+    let c1 = put c.requires c0 c.in_ok-put_sign.ensures in
+    (omega (arith, c.decreases, c.in_ok-put_sign.ensures.goes.node), spot c.requires c1)
 
-pub operand-expr-inner-requires : goal.operand-expr-inner-requires
-operand-expr-inner-requires t c =
-    let p0 = narrowed (closed_l (inp c.args.script.now c.args.offs.now c.args.words.now c.args.heads.now c.args.loads.now)) _ (opening {L = operand_l (inp c.args.script.now c.args.offs.now c.args.words.now c.args.heads.now c.args.loads.now) c.args.below} {text = c.args.text.now} {hi = c.args.hi} {at = c.args.at}) (is-closed (inp c.args.script.now c.args.offs.now c.args.words.now c.args.heads.now c.args.loads.now) _ _ _ c.height.ensures c.if-height-below.false) (le_refl _) in
-    let p1 = put (seq (sign_l 40) (expr_l (inp c.args.script.now c.args.offs.now c.args.words.now c.args.heads.now c.args.loads.now))) (sign_l 41) p0 (cut-seq (seq (sign_l 40) (expr_l (inp c.args.script.now c.args.offs.now c.args.words.now c.args.heads.now c.args.loads.now))) (sign_l 41) _) c.requires (sign_low 41) c.put_sign-closed.ensures c.put_sign-closed.auto.text c.in-Done.is in
-    (omega (arith, c.decreases, p1.low), spot (sign_l 40) (expr_l (inp c.args.script.now c.args.offs.now c.args.words.now c.args.heads.now c.args.loads.now)) p1 (cut-seq (sign_l 40) (expr_l (inp c.args.script.now c.args.offs.now c.args.words.now c.args.heads.now c.args.loads.now)) _) c.requires)
-
-pub operand-returns-in_default-inner : goal.operand-returns-in_default-inner
-operand-returns-in_default-inner t c =
-    let p0 = narrowed (closed_l (inp c.args.script.now c.args.offs.now c.args.words.now c.args.heads.now c.args.loads.now)) _ (opening {L = operand_l (inp c.args.script.now c.args.offs.now c.args.words.now c.args.heads.now c.args.loads.now) c.args.below} {text = c.args.text.now} {hi = c.args.hi} {at = c.args.at}) (is-closed (inp c.args.script.now c.args.offs.now c.args.words.now c.args.heads.now c.args.loads.now) _ _ _ c.height.ensures c.if-height-below.false) (le_refl _) in
-    let p1 = put (seq (sign_l 40) (expr_l (inp c.args.script.now c.args.offs.now c.args.words.now c.args.heads.now c.args.loads.now))) (sign_l 41) p0 (cut-seq (seq (sign_l 40) (expr_l (inp c.args.script.now c.args.offs.now c.args.words.now c.args.heads.now c.args.loads.now))) (sign_l 41) _) c.requires (sign_low 41) c.put_sign-closed.ensures c.put_sign-closed.auto.text c.in-Done.is in
-    stop (sign_l 40) (expr_l (inp c.args.script.now c.args.offs.now c.args.words.now c.args.heads.now c.args.loads.now)) p1 (cut-seq (sign_l 40) (expr_l (inp c.args.script.now c.args.offs.now c.args.words.now c.args.heads.now c.args.loads.now)) _) c.expr-inner.ensures c.in_default-inner.is
-
-pub operand-put_sign-requires : goal.operand-put_sign-requires
-operand-put_sign-requires t c =
-    let p0 = narrowed (closed_l (inp c.args.script.now c.args.offs.now c.args.words.now c.args.heads.now c.args.loads.now)) _ (opening {L = operand_l (inp c.args.script.now c.args.offs.now c.args.words.now c.args.heads.now c.args.loads.now) c.args.below} {text = c.args.text.now} {hi = c.args.hi} {at = c.args.at}) (is-closed (inp c.args.script.now c.args.offs.now c.args.words.now c.args.heads.now c.args.loads.now) _ _ _ c.height.ensures c.if-height-below.false) (le_refl _) in
-    let p1 = put (seq (sign_l 40) (expr_l (inp c.args.script.now c.args.offs.now c.args.words.now c.args.heads.now c.args.loads.now))) (sign_l 41) p0 (cut-seq (seq (sign_l 40) (expr_l (inp c.args.script.now c.args.offs.now c.args.words.now c.args.heads.now c.args.loads.now))) (sign_l 41) _) c.requires (sign_low 41) c.put_sign-closed.ensures c.put_sign-closed.auto.text c.in-Done.is in
-    let p2 = put (sign_l 40) (expr_l (inp c.args.script.now c.args.offs.now c.args.words.now c.args.heads.now c.args.loads.now)) p1 (cut-seq (sign_l 40) (expr_l (inp c.args.script.now c.args.offs.now c.args.words.now c.args.heads.now c.args.loads.now)) _) c.requires (expr-low (inp c.args.script.now c.args.offs.now c.args.words.now c.args.heads.now c.args.loads.now)) c.expr-inner.ensures c.expr-inner.auto.text c.in-Done-inner.is in
-    (here p2 c.requires).room
+pub operand-returns-in_err-expr : goal.operand-returns-in_err-expr
+operand-returns-in_err-expr t c =
+    let c0 = closed-part c.args.w.now c.args.below c.height.ensures c.if-height-below.false in
+    let c1 = put c.requires c0 c.in_ok-put_sign.ensures in
+    stop c1 c.in_err-expr.ensures c.from_residual-in_err-expr.ensures.0
 
 pub operand-returns : goal.operand-returns
 operand-returns t c =
-    let p0 = narrowed (closed_l (inp c.args.script.now c.args.offs.now c.args.words.now c.args.heads.now c.args.loads.now)) _ (opening {L = operand_l (inp c.args.script.now c.args.offs.now c.args.words.now c.args.heads.now c.args.loads.now) c.args.below} {text = c.args.text.now} {hi = c.args.hi} {at = c.args.at}) (is-closed (inp c.args.script.now c.args.offs.now c.args.words.now c.args.heads.now c.args.loads.now) _ _ _ c.height.ensures c.if-height-below.false) (le_refl _) in
-    let p1 = put (seq (sign_l 40) (expr_l (inp c.args.script.now c.args.offs.now c.args.words.now c.args.heads.now c.args.loads.now))) (sign_l 41) p0 (cut-seq (seq (sign_l 40) (expr_l (inp c.args.script.now c.args.offs.now c.args.words.now c.args.heads.now c.args.loads.now))) (sign_l 41) _) c.requires (sign_low 41) c.put_sign-closed.ensures c.put_sign-closed.auto.text c.in-Done.is in
-    let p2 = put (sign_l 40) (expr_l (inp c.args.script.now c.args.offs.now c.args.words.now c.args.heads.now c.args.loads.now)) p1 (cut-seq (sign_l 40) (expr_l (inp c.args.script.now c.args.offs.now c.args.words.now c.args.heads.now c.args.loads.now)) _) c.requires (expr-low (inp c.args.script.now c.args.offs.now c.args.words.now c.args.heads.now c.args.loads.now)) c.expr-inner.ensures c.expr-inner.auto.text c.in-Done-inner.is in
-    end p2 c.requires.room c.put_sign.ensures
+    let c0 = closed-part c.args.w.now c.args.below c.height.ensures c.if-height-below.false in
+    let c1 = put c.requires c0 c.in_ok-put_sign.ensures in
+    let c2 = put c.requires c1 c.in_ok-expr.ensures in
+    end c.requires c2 c.put_sign-2.ensures
 
-pub simple-overflow_sub-kind : goal.simple-overflow_sub-kind
-simple-overflow_sub-kind t c = omega (arith, (readable (inp c.args.script.now c.args.offs.now c.args.words.now c.args.heads.now c.args.loads.now) c.requires.0.tree c.requires.0.lo c.args.hi c.requires.0.spans).some)
-
-pub simple-offset_bounds-heads-hi : goal.simple-offset_bounds-heads-hi
-simple-offset_bounds-heads-hi t c = omega (arith, (readable (inp c.args.script.now c.args.offs.now c.args.words.now c.args.heads.now c.args.loads.now) c.requires.0.tree c.requires.0.lo c.args.hi c.requires.0.spans).in_heads)
-
-pub simple-bounds-heads-hi : goal.simple-bounds-heads-hi
-simple-bounds-heads-hi t c = (readable (inp c.args.script.now c.args.offs.now c.args.words.now c.args.heads.now c.args.loads.now) c.requires.0.tree c.requires.0.lo c.args.hi c.requires.0.spans).in_heads
+pub simple-kind-kind-requires : goal.simple-kind-kind-requires
+simple-kind-kind-requires t c = root-head c.args.w.now c.requires.0
 
 pub simple-leaf-requires : goal.simple-leaf-requires
-simple-leaf-requires t c =
-    let p = narrowed (target_l (inp c.args.script.now c.args.offs.now c.args.words.now c.args.heads.now c.args.loads.now)) _ (opening {L = expr_l (inp c.args.script.now c.args.offs.now c.args.words.now c.args.heads.now c.args.loads.now)} {text = c.args.text.now} {hi = c.args.hi} {at = c.args.at}) (is-prim (inp c.args.script.now c.args.offs.now c.args.words.now c.args.heads.now c.args.loads.now) _ c.if-kind-eq-PRIMARY_EXPR.true) (le_refl _) in
-    here p c.requires.0
+simple-leaf-requires t c = here c.requires.0 (prim-part c.args.w.now c.kind-kind.ensures c.if-kind-eq-PRIMARY_EXPR.true)
 
 pub simple-returns-then-kind-eq-PRIMARY_EXPR : goal.simple-returns-then-kind-eq-PRIMARY_EXPR
-simple-returns-then-kind-eq-PRIMARY_EXPR t c =
-    let p = narrowed (target_l (inp c.args.script.now c.args.offs.now c.args.words.now c.args.heads.now c.args.loads.now)) _ (opening {L = expr_l (inp c.args.script.now c.args.offs.now c.args.words.now c.args.heads.now c.args.loads.now)} {text = c.args.text.now} {hi = c.args.hi} {at = c.args.at}) (is-prim (inp c.args.script.now c.args.offs.now c.args.words.now c.args.heads.now c.args.loads.now) _ c.if-kind-eq-PRIMARY_EXPR.true) (le_refl _) in
-    end p c.requires.0.room c.leaf.ensures
+simple-returns-then-kind-eq-PRIMARY_EXPR t c = end c.requires.0 (prim-part c.args.w.now c.kind-kind.ensures c.if-kind-eq-PRIMARY_EXPR.true) c.leaf.ensures
 
-pub simple-unary-requires : goal.simple-unary-requires
-simple-unary-requires t c = (omega (arith, c.decreases), (c.requires.0, c.if-kind-eq-UNARY_EXPR.true))
-
-pub simple-returns-then-kind-eq-UNARY_EXPR : goal.simple-returns-then-kind-eq-UNARY_EXPR
-simple-returns-then-kind-eq-UNARY_EXPR t c = c.unary.ensures
-
-pub simple-call-requires : goal.simple-call-requires
-simple-call-requires t c = (omega (arith, c.decreases), (c.requires.0, c.if-kind-eq-FN_CALL_EXPR.true))
-
-pub simple-returns-then-kind-eq-FN_CALL_EXPR : goal.simple-returns-then-kind-eq-FN_CALL_EXPR
-simple-returns-then-kind-eq-FN_CALL_EXPR t c = c.call.ensures
-
-pub simple-overflow_sub-hi : goal.simple-overflow_sub-hi
-simple-overflow_sub-hi t c = omega (arith, (readable (inp c.args.script.now c.args.offs.now c.args.words.now c.args.heads.now c.args.loads.now) c.requires.0.tree c.requires.0.lo c.args.hi c.requires.0.spans).some)
+pub simple-overflow_sub-w : goal.simple-overflow_sub-w
+simple-overflow_sub-w t c = omega (arith, (root c.args.w.now c.requires.0).some)
 
 pub simple-subscript-requires : goal.simple-subscript-requires
 simple-subscript-requires t c =
-    let p = narrowed (subscript_l (inp c.args.script.now c.args.offs.now c.args.words.now c.args.heads.now c.args.loads.now)) (c.args.hi - 1) (opening {L = expr_l (inp c.args.script.now c.args.offs.now c.args.words.now c.args.heads.now c.args.loads.now)} {text = c.args.text.now} {hi = c.args.hi} {at = c.args.at}) (is-subscript (inp c.args.script.now c.args.offs.now c.args.words.now c.args.heads.now c.args.loads.now) c.args.hi c.if-kind-eq-ARRAY_ACCESS.true) (omega arith) in
-    (omega (arith, c.decreases, (readable (inp c.args.script.now c.args.offs.now c.args.words.now c.args.heads.now c.args.loads.now) c.requires.0.tree c.requires.0.lo c.args.hi c.requires.0.spans).some), here p c.requires.0)
+    let c0 = subscript-part c.args.w.now c.kind-kind.ensures c.if-kind-eq-ARRAY_ACCESS.true in
+    (omega (arith, c.decreases, (root c.args.w.now c.requires.0).some), here c.requires.0 c0)
 
 pub simple-returns-then-kind-eq-ARRAY_ACCESS : goal.simple-returns-then-kind-eq-ARRAY_ACCESS
 simple-returns-then-kind-eq-ARRAY_ACCESS t c =
-    let p = narrowed (subscript_l (inp c.args.script.now c.args.offs.now c.args.words.now c.args.heads.now c.args.loads.now)) (c.args.hi - 1) (opening {L = expr_l (inp c.args.script.now c.args.offs.now c.args.words.now c.args.heads.now c.args.loads.now)} {text = c.args.text.now} {hi = c.args.hi} {at = c.args.at}) (is-subscript (inp c.args.script.now c.args.offs.now c.args.words.now c.args.heads.now c.args.loads.now) c.args.hi c.if-kind-eq-ARRAY_ACCESS.true) (omega arith) in
-    end p c.requires.0.room c.subscript.ensures
-
-pub simple-element-requires : goal.simple-element-requires
-simple-element-requires t c = (omega (arith, c.decreases), (c.requires.0, c.if-kind-eq-ARRAY_MUT_EXPR.true))
-
-pub simple-returns-then-kind-eq-ARRAY_MUT_EXPR : goal.simple-returns-then-kind-eq-ARRAY_MUT_EXPR
-simple-returns-then-kind-eq-ARRAY_MUT_EXPR t c = c.element.ensures
+    let c0 = subscript-part c.args.w.now c.kind-kind.ensures c.if-kind-eq-ARRAY_ACCESS.true in
+    end c.requires.0 c0 c.subscript.ensures
 
 pub simple-linked-requires : goal.simple-linked-requires
-simple-linked-requires t c = (omega (arith, c.decreases), (c.requires.0, c.requires.1, c.if-kind-eq-PRIMARY_EXPR.false, c.if-kind-eq-UNARY_EXPR.false, c.if-kind-eq-FN_CALL_EXPR.false, c.if-kind-eq-ARRAY_ACCESS.false, c.if-kind-eq-ARRAY_MUT_EXPR.false))
+simple-linked-requires t c =
+    let c0 = dot-part c.args.w.now c.kind-kind.ensures c.if-kind-eq-TABLE_ACCESS.true in
+    (omega (arith, c.decreases, (root c.args.w.now c.requires.0).some), here c.requires.0 c0)
+
+pub simple-returns-then-kind-eq-TABLE_ACCESS : goal.simple-returns-then-kind-eq-TABLE_ACCESS
+simple-returns-then-kind-eq-TABLE_ACCESS t c =
+    let c0 = dot-part c.args.w.now c.kind-kind.ensures c.if-kind-eq-TABLE_ACCESS.true in
+    end c.requires.0 c0 c.linked.ensures
+
+pub simple-linked-requires-2 : goal.simple-linked-requires-2
+simple-linked-requires-2 t c =
+    let c0 = set-part c.args.w.now c.kind-kind.ensures (λ e. c.requires.1 (sym c.kind-kind.ensures ∙ e)) c.if-kind-eq-PRIMARY_EXPR.false c.if-kind-eq-UNARY_EXPR.false c.if-kind-eq-FN_CALL_EXPR.false c.if-kind-eq-ARRAY_ACCESS.false c.if-kind-eq-ARRAY_MUT_EXPR.false c.if-kind-eq-TABLE_ACCESS.false in
+    (omega (arith, c.decreases, (root c.args.w.now c.requires.0).some), here c.requires.0 c0)
 
 pub simple-returns : goal.simple-returns
-simple-returns t c = c.linked.ensures
+simple-returns t c =
+    let c0 = set-part c.args.w.now c.kind-kind.ensures (λ e. c.requires.1 (sym c.kind-kind.ensures ∙ e)) c.if-kind-eq-PRIMARY_EXPR.false c.if-kind-eq-UNARY_EXPR.false c.if-kind-eq-FN_CALL_EXPR.false c.if-kind-eq-ARRAY_ACCESS.false c.if-kind-eq-ARRAY_MUT_EXPR.false c.if-kind-eq-TABLE_ACCESS.false in
+    end c.requires.0 c0 c.linked-2.ensures
 
-pub subscript-put_sign-closed-requires : goal.subscript-put_sign-closed-requires
-subscript-put_sign-closed-requires t c = c.requires.room
+pub subscript-returns-in_err-put_sign : goal.subscript-returns-in_err-put_sign
+subscript-returns-in_err-put_sign t c =
+    let c0 = index-part c.args.w.now in
+    stop c0 c.in_err-put_sign.ensures c.from_residual.ensures.0
 
-pub subscript-returns-in_default : goal.subscript-returns-in_default
-subscript-returns-in_default t c =
-    let c0 = narrowed (index_l (inp c.args.script.now c.args.offs.now c.args.words.now c.args.heads.now c.args.loads.now)) _ (opening {L = subscript_l (inp c.args.script.now c.args.offs.now c.args.words.now c.args.heads.now c.args.loads.now)} {text = c.args.text.now} {hi = c.args.hi} {at = c.args.at}) (is-index (inp c.args.script.now c.args.offs.now c.args.words.now c.args.heads.now c.args.loads.now) _) (le_refl _) in
-    stop (seq (seq (target_l (inp c.args.script.now c.args.offs.now c.args.words.now c.args.heads.now c.args.loads.now)) (sign_l 91)) (expr_l (inp c.args.script.now c.args.offs.now c.args.words.now c.args.heads.now c.args.loads.now))) (sign_l 93) c0 (cut-seq (seq (seq (target_l (inp c.args.script.now c.args.offs.now c.args.words.now c.args.heads.now c.args.loads.now)) (sign_l 91)) (expr_l (inp c.args.script.now c.args.offs.now c.args.words.now c.args.heads.now c.args.loads.now))) (sign_l 93) _) c.put_sign-closed.ensures c.in_default.is
+pub subscript-expr-requires : goal.subscript-expr-requires
+subscript-expr-requires t c =
+    let c0 = index-part c.args.w.now in
+    let c1 = put c.requires c0 c.in_ok-put_sign.ensures in
+    (omega (arith, c.decreases, c.in_ok-put_sign.ensures.goes.node), spot c.requires c1)
 
-pub subscript-expr-inner-requires : goal.subscript-expr-inner-requires
-subscript-expr-inner-requires t c =
-    let c0 = narrowed (index_l (inp c.args.script.now c.args.offs.now c.args.words.now c.args.heads.now c.args.loads.now)) _ (opening {L = subscript_l (inp c.args.script.now c.args.offs.now c.args.words.now c.args.heads.now c.args.loads.now)} {text = c.args.text.now} {hi = c.args.hi} {at = c.args.at}) (is-index (inp c.args.script.now c.args.offs.now c.args.words.now c.args.heads.now c.args.loads.now) _) (le_refl _) in
-    let c1 = put (seq (seq (target_l (inp c.args.script.now c.args.offs.now c.args.words.now c.args.heads.now c.args.loads.now)) (sign_l 91)) (expr_l (inp c.args.script.now c.args.offs.now c.args.words.now c.args.heads.now c.args.loads.now))) (sign_l 93) c0 (cut-seq (seq (seq (target_l (inp c.args.script.now c.args.offs.now c.args.words.now c.args.heads.now c.args.loads.now)) (sign_l 91)) (expr_l (inp c.args.script.now c.args.offs.now c.args.words.now c.args.heads.now c.args.loads.now))) (sign_l 93) _) c.requires (sign_low 93) c.put_sign-closed.ensures c.put_sign-closed.auto.text c.in-Done.is in
-    (omega (arith, c.decreases, c1.low), spot (seq (target_l (inp c.args.script.now c.args.offs.now c.args.words.now c.args.heads.now c.args.loads.now)) (sign_l 91)) (expr_l (inp c.args.script.now c.args.offs.now c.args.words.now c.args.heads.now c.args.loads.now)) c1 (cut-seq (seq (target_l (inp c.args.script.now c.args.offs.now c.args.words.now c.args.heads.now c.args.loads.now)) (sign_l 91)) (expr_l (inp c.args.script.now c.args.offs.now c.args.words.now c.args.heads.now c.args.loads.now)) _) c.requires)
+pub subscript-returns-in_err-expr : goal.subscript-returns-in_err-expr
+subscript-returns-in_err-expr t c =
+    let c0 = index-part c.args.w.now in
+    let c1 = put c.requires c0 c.in_ok-put_sign.ensures in
+    stop c1 c.in_err-expr.ensures c.from_residual-in_err-expr.ensures.0
 
-pub subscript-returns-in_default-inner : goal.subscript-returns-in_default-inner
-subscript-returns-in_default-inner t c =
-    let c0 = narrowed (index_l (inp c.args.script.now c.args.offs.now c.args.words.now c.args.heads.now c.args.loads.now)) _ (opening {L = subscript_l (inp c.args.script.now c.args.offs.now c.args.words.now c.args.heads.now c.args.loads.now)} {text = c.args.text.now} {hi = c.args.hi} {at = c.args.at}) (is-index (inp c.args.script.now c.args.offs.now c.args.words.now c.args.heads.now c.args.loads.now) _) (le_refl _) in
-    let c1 = put (seq (seq (target_l (inp c.args.script.now c.args.offs.now c.args.words.now c.args.heads.now c.args.loads.now)) (sign_l 91)) (expr_l (inp c.args.script.now c.args.offs.now c.args.words.now c.args.heads.now c.args.loads.now))) (sign_l 93) c0 (cut-seq (seq (seq (target_l (inp c.args.script.now c.args.offs.now c.args.words.now c.args.heads.now c.args.loads.now)) (sign_l 91)) (expr_l (inp c.args.script.now c.args.offs.now c.args.words.now c.args.heads.now c.args.loads.now))) (sign_l 93) _) c.requires (sign_low 93) c.put_sign-closed.ensures c.put_sign-closed.auto.text c.in-Done.is in
-    stop (seq (target_l (inp c.args.script.now c.args.offs.now c.args.words.now c.args.heads.now c.args.loads.now)) (sign_l 91)) (expr_l (inp c.args.script.now c.args.offs.now c.args.words.now c.args.heads.now c.args.loads.now)) c1 (cut-seq (seq (target_l (inp c.args.script.now c.args.offs.now c.args.words.now c.args.heads.now c.args.loads.now)) (sign_l 91)) (expr_l (inp c.args.script.now c.args.offs.now c.args.words.now c.args.heads.now c.args.loads.now)) _) c.expr-inner.ensures c.in_default-inner.is
-
-pub subscript-put_sign-opened-requires : goal.subscript-put_sign-opened-requires
-subscript-put_sign-opened-requires t c =
-    let c0 = narrowed (index_l (inp c.args.script.now c.args.offs.now c.args.words.now c.args.heads.now c.args.loads.now)) _ (opening {L = subscript_l (inp c.args.script.now c.args.offs.now c.args.words.now c.args.heads.now c.args.loads.now)} {text = c.args.text.now} {hi = c.args.hi} {at = c.args.at}) (is-index (inp c.args.script.now c.args.offs.now c.args.words.now c.args.heads.now c.args.loads.now) _) (le_refl _) in
-    let c1 = put (seq (seq (target_l (inp c.args.script.now c.args.offs.now c.args.words.now c.args.heads.now c.args.loads.now)) (sign_l 91)) (expr_l (inp c.args.script.now c.args.offs.now c.args.words.now c.args.heads.now c.args.loads.now))) (sign_l 93) c0 (cut-seq (seq (seq (target_l (inp c.args.script.now c.args.offs.now c.args.words.now c.args.heads.now c.args.loads.now)) (sign_l 91)) (expr_l (inp c.args.script.now c.args.offs.now c.args.words.now c.args.heads.now c.args.loads.now))) (sign_l 93) _) c.requires (sign_low 93) c.put_sign-closed.ensures c.put_sign-closed.auto.text c.in-Done.is in
-    let c2 = put (seq (target_l (inp c.args.script.now c.args.offs.now c.args.words.now c.args.heads.now c.args.loads.now)) (sign_l 91)) (expr_l (inp c.args.script.now c.args.offs.now c.args.words.now c.args.heads.now c.args.loads.now)) c1 (cut-seq (seq (target_l (inp c.args.script.now c.args.offs.now c.args.words.now c.args.heads.now c.args.loads.now)) (sign_l 91)) (expr_l (inp c.args.script.now c.args.offs.now c.args.words.now c.args.heads.now c.args.loads.now)) _) c.requires (expr-low (inp c.args.script.now c.args.offs.now c.args.words.now c.args.heads.now c.args.loads.now)) c.expr-inner.ensures c.expr-inner.auto.text c.in-Done-inner.is in
-    (here c2 c.requires).room
-
-pub subscript-returns-in_default-opened : goal.subscript-returns-in_default-opened
-subscript-returns-in_default-opened t c =
-    let c0 = narrowed (index_l (inp c.args.script.now c.args.offs.now c.args.words.now c.args.heads.now c.args.loads.now)) _ (opening {L = subscript_l (inp c.args.script.now c.args.offs.now c.args.words.now c.args.heads.now c.args.loads.now)} {text = c.args.text.now} {hi = c.args.hi} {at = c.args.at}) (is-index (inp c.args.script.now c.args.offs.now c.args.words.now c.args.heads.now c.args.loads.now) _) (le_refl _) in
-    let c1 = put (seq (seq (target_l (inp c.args.script.now c.args.offs.now c.args.words.now c.args.heads.now c.args.loads.now)) (sign_l 91)) (expr_l (inp c.args.script.now c.args.offs.now c.args.words.now c.args.heads.now c.args.loads.now))) (sign_l 93) c0 (cut-seq (seq (seq (target_l (inp c.args.script.now c.args.offs.now c.args.words.now c.args.heads.now c.args.loads.now)) (sign_l 91)) (expr_l (inp c.args.script.now c.args.offs.now c.args.words.now c.args.heads.now c.args.loads.now))) (sign_l 93) _) c.requires (sign_low 93) c.put_sign-closed.ensures c.put_sign-closed.auto.text c.in-Done.is in
-    let c2 = put (seq (target_l (inp c.args.script.now c.args.offs.now c.args.words.now c.args.heads.now c.args.loads.now)) (sign_l 91)) (expr_l (inp c.args.script.now c.args.offs.now c.args.words.now c.args.heads.now c.args.loads.now)) c1 (cut-seq (seq (target_l (inp c.args.script.now c.args.offs.now c.args.words.now c.args.heads.now c.args.loads.now)) (sign_l 91)) (expr_l (inp c.args.script.now c.args.offs.now c.args.words.now c.args.heads.now c.args.loads.now)) _) c.requires (expr-low (inp c.args.script.now c.args.offs.now c.args.words.now c.args.heads.now c.args.loads.now)) c.expr-inner.ensures c.expr-inner.auto.text c.in-Done-inner.is in
-    stop (target_l (inp c.args.script.now c.args.offs.now c.args.words.now c.args.heads.now c.args.loads.now)) (sign_l 91) c2 (cut-seq (target_l (inp c.args.script.now c.args.offs.now c.args.words.now c.args.heads.now c.args.loads.now)) (sign_l 91) _) c.put_sign-opened.ensures c.in_default-opened.is
+pub subscript-returns-in_err-put_sign-2 : goal.subscript-returns-in_err-put_sign-2
+subscript-returns-in_err-put_sign-2 t c =
+    let c0 = index-part c.args.w.now in
+    let c1 = put c.requires c0 c.in_ok-put_sign.ensures in
+    let c2 = put c.requires c1 c.in_ok-expr.ensures in
+    stop c2 c.in_err-put_sign-2.ensures c.from_residual-in_err-put_sign-2.ensures.0
 
 pub subscript-leaf-requires : goal.subscript-leaf-requires
 subscript-leaf-requires t c =
-    let c0 = narrowed (index_l (inp c.args.script.now c.args.offs.now c.args.words.now c.args.heads.now c.args.loads.now)) _ (opening {L = subscript_l (inp c.args.script.now c.args.offs.now c.args.words.now c.args.heads.now c.args.loads.now)} {text = c.args.text.now} {hi = c.args.hi} {at = c.args.at}) (is-index (inp c.args.script.now c.args.offs.now c.args.words.now c.args.heads.now c.args.loads.now) _) (le_refl _) in
-    let c1 = put (seq (seq (target_l (inp c.args.script.now c.args.offs.now c.args.words.now c.args.heads.now c.args.loads.now)) (sign_l 91)) (expr_l (inp c.args.script.now c.args.offs.now c.args.words.now c.args.heads.now c.args.loads.now))) (sign_l 93) c0 (cut-seq (seq (seq (target_l (inp c.args.script.now c.args.offs.now c.args.words.now c.args.heads.now c.args.loads.now)) (sign_l 91)) (expr_l (inp c.args.script.now c.args.offs.now c.args.words.now c.args.heads.now c.args.loads.now))) (sign_l 93) _) c.requires (sign_low 93) c.put_sign-closed.ensures c.put_sign-closed.auto.text c.in-Done.is in
-    let c2 = put (seq (target_l (inp c.args.script.now c.args.offs.now c.args.words.now c.args.heads.now c.args.loads.now)) (sign_l 91)) (expr_l (inp c.args.script.now c.args.offs.now c.args.words.now c.args.heads.now c.args.loads.now)) c1 (cut-seq (seq (target_l (inp c.args.script.now c.args.offs.now c.args.words.now c.args.heads.now c.args.loads.now)) (sign_l 91)) (expr_l (inp c.args.script.now c.args.offs.now c.args.words.now c.args.heads.now c.args.loads.now)) _) c.requires (expr-low (inp c.args.script.now c.args.offs.now c.args.words.now c.args.heads.now c.args.loads.now)) c.expr-inner.ensures c.expr-inner.auto.text c.in-Done-inner.is in
-    let c3 = put (target_l (inp c.args.script.now c.args.offs.now c.args.words.now c.args.heads.now c.args.loads.now)) (sign_l 91) c2 (cut-seq (target_l (inp c.args.script.now c.args.offs.now c.args.words.now c.args.heads.now c.args.loads.now)) (sign_l 91) _) c.requires (sign_low 91) c.put_sign-opened.ensures c.put_sign-opened.auto.text c.in-Done-opened.is in
-    here c3 c.requires
+    let c0 = index-part c.args.w.now in
+    let c1 = put c.requires c0 c.in_ok-put_sign.ensures in
+    let c2 = put c.requires c1 c.in_ok-expr.ensures in
+    let c3 = put c.requires c2 c.in_ok-put_sign-2.ensures in
+    here c.requires c3
 
 pub subscript-returns : goal.subscript-returns
 subscript-returns t c =
-    let c0 = narrowed (index_l (inp c.args.script.now c.args.offs.now c.args.words.now c.args.heads.now c.args.loads.now)) _ (opening {L = subscript_l (inp c.args.script.now c.args.offs.now c.args.words.now c.args.heads.now c.args.loads.now)} {text = c.args.text.now} {hi = c.args.hi} {at = c.args.at}) (is-index (inp c.args.script.now c.args.offs.now c.args.words.now c.args.heads.now c.args.loads.now) _) (le_refl _) in
-    let c1 = put (seq (seq (target_l (inp c.args.script.now c.args.offs.now c.args.words.now c.args.heads.now c.args.loads.now)) (sign_l 91)) (expr_l (inp c.args.script.now c.args.offs.now c.args.words.now c.args.heads.now c.args.loads.now))) (sign_l 93) c0 (cut-seq (seq (seq (target_l (inp c.args.script.now c.args.offs.now c.args.words.now c.args.heads.now c.args.loads.now)) (sign_l 91)) (expr_l (inp c.args.script.now c.args.offs.now c.args.words.now c.args.heads.now c.args.loads.now))) (sign_l 93) _) c.requires (sign_low 93) c.put_sign-closed.ensures c.put_sign-closed.auto.text c.in-Done.is in
-    let c2 = put (seq (target_l (inp c.args.script.now c.args.offs.now c.args.words.now c.args.heads.now c.args.loads.now)) (sign_l 91)) (expr_l (inp c.args.script.now c.args.offs.now c.args.words.now c.args.heads.now c.args.loads.now)) c1 (cut-seq (seq (target_l (inp c.args.script.now c.args.offs.now c.args.words.now c.args.heads.now c.args.loads.now)) (sign_l 91)) (expr_l (inp c.args.script.now c.args.offs.now c.args.words.now c.args.heads.now c.args.loads.now)) _) c.requires (expr-low (inp c.args.script.now c.args.offs.now c.args.words.now c.args.heads.now c.args.loads.now)) c.expr-inner.ensures c.expr-inner.auto.text c.in-Done-inner.is in
-    let c3 = put (target_l (inp c.args.script.now c.args.offs.now c.args.words.now c.args.heads.now c.args.loads.now)) (sign_l 91) c2 (cut-seq (target_l (inp c.args.script.now c.args.offs.now c.args.words.now c.args.heads.now c.args.loads.now)) (sign_l 91) _) c.requires (sign_low 91) c.put_sign-opened.ensures c.put_sign-opened.auto.text c.in-Done-opened.is in
-    end c3 c.requires.room c.leaf.ensures
+    let c0 = index-part c.args.w.now in
+    let c1 = put c.requires c0 c.in_ok-put_sign.ensures in
+    let c2 = put c.requires c1 c.in_ok-expr.ensures in
+    let c3 = put c.requires c2 c.in_ok-put_sign-2.ensures in
+    end c.requires c3 c.leaf.ensures
 
-pub unary-overflow_sub-m : goal.unary-overflow_sub-m
-unary-overflow_sub-m t c = omega (arith, (readable (inp c.args.script.now c.args.offs.now c.args.words.now c.args.heads.now c.args.loads.now) c.requires.0.tree c.requires.0.lo c.args.hi c.requires.0.spans).some)
+pub unary-overflow_sub-w : goal.unary-overflow_sub-w
+unary-overflow_sub-w t c = omega (arith, (root c.args.w.now c.requires.0).some)
 
-pub unary-overflow_sub-m-2 : goal.unary-overflow_sub-m-2
-unary-overflow_sub-m-2 t c =
-    let u0 = narrowed (seq (own_l (inp c.args.script.now c.args.offs.now c.args.words.now c.args.heads.now c.args.loads.now) c.args.hi) (operand_l (inp c.args.script.now c.args.offs.now c.args.words.now c.args.heads.now c.args.loads.now) 1)) (c.args.hi - 1) (opening {L = expr_l (inp c.args.script.now c.args.offs.now c.args.words.now c.args.heads.now c.args.loads.now)} {text = c.args.text.now} {hi = c.args.hi} {at = c.args.at}) (is_one (inp c.args.script.now c.args.offs.now c.args.words.now c.args.heads.now c.args.loads.now) c.args.hi c.requires.1) (omega arith) in
-    let s = spot (own_l (inp c.args.script.now c.args.offs.now c.args.words.now c.args.heads.now c.args.loads.now) c.args.hi) (operand_l (inp c.args.script.now c.args.offs.now c.args.words.now c.args.heads.now c.args.loads.now) 1) u0 (cut-seq (own_l (inp c.args.script.now c.args.offs.now c.args.words.now c.args.heads.now c.args.loads.now) c.args.hi) (operand_l (inp c.args.script.now c.args.offs.now c.args.words.now c.args.heads.now c.args.loads.now) 1) _) c.requires.0 in
-    let n = readable (inp c.args.script.now c.args.offs.now c.args.words.now c.args.heads.now c.args.loads.now) s.tree s.lo (c.args.hi - 1) s.spans in
-    omega (arith, n.some)
+pub unary-kind-requires : goal.unary-kind-requires
+unary-kind-requires t c =
+    let c0 = one-part c.args.w.now c.requires.1 in
+    let s = spot c.requires.0 c0 in
+    let r = readable (inp_of c.args.w.now) s.tree s.lo (c.args.w.now.node - 1) s.spans in
+    record { some = r.some; in_heads = r.in_heads }
 
-pub unary-offset_bounds-heads-m : goal.unary-offset_bounds-heads-m
-unary-offset_bounds-heads-m t c =
-    let u0 = narrowed (seq (own_l (inp c.args.script.now c.args.offs.now c.args.words.now c.args.heads.now c.args.loads.now) c.args.hi) (operand_l (inp c.args.script.now c.args.offs.now c.args.words.now c.args.heads.now c.args.loads.now) 1)) (c.args.hi - 1) (opening {L = expr_l (inp c.args.script.now c.args.offs.now c.args.words.now c.args.heads.now c.args.loads.now)} {text = c.args.text.now} {hi = c.args.hi} {at = c.args.at}) (is_one (inp c.args.script.now c.args.offs.now c.args.words.now c.args.heads.now c.args.loads.now) c.args.hi c.requires.1) (omega arith) in
-    let s = spot (own_l (inp c.args.script.now c.args.offs.now c.args.words.now c.args.heads.now c.args.loads.now) c.args.hi) (operand_l (inp c.args.script.now c.args.offs.now c.args.words.now c.args.heads.now c.args.loads.now) 1) u0 (cut-seq (own_l (inp c.args.script.now c.args.offs.now c.args.words.now c.args.heads.now c.args.loads.now) c.args.hi) (operand_l (inp c.args.script.now c.args.offs.now c.args.words.now c.args.heads.now c.args.loads.now) 1) _) c.requires.0 in
-    let n = readable (inp c.args.script.now c.args.offs.now c.args.words.now c.args.heads.now c.args.loads.now) s.tree s.lo (c.args.hi - 1) s.spans in
-    omega (arith, n.in_heads)
+pub unary-unary-requires : goal.unary-unary-requires
+unary-unary-requires t c =
+    let c0 = chain-part c.args.w.now c.requires.1 c.kind.ensures c.if-kind-eq-UNARY_EXPR.true in
+    (omega (arith, c.decreases, (root c.args.w.now c.requires.0).some), (spot c.requires.0 c0, sym c.kind.ensures ∙ c.if-kind-eq-UNARY_EXPR.true))
 
-pub unary-bounds-heads-m : goal.unary-bounds-heads-m
-unary-bounds-heads-m t c =
-    let u0 = narrowed (seq (own_l (inp c.args.script.now c.args.offs.now c.args.words.now c.args.heads.now c.args.loads.now) c.args.hi) (operand_l (inp c.args.script.now c.args.offs.now c.args.words.now c.args.heads.now c.args.loads.now) 1)) (c.args.hi - 1) (opening {L = expr_l (inp c.args.script.now c.args.offs.now c.args.words.now c.args.heads.now c.args.loads.now)} {text = c.args.text.now} {hi = c.args.hi} {at = c.args.at}) (is_one (inp c.args.script.now c.args.offs.now c.args.words.now c.args.heads.now c.args.loads.now) c.args.hi c.requires.1) (omega arith) in
-    let s = spot (own_l (inp c.args.script.now c.args.offs.now c.args.words.now c.args.heads.now c.args.loads.now) c.args.hi) (operand_l (inp c.args.script.now c.args.offs.now c.args.words.now c.args.heads.now c.args.loads.now) 1) u0 (cut-seq (own_l (inp c.args.script.now c.args.offs.now c.args.words.now c.args.heads.now c.args.loads.now) c.args.hi) (operand_l (inp c.args.script.now c.args.offs.now c.args.words.now c.args.heads.now c.args.loads.now) 1) _) c.requires.0 in
-    let n = readable (inp c.args.script.now c.args.offs.now c.args.words.now c.args.heads.now c.args.loads.now) s.tree s.lo (c.args.hi - 1) s.spans in
-    n.in_heads
-
-pub unary-unary-chain-requires : goal.unary-unary-chain-requires
-unary-unary-chain-requires t c =
-    let u0 = narrowed (seq (own_l (inp c.args.script.now c.args.offs.now c.args.words.now c.args.heads.now c.args.loads.now) c.args.hi) (operand_l (inp c.args.script.now c.args.offs.now c.args.words.now c.args.heads.now c.args.loads.now) 1)) (c.args.hi - 1) (opening {L = expr_l (inp c.args.script.now c.args.offs.now c.args.words.now c.args.heads.now c.args.loads.now)} {text = c.args.text.now} {hi = c.args.hi} {at = c.args.at}) (is_one (inp c.args.script.now c.args.offs.now c.args.words.now c.args.heads.now c.args.loads.now) c.args.hi c.requires.1) (omega arith) in
-    let v0 = narrowed (seq (own_l (inp c.args.script.now c.args.offs.now c.args.words.now c.args.heads.now c.args.loads.now) c.args.hi) (expr_l (inp c.args.script.now c.args.offs.now c.args.words.now c.args.heads.now c.args.loads.now))) (c.args.hi - 1) u0 (is-chain (inp c.args.script.now c.args.offs.now c.args.words.now c.args.heads.now c.args.loads.now) c.args.hi c.if-heads-m-eq-UNARY_EXPR.true) (le_refl _) in
-    (omega (arith, c.decreases, (readable (inp c.args.script.now c.args.offs.now c.args.words.now c.args.heads.now c.args.loads.now) c.requires.0.tree c.requires.0.lo c.args.hi c.requires.0.spans).some), (spot (own_l (inp c.args.script.now c.args.offs.now c.args.words.now c.args.heads.now c.args.loads.now) c.args.hi) (expr_l (inp c.args.script.now c.args.offs.now c.args.words.now c.args.heads.now c.args.loads.now)) v0 (cut-seq (own_l (inp c.args.script.now c.args.offs.now c.args.words.now c.args.heads.now c.args.loads.now) c.args.hi) (expr_l (inp c.args.script.now c.args.offs.now c.args.words.now c.args.heads.now c.args.loads.now)) _) c.requires.0, c.if-heads-m-eq-UNARY_EXPR.true))
-
-pub unary-returns-in_default : goal.unary-returns-in_default
-unary-returns-in_default t c =
-    let u0 = narrowed (seq (own_l (inp c.args.script.now c.args.offs.now c.args.words.now c.args.heads.now c.args.loads.now) c.args.hi) (operand_l (inp c.args.script.now c.args.offs.now c.args.words.now c.args.heads.now c.args.loads.now) 1)) (c.args.hi - 1) (opening {L = expr_l (inp c.args.script.now c.args.offs.now c.args.words.now c.args.heads.now c.args.loads.now)} {text = c.args.text.now} {hi = c.args.hi} {at = c.args.at}) (is_one (inp c.args.script.now c.args.offs.now c.args.words.now c.args.heads.now c.args.loads.now) c.args.hi c.requires.1) (omega arith) in
-    let v0 = narrowed (seq (own_l (inp c.args.script.now c.args.offs.now c.args.words.now c.args.heads.now c.args.loads.now) c.args.hi) (expr_l (inp c.args.script.now c.args.offs.now c.args.words.now c.args.heads.now c.args.loads.now))) (c.args.hi - 1) u0 (is-chain (inp c.args.script.now c.args.offs.now c.args.words.now c.args.heads.now c.args.loads.now) c.args.hi c.if-heads-m-eq-UNARY_EXPR.true) (le_refl _) in
-    stop (own_l (inp c.args.script.now c.args.offs.now c.args.words.now c.args.heads.now c.args.loads.now) c.args.hi) (expr_l (inp c.args.script.now c.args.offs.now c.args.words.now c.args.heads.now c.args.loads.now)) v0 (cut-seq (own_l (inp c.args.script.now c.args.offs.now c.args.words.now c.args.heads.now c.args.loads.now) c.args.hi) (expr_l (inp c.args.script.now c.args.offs.now c.args.words.now c.args.heads.now c.args.loads.now)) _) c.unary-chain.ensures c.in_default.is
+pub unary-returns-in_err-unary : goal.unary-returns-in_err-unary
+unary-returns-in_err-unary t c =
+    let c0 = chain-part c.args.w.now c.requires.1 c.kind.ensures c.if-kind-eq-UNARY_EXPR.true in
+    stop c0 c.in_err-unary.ensures c.from_residual.ensures.0
 
 pub unary-put_token-requires : goal.unary-put_token-requires
 unary-put_token-requires t c =
-    let u0 = narrowed (seq (own_l (inp c.args.script.now c.args.offs.now c.args.words.now c.args.heads.now c.args.loads.now) c.args.hi) (operand_l (inp c.args.script.now c.args.offs.now c.args.words.now c.args.heads.now c.args.loads.now) 1)) (c.args.hi - 1) (opening {L = expr_l (inp c.args.script.now c.args.offs.now c.args.words.now c.args.heads.now c.args.loads.now)} {text = c.args.text.now} {hi = c.args.hi} {at = c.args.at}) (is_one (inp c.args.script.now c.args.offs.now c.args.words.now c.args.heads.now c.args.loads.now) c.args.hi c.requires.1) (omega arith) in
-    let v0 = narrowed (seq (own_l (inp c.args.script.now c.args.offs.now c.args.words.now c.args.heads.now c.args.loads.now) c.args.hi) (expr_l (inp c.args.script.now c.args.offs.now c.args.words.now c.args.heads.now c.args.loads.now))) (c.args.hi - 1) u0 (is-chain (inp c.args.script.now c.args.offs.now c.args.words.now c.args.heads.now c.args.loads.now) c.args.hi c.if-heads-m-eq-UNARY_EXPR.true) (le_refl _) in
-    let v1 = put (own_l (inp c.args.script.now c.args.offs.now c.args.words.now c.args.heads.now c.args.loads.now) c.args.hi) (expr_l (inp c.args.script.now c.args.offs.now c.args.words.now c.args.heads.now c.args.loads.now)) v0 (cut-seq (own_l (inp c.args.script.now c.args.offs.now c.args.words.now c.args.heads.now c.args.loads.now) c.args.hi) (expr_l (inp c.args.script.now c.args.offs.now c.args.words.now c.args.heads.now c.args.loads.now)) _) c.requires.0 (expr-low (inp c.args.script.now c.args.offs.now c.args.words.now c.args.heads.now c.args.loads.now)) c.unary-chain.ensures c.unary-chain.auto.text c.in-Done.is in
-    here v1 c.requires.0
+    let c0 = chain-part c.args.w.now c.requires.1 c.kind.ensures c.if-kind-eq-UNARY_EXPR.true in
+    let c1 = put c.requires.0 c0 c.in_ok-unary.ensures in
+    here c.requires.0 c1
 
-pub unary-returns-then-heads-m-eq-UNARY_EXPR : goal.unary-returns-then-heads-m-eq-UNARY_EXPR
-unary-returns-then-heads-m-eq-UNARY_EXPR t c =
-    let u0 = narrowed (seq (own_l (inp c.args.script.now c.args.offs.now c.args.words.now c.args.heads.now c.args.loads.now) c.args.hi) (operand_l (inp c.args.script.now c.args.offs.now c.args.words.now c.args.heads.now c.args.loads.now) 1)) (c.args.hi - 1) (opening {L = expr_l (inp c.args.script.now c.args.offs.now c.args.words.now c.args.heads.now c.args.loads.now)} {text = c.args.text.now} {hi = c.args.hi} {at = c.args.at}) (is_one (inp c.args.script.now c.args.offs.now c.args.words.now c.args.heads.now c.args.loads.now) c.args.hi c.requires.1) (omega arith) in
-    let v0 = narrowed (seq (own_l (inp c.args.script.now c.args.offs.now c.args.words.now c.args.heads.now c.args.loads.now) c.args.hi) (expr_l (inp c.args.script.now c.args.offs.now c.args.words.now c.args.heads.now c.args.loads.now))) (c.args.hi - 1) u0 (is-chain (inp c.args.script.now c.args.offs.now c.args.words.now c.args.heads.now c.args.loads.now) c.args.hi c.if-heads-m-eq-UNARY_EXPR.true) (le_refl _) in
-    let v1 = put (own_l (inp c.args.script.now c.args.offs.now c.args.words.now c.args.heads.now c.args.loads.now) c.args.hi) (expr_l (inp c.args.script.now c.args.offs.now c.args.words.now c.args.heads.now c.args.loads.now)) v0 (cut-seq (own_l (inp c.args.script.now c.args.offs.now c.args.words.now c.args.heads.now c.args.loads.now) c.args.hi) (expr_l (inp c.args.script.now c.args.offs.now c.args.words.now c.args.heads.now c.args.loads.now)) _) c.requires.0 (expr-low (inp c.args.script.now c.args.offs.now c.args.words.now c.args.heads.now c.args.loads.now)) c.unary-chain.ensures c.unary-chain.auto.text c.in-Done.is in
-    end v1 c.requires.0.room c.put_token.ensures
+pub unary-returns-then-kind-eq-UNARY_EXPR : goal.unary-returns-then-kind-eq-UNARY_EXPR
+unary-returns-then-kind-eq-UNARY_EXPR t c =
+    let c0 = chain-part c.args.w.now c.requires.1 c.kind.ensures c.if-kind-eq-UNARY_EXPR.true in
+    let c1 = put c.requires.0 c0 c.in_ok-unary.ensures in
+    end c.requires.0 c1 c.put_token.ensures
 
-pub unary-operand-under-requires : goal.unary-operand-under-requires
-unary-operand-under-requires t c =
-    let u0 = narrowed (seq (own_l (inp c.args.script.now c.args.offs.now c.args.words.now c.args.heads.now c.args.loads.now) c.args.hi) (operand_l (inp c.args.script.now c.args.offs.now c.args.words.now c.args.heads.now c.args.loads.now) 1)) (c.args.hi - 1) (opening {L = expr_l (inp c.args.script.now c.args.offs.now c.args.words.now c.args.heads.now c.args.loads.now)} {text = c.args.text.now} {hi = c.args.hi} {at = c.args.at}) (is_one (inp c.args.script.now c.args.offs.now c.args.words.now c.args.heads.now c.args.loads.now) c.args.hi c.requires.1) (omega arith) in
-    (omega (arith, c.decreases, (readable (inp c.args.script.now c.args.offs.now c.args.words.now c.args.heads.now c.args.loads.now) c.requires.0.tree c.requires.0.lo c.args.hi c.requires.0.spans).some), spot (own_l (inp c.args.script.now c.args.offs.now c.args.words.now c.args.heads.now c.args.loads.now) c.args.hi) (operand_l (inp c.args.script.now c.args.offs.now c.args.words.now c.args.heads.now c.args.loads.now) 1) u0 (cut-seq (own_l (inp c.args.script.now c.args.offs.now c.args.words.now c.args.heads.now c.args.loads.now) c.args.hi) (operand_l (inp c.args.script.now c.args.offs.now c.args.words.now c.args.heads.now c.args.loads.now) 1) _) c.requires.0)
+pub unary-operand-requires : goal.unary-operand-requires
+unary-operand-requires t c =
+    let c0 = one-part c.args.w.now c.requires.1 in
+    (omega (arith, c.decreases, (root c.args.w.now c.requires.0).some), spot c.requires.0 c0)
 
-pub unary-returns-in_default-under : goal.unary-returns-in_default-under
-unary-returns-in_default-under t c =
-    let u0 = narrowed (seq (own_l (inp c.args.script.now c.args.offs.now c.args.words.now c.args.heads.now c.args.loads.now) c.args.hi) (operand_l (inp c.args.script.now c.args.offs.now c.args.words.now c.args.heads.now c.args.loads.now) 1)) (c.args.hi - 1) (opening {L = expr_l (inp c.args.script.now c.args.offs.now c.args.words.now c.args.heads.now c.args.loads.now)} {text = c.args.text.now} {hi = c.args.hi} {at = c.args.at}) (is_one (inp c.args.script.now c.args.offs.now c.args.words.now c.args.heads.now c.args.loads.now) c.args.hi c.requires.1) (omega arith) in
-    stop (own_l (inp c.args.script.now c.args.offs.now c.args.words.now c.args.heads.now c.args.loads.now) c.args.hi) (operand_l (inp c.args.script.now c.args.offs.now c.args.words.now c.args.heads.now c.args.loads.now) 1) u0 (cut-seq (own_l (inp c.args.script.now c.args.offs.now c.args.words.now c.args.heads.now c.args.loads.now) c.args.hi) (operand_l (inp c.args.script.now c.args.offs.now c.args.words.now c.args.heads.now c.args.loads.now) 1) _) c.operand-under.ensures c.in_default-under.is
+pub unary-returns-in_err-operand : goal.unary-returns-in_err-operand
+unary-returns-in_err-operand t c =
+    let c0 = one-part c.args.w.now c.requires.1 in
+    stop c0 c.in_err-operand.ensures c.from_residual-in_err-operand.ensures.0
 
 pub unary-put_token-requires-2 : goal.unary-put_token-requires-2
 unary-put_token-requires-2 t c =
-    let u0 = narrowed (seq (own_l (inp c.args.script.now c.args.offs.now c.args.words.now c.args.heads.now c.args.loads.now) c.args.hi) (operand_l (inp c.args.script.now c.args.offs.now c.args.words.now c.args.heads.now c.args.loads.now) 1)) (c.args.hi - 1) (opening {L = expr_l (inp c.args.script.now c.args.offs.now c.args.words.now c.args.heads.now c.args.loads.now)} {text = c.args.text.now} {hi = c.args.hi} {at = c.args.at}) (is_one (inp c.args.script.now c.args.offs.now c.args.words.now c.args.heads.now c.args.loads.now) c.args.hi c.requires.1) (omega arith) in
-    let u1 = put (own_l (inp c.args.script.now c.args.offs.now c.args.words.now c.args.heads.now c.args.loads.now) c.args.hi) (operand_l (inp c.args.script.now c.args.offs.now c.args.words.now c.args.heads.now c.args.loads.now) 1) u0 (cut-seq (own_l (inp c.args.script.now c.args.offs.now c.args.words.now c.args.heads.now c.args.loads.now) c.args.hi) (operand_l (inp c.args.script.now c.args.offs.now c.args.words.now c.args.heads.now c.args.loads.now) 1) _) c.requires.0 (operand_low (inp c.args.script.now c.args.offs.now c.args.words.now c.args.heads.now c.args.loads.now) 1) c.operand-under.ensures c.operand-under.auto.text c.in-Done-under.is in
-    here u1 c.requires.0
+    let c0 = one-part c.args.w.now c.requires.1 in
+    let c1 = put c.requires.0 c0 c.in_ok-operand.ensures in
+    here c.requires.0 c1
 
 pub unary-returns : goal.unary-returns
 unary-returns t c =
-    let u0 = narrowed (seq (own_l (inp c.args.script.now c.args.offs.now c.args.words.now c.args.heads.now c.args.loads.now) c.args.hi) (operand_l (inp c.args.script.now c.args.offs.now c.args.words.now c.args.heads.now c.args.loads.now) 1)) (c.args.hi - 1) (opening {L = expr_l (inp c.args.script.now c.args.offs.now c.args.words.now c.args.heads.now c.args.loads.now)} {text = c.args.text.now} {hi = c.args.hi} {at = c.args.at}) (is_one (inp c.args.script.now c.args.offs.now c.args.words.now c.args.heads.now c.args.loads.now) c.args.hi c.requires.1) (omega arith) in
-    let u1 = put (own_l (inp c.args.script.now c.args.offs.now c.args.words.now c.args.heads.now c.args.loads.now) c.args.hi) (operand_l (inp c.args.script.now c.args.offs.now c.args.words.now c.args.heads.now c.args.loads.now) 1) u0 (cut-seq (own_l (inp c.args.script.now c.args.offs.now c.args.words.now c.args.heads.now c.args.loads.now) c.args.hi) (operand_l (inp c.args.script.now c.args.offs.now c.args.words.now c.args.heads.now c.args.loads.now) 1) _) c.requires.0 (operand_low (inp c.args.script.now c.args.offs.now c.args.words.now c.args.heads.now c.args.loads.now) 1) c.operand-under.ensures c.operand-under.auto.text c.in-Done-under.is in
-    end u1 c.requires.0.room c.put_token-2.ensures
+    let c0 = one-part c.args.w.now c.requires.1 in
+    let c1 = put c.requires.0 c0 c.in_ok-operand.ensures in
+    end c.requires.0 c1 c.put_token-2.ensures

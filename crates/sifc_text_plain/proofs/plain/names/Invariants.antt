@@ -1,9 +1,7 @@
-use Rattle.sifc_put.specs.Frame.{Part}
+use Rattle.sifc_put.specs.Post.{one}
+use Rattle.sifc_put.proofs.Frame.{Part}
 use Rattle.sifc_text_plain.specs.Kinds.{names_l}
 use Rattle.sifc_text_plain.proofs.plain.names.Given as goal
 
 abbrev pub invariant-loop-left : goal.invariant-loop-left
-invariant-loop-left l = Part (names_l l.script l.offs l.words l.loads l.initial.left) (names_l l.script l.offs l.words l.loads l.left) l.initial.text l.initial.h l.initial.a l.text l.h l.a
-
-abbrev pub decreases-loop-left : goal.decreases-loop-left
-decreases-loop-left l = l.left
+invariant-loop-left l = Part (names_l l.count) (one (names_l l.left)) l.initial.w l.w

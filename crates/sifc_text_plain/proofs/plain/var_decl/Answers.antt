@@ -1,131 +1,88 @@
-use Prim.Native.Nat.{◌-◌}
 use native.Mathlib.Omega.{arith}
-use native.Mathlib.Nat.{le_refl}
-use mathlib.Core.Path.{◌∙◌}
-use Rattle.sifc_def.specs.Typed.{semi, eq, var_word}
-use Rattle.sifc_put.specs.Place.{inp}
-use Rattle.sifc_put.specs.Post.{seq}
-use Rattle.sifc_put.specs.Bytes.{worded}
-use Rattle.sifc_put.specs.Frame.{opening, narrowed, spot, stop, put, here, end, cut-seq, fixed-low}
-use Rattle.sifc_text_plain.specs.Kinds.{value_l, var_l}
-use Rattle.sifc_text_expr.proofs.Forms.{own_l, own-low}
-use Rattle.sifc_text_plain.proofs.Forms.{word_l, before_l, value_low, var-root, is-ended, is-unset, is_set}
+use Rattle.sifc_put.specs.Post.{inp_of}
+use Rattle.sifc_put.proofs.Frame.{spot, put, end, stop}
+use Rattle.sifc_text_plain.proofs.Forms.{head, var-root, declared-part, unset-part, set-part}
 use Rattle.sifc_text_plain.proofs.plain.var_decl.Goals as goal
 
-pub overflow_sub-m : goal.overflow_sub-m
-overflow_sub-m c = omega (arith, (var-root (inp c.args.script.now c.args.offs.now c.args.words.now c.args.heads.now c.args.loads.now) c.requires.tree c.requires.lo c.args.hi c.requires.spans).some)
+pub children-values-requires : goal.children-values-requires
+children-values-requires c = head c.args.w.now (var-root (inp_of c.args.w.now) c.requires.tree c.requires.lo c.args.w.now.node c.requires.spans)
 
-pub returns-in_default : goal.returns-in_default
-returns-in_default c =
-    let p = narrowed (seq (before_l (inp c.args.script.now c.args.offs.now c.args.words.now c.args.heads.now c.args.loads.now) c.args.hi) (word_l semi)) (c.args.hi - 1) (opening {L = var_l (inp c.args.script.now c.args.offs.now c.args.words.now c.args.heads.now c.args.loads.now)} {text = c.args.text.now} {hi = c.args.hi} {at = c.args.at}) (is-ended (inp c.args.script.now c.args.offs.now c.args.words.now c.args.heads.now c.args.loads.now) c.args.hi) (omega arith) in
-    stop (before_l (inp c.args.script.now c.args.offs.now c.args.words.now c.args.heads.now c.args.loads.now) c.args.hi) (word_l semi) p (cut-seq (before_l (inp c.args.script.now c.args.offs.now c.args.words.now c.args.heads.now c.args.loads.now) c.args.hi) (word_l semi) _) c.put_sign-end.ensures c.in_default.is
+pub overflow_sub-w : goal.overflow_sub-w
+overflow_sub-w c = omega (arith, (var-root (inp_of c.args.w.now) c.requires.tree c.requires.lo c.args.w.now.node c.requires.spans).some)
 
-pub offset_bounds-heads-m : goal.offset_bounds-heads-m
-offset_bounds-heads-m c = omega (arith, (var-root (inp c.args.script.now c.args.offs.now c.args.words.now c.args.heads.now c.args.loads.now) c.requires.tree c.requires.lo c.args.hi c.requires.spans).in_heads)
+pub returns-in_err-put_sign : goal.returns-in_err-put_sign
+returns-in_err-put_sign c =
+    let c0 = declared-part c.args.w.now in
+    stop c0 c.in_err-put_sign.ensures c.from_residual.ensures.0
 
-pub bounds-heads-m : goal.bounds-heads-m
-bounds-heads-m c = (var-root (inp c.args.script.now c.args.offs.now c.args.words.now c.args.heads.now c.args.loads.now) c.requires.tree c.requires.lo c.args.hi c.requires.spans).in_heads
+pub put_token-requires : goal.put_token-requires
+put_token-requires c =
+    let s0 = declared-part c.args.w.now in
+    let s1 = put c.requires s0 c.in_ok-put_sign.ensures in
+    let c0 = unset-part c.args.w.now c.put_sign.new.self c.children-values.ensures s1 c.if-values-eq0.true in
+    spot c.requires c0
 
-pub put_token-alone-requires : goal.put_token-alone-requires
-put_token-alone-requires c =
-    let p = narrowed (seq (before_l (inp c.args.script.now c.args.offs.now c.args.words.now c.args.heads.now c.args.loads.now) c.args.hi) (word_l semi)) (c.args.hi - 1) (opening {L = var_l (inp c.args.script.now c.args.offs.now c.args.words.now c.args.heads.now c.args.loads.now)} {text = c.args.text.now} {hi = c.args.hi} {at = c.args.at}) (is-ended (inp c.args.script.now c.args.offs.now c.args.words.now c.args.heads.now c.args.loads.now) c.args.hi) (omega arith) in
-    let p1 = put (before_l (inp c.args.script.now c.args.offs.now c.args.words.now c.args.heads.now c.args.loads.now) c.args.hi) (word_l semi) p (cut-seq (before_l (inp c.args.script.now c.args.offs.now c.args.words.now c.args.heads.now c.args.loads.now) c.args.hi) (word_l semi) _) c.requires (fixed-low (worded semi)) c.put_sign-end.ensures c.put_sign-end.auto.text c.in-Done.is in
-    let u = narrowed (seq (word_l var_word) (own_l (inp c.args.script.now c.args.offs.now c.args.words.now c.args.heads.now c.args.loads.now) c.args.hi)) _ p1 (is-unset (inp c.args.script.now c.args.offs.now c.args.words.now c.args.heads.now c.args.loads.now) c.args.hi _ c.if-heads-m-eq0.true) (le_refl _) in
-    spot (word_l var_word) (own_l (inp c.args.script.now c.args.offs.now c.args.words.now c.args.heads.now c.args.loads.now) c.args.hi) u (cut-seq (word_l var_word) (own_l (inp c.args.script.now c.args.offs.now c.args.words.now c.args.heads.now c.args.loads.now) c.args.hi) _) c.requires
+pub returns-in_err-put_token : goal.returns-in_err-put_token
+returns-in_err-put_token c =
+    let s0 = declared-part c.args.w.now in
+    let s1 = put c.requires s0 c.in_ok-put_sign.ensures in
+    let c0 = unset-part c.args.w.now c.put_sign.new.self c.children-values.ensures s1 c.if-values-eq0.true in
+    stop c0 c.in_err-put_token.ensures c.from_residual-in_err-put_token.ensures.0
 
-pub returns-in_default-alone : goal.returns-in_default-alone
-returns-in_default-alone c =
-    let p = narrowed (seq (before_l (inp c.args.script.now c.args.offs.now c.args.words.now c.args.heads.now c.args.loads.now) c.args.hi) (word_l semi)) (c.args.hi - 1) (opening {L = var_l (inp c.args.script.now c.args.offs.now c.args.words.now c.args.heads.now c.args.loads.now)} {text = c.args.text.now} {hi = c.args.hi} {at = c.args.at}) (is-ended (inp c.args.script.now c.args.offs.now c.args.words.now c.args.heads.now c.args.loads.now) c.args.hi) (omega arith) in
-    let p1 = put (before_l (inp c.args.script.now c.args.offs.now c.args.words.now c.args.heads.now c.args.loads.now) c.args.hi) (word_l semi) p (cut-seq (before_l (inp c.args.script.now c.args.offs.now c.args.words.now c.args.heads.now c.args.loads.now) c.args.hi) (word_l semi) _) c.requires (fixed-low (worded semi)) c.put_sign-end.ensures c.put_sign-end.auto.text c.in-Done.is in
-    let u = narrowed (seq (word_l var_word) (own_l (inp c.args.script.now c.args.offs.now c.args.words.now c.args.heads.now c.args.loads.now) c.args.hi)) _ p1 (is-unset (inp c.args.script.now c.args.offs.now c.args.words.now c.args.heads.now c.args.loads.now) c.args.hi _ c.if-heads-m-eq0.true) (le_refl _) in
-    stop (word_l var_word) (own_l (inp c.args.script.now c.args.offs.now c.args.words.now c.args.heads.now c.args.loads.now) c.args.hi) u (cut-seq (word_l var_word) (own_l (inp c.args.script.now c.args.offs.now c.args.words.now c.args.heads.now c.args.loads.now) c.args.hi) _) c.put_token-alone.ensures c.in_default-alone.is
+pub returns-then-values-eq0 : goal.returns-then-values-eq0
+returns-then-values-eq0 c =
+    let s0 = declared-part c.args.w.now in
+    let s1 = put c.requires s0 c.in_ok-put_sign.ensures in
+    let c0 = unset-part c.args.w.now c.put_sign.new.self c.children-values.ensures s1 c.if-values-eq0.true in
+    let c1 = put c.requires c0 c.in_ok-put_token.ensures in
+    end c.requires c1 c.keyword.ensures
 
-pub keyword-requires : goal.keyword-requires
-keyword-requires c =
-    let p = narrowed (seq (before_l (inp c.args.script.now c.args.offs.now c.args.words.now c.args.heads.now c.args.loads.now) c.args.hi) (word_l semi)) (c.args.hi - 1) (opening {L = var_l (inp c.args.script.now c.args.offs.now c.args.words.now c.args.heads.now c.args.loads.now)} {text = c.args.text.now} {hi = c.args.hi} {at = c.args.at}) (is-ended (inp c.args.script.now c.args.offs.now c.args.words.now c.args.heads.now c.args.loads.now) c.args.hi) (omega arith) in
-    let p1 = put (before_l (inp c.args.script.now c.args.offs.now c.args.words.now c.args.heads.now c.args.loads.now) c.args.hi) (word_l semi) p (cut-seq (before_l (inp c.args.script.now c.args.offs.now c.args.words.now c.args.heads.now c.args.loads.now) c.args.hi) (word_l semi) _) c.requires (fixed-low (worded semi)) c.put_sign-end.ensures c.put_sign-end.auto.text c.in-Done.is in
-    let u = narrowed (seq (word_l var_word) (own_l (inp c.args.script.now c.args.offs.now c.args.words.now c.args.heads.now c.args.loads.now) c.args.hi)) _ p1 (is-unset (inp c.args.script.now c.args.offs.now c.args.words.now c.args.heads.now c.args.loads.now) c.args.hi _ c.if-heads-m-eq0.true) (le_refl _) in
-    let u2 = put (word_l var_word) (own_l (inp c.args.script.now c.args.offs.now c.args.words.now c.args.heads.now c.args.loads.now) c.args.hi) u (cut-seq (word_l var_word) (own_l (inp c.args.script.now c.args.offs.now c.args.words.now c.args.heads.now c.args.loads.now) c.args.hi) _) c.requires (own-low (inp c.args.script.now c.args.offs.now c.args.words.now c.args.heads.now c.args.loads.now) c.args.hi) c.put_token-alone.ensures c.put_token-alone.auto.text c.in-Done-alone.is in
-    (here u2 c.requires).room
+pub value-requires : goal.value-requires
+value-requires c =
+    let s0 = declared-part c.args.w.now in
+    let s1 = put c.requires s0 c.in_ok-put_sign.ensures in
+    let c0 = set-part c.args.w.now c.put_sign.new.self c.children-values.ensures s1 c.if-values-eq0.false in
+    spot c.requires c0
 
-pub returns-then-heads-m-eq0 : goal.returns-then-heads-m-eq0
-returns-then-heads-m-eq0 c =
-    let p = narrowed (seq (before_l (inp c.args.script.now c.args.offs.now c.args.words.now c.args.heads.now c.args.loads.now) c.args.hi) (word_l semi)) (c.args.hi - 1) (opening {L = var_l (inp c.args.script.now c.args.offs.now c.args.words.now c.args.heads.now c.args.loads.now)} {text = c.args.text.now} {hi = c.args.hi} {at = c.args.at}) (is-ended (inp c.args.script.now c.args.offs.now c.args.words.now c.args.heads.now c.args.loads.now) c.args.hi) (omega arith) in
-    let p1 = put (before_l (inp c.args.script.now c.args.offs.now c.args.words.now c.args.heads.now c.args.loads.now) c.args.hi) (word_l semi) p (cut-seq (before_l (inp c.args.script.now c.args.offs.now c.args.words.now c.args.heads.now c.args.loads.now) c.args.hi) (word_l semi) _) c.requires (fixed-low (worded semi)) c.put_sign-end.ensures c.put_sign-end.auto.text c.in-Done.is in
-    let u = narrowed (seq (word_l var_word) (own_l (inp c.args.script.now c.args.offs.now c.args.words.now c.args.heads.now c.args.loads.now) c.args.hi)) _ p1 (is-unset (inp c.args.script.now c.args.offs.now c.args.words.now c.args.heads.now c.args.loads.now) c.args.hi _ c.if-heads-m-eq0.true) (le_refl _) in
-    let u2 = put (word_l var_word) (own_l (inp c.args.script.now c.args.offs.now c.args.words.now c.args.heads.now c.args.loads.now) c.args.hi) u (cut-seq (word_l var_word) (own_l (inp c.args.script.now c.args.offs.now c.args.words.now c.args.heads.now c.args.loads.now) c.args.hi) _) c.requires (own-low (inp c.args.script.now c.args.offs.now c.args.words.now c.args.heads.now c.args.loads.now) c.args.hi) c.put_token-alone.ensures c.put_token-alone.auto.text c.in-Done-alone.is in
-    end u2 c.requires.room c.keyword.ensures
+pub returns-in_err-value : goal.returns-in_err-value
+returns-in_err-value c =
+    let s0 = declared-part c.args.w.now in
+    let s1 = put c.requires s0 c.in_ok-put_sign.ensures in
+    let c0 = set-part c.args.w.now c.put_sign.new.self c.children-values.ensures s1 c.if-values-eq0.false in
+    stop c0 c.in_err-value.ensures c.from_residual-in_err-value.ensures.0
 
-pub value-inner-requires : goal.value-inner-requires
-value-inner-requires c =
-    let p = narrowed (seq (before_l (inp c.args.script.now c.args.offs.now c.args.words.now c.args.heads.now c.args.loads.now) c.args.hi) (word_l semi)) (c.args.hi - 1) (opening {L = var_l (inp c.args.script.now c.args.offs.now c.args.words.now c.args.heads.now c.args.loads.now)} {text = c.args.text.now} {hi = c.args.hi} {at = c.args.at}) (is-ended (inp c.args.script.now c.args.offs.now c.args.words.now c.args.heads.now c.args.loads.now) c.args.hi) (omega arith) in
-    let p1 = put (before_l (inp c.args.script.now c.args.offs.now c.args.words.now c.args.heads.now c.args.loads.now) c.args.hi) (word_l semi) p (cut-seq (before_l (inp c.args.script.now c.args.offs.now c.args.words.now c.args.heads.now c.args.loads.now) c.args.hi) (word_l semi) _) c.requires (fixed-low (worded semi)) c.put_sign-end.ensures c.put_sign-end.auto.text c.in-Done.is in
-    let q = narrowed (seq (seq (seq (word_l var_word) (own_l (inp c.args.script.now c.args.offs.now c.args.words.now c.args.heads.now c.args.loads.now) c.args.hi)) (word_l eq)) (value_l (inp c.args.script.now c.args.offs.now c.args.words.now c.args.heads.now c.args.loads.now))) _ p1 (is_set (inp c.args.script.now c.args.offs.now c.args.words.now c.args.heads.now c.args.loads.now) c.args.hi _ c.if-heads-m-eq0.false) (le_refl _) in
-    spot (seq (seq (word_l var_word) (own_l (inp c.args.script.now c.args.offs.now c.args.words.now c.args.heads.now c.args.loads.now) c.args.hi)) (word_l eq)) (value_l (inp c.args.script.now c.args.offs.now c.args.words.now c.args.heads.now c.args.loads.now)) q (cut-seq (seq (seq (word_l var_word) (own_l (inp c.args.script.now c.args.offs.now c.args.words.now c.args.heads.now c.args.loads.now) c.args.hi)) (word_l eq)) (value_l (inp c.args.script.now c.args.offs.now c.args.words.now c.args.heads.now c.args.loads.now)) _) c.requires
+pub returns-in_err-put_sign-2 : goal.returns-in_err-put_sign-2
+returns-in_err-put_sign-2 c =
+    let s0 = declared-part c.args.w.now in
+    let s1 = put c.requires s0 c.in_ok-put_sign.ensures in
+    let c0 = set-part c.args.w.now c.put_sign.new.self c.children-values.ensures s1 c.if-values-eq0.false in
+    let c1 = put c.requires c0 c.in_ok-value.ensures in
+    stop c1 c.in_err-put_sign-2.ensures c.from_residual-in_err-put_sign-2.ensures.0
 
-pub returns-in_default-inner : goal.returns-in_default-inner
-returns-in_default-inner c =
-    let p = narrowed (seq (before_l (inp c.args.script.now c.args.offs.now c.args.words.now c.args.heads.now c.args.loads.now) c.args.hi) (word_l semi)) (c.args.hi - 1) (opening {L = var_l (inp c.args.script.now c.args.offs.now c.args.words.now c.args.heads.now c.args.loads.now)} {text = c.args.text.now} {hi = c.args.hi} {at = c.args.at}) (is-ended (inp c.args.script.now c.args.offs.now c.args.words.now c.args.heads.now c.args.loads.now) c.args.hi) (omega arith) in
-    let p1 = put (before_l (inp c.args.script.now c.args.offs.now c.args.words.now c.args.heads.now c.args.loads.now) c.args.hi) (word_l semi) p (cut-seq (before_l (inp c.args.script.now c.args.offs.now c.args.words.now c.args.heads.now c.args.loads.now) c.args.hi) (word_l semi) _) c.requires (fixed-low (worded semi)) c.put_sign-end.ensures c.put_sign-end.auto.text c.in-Done.is in
-    let q = narrowed (seq (seq (seq (word_l var_word) (own_l (inp c.args.script.now c.args.offs.now c.args.words.now c.args.heads.now c.args.loads.now) c.args.hi)) (word_l eq)) (value_l (inp c.args.script.now c.args.offs.now c.args.words.now c.args.heads.now c.args.loads.now))) _ p1 (is_set (inp c.args.script.now c.args.offs.now c.args.words.now c.args.heads.now c.args.loads.now) c.args.hi _ c.if-heads-m-eq0.false) (le_refl _) in
-    stop (seq (seq (word_l var_word) (own_l (inp c.args.script.now c.args.offs.now c.args.words.now c.args.heads.now c.args.loads.now) c.args.hi)) (word_l eq)) (value_l (inp c.args.script.now c.args.offs.now c.args.words.now c.args.heads.now c.args.loads.now)) q (cut-seq (seq (seq (word_l var_word) (own_l (inp c.args.script.now c.args.offs.now c.args.words.now c.args.heads.now c.args.loads.now) c.args.hi)) (word_l eq)) (value_l (inp c.args.script.now c.args.offs.now c.args.words.now c.args.heads.now c.args.loads.now)) _) c.value-inner.ensures c.in_default-inner.is
+pub put_token-requires-2 : goal.put_token-requires-2
+put_token-requires-2 c =
+    let s0 = declared-part c.args.w.now in
+    let s1 = put c.requires s0 c.in_ok-put_sign.ensures in
+    let c0 = set-part c.args.w.now c.put_sign.new.self c.children-values.ensures s1 c.if-values-eq0.false in
+    let c1 = put c.requires c0 c.in_ok-value.ensures in
+    let c2 = put c.requires c1 c.in_ok-put_sign-2.ensures in
+    spot c.requires c2
 
-pub put_sign-sign-requires : goal.put_sign-sign-requires
-put_sign-sign-requires c =
-    let p = narrowed (seq (before_l (inp c.args.script.now c.args.offs.now c.args.words.now c.args.heads.now c.args.loads.now) c.args.hi) (word_l semi)) (c.args.hi - 1) (opening {L = var_l (inp c.args.script.now c.args.offs.now c.args.words.now c.args.heads.now c.args.loads.now)} {text = c.args.text.now} {hi = c.args.hi} {at = c.args.at}) (is-ended (inp c.args.script.now c.args.offs.now c.args.words.now c.args.heads.now c.args.loads.now) c.args.hi) (omega arith) in
-    let p1 = put (before_l (inp c.args.script.now c.args.offs.now c.args.words.now c.args.heads.now c.args.loads.now) c.args.hi) (word_l semi) p (cut-seq (before_l (inp c.args.script.now c.args.offs.now c.args.words.now c.args.heads.now c.args.loads.now) c.args.hi) (word_l semi) _) c.requires (fixed-low (worded semi)) c.put_sign-end.ensures c.put_sign-end.auto.text c.in-Done.is in
-    let q = narrowed (seq (seq (seq (word_l var_word) (own_l (inp c.args.script.now c.args.offs.now c.args.words.now c.args.heads.now c.args.loads.now) c.args.hi)) (word_l eq)) (value_l (inp c.args.script.now c.args.offs.now c.args.words.now c.args.heads.now c.args.loads.now))) _ p1 (is_set (inp c.args.script.now c.args.offs.now c.args.words.now c.args.heads.now c.args.loads.now) c.args.hi _ c.if-heads-m-eq0.false) (le_refl _) in
-    let q2 = put (seq (seq (word_l var_word) (own_l (inp c.args.script.now c.args.offs.now c.args.words.now c.args.heads.now c.args.loads.now) c.args.hi)) (word_l eq)) (value_l (inp c.args.script.now c.args.offs.now c.args.words.now c.args.heads.now c.args.loads.now)) q (cut-seq (seq (seq (word_l var_word) (own_l (inp c.args.script.now c.args.offs.now c.args.words.now c.args.heads.now c.args.loads.now) c.args.hi)) (word_l eq)) (value_l (inp c.args.script.now c.args.offs.now c.args.words.now c.args.heads.now c.args.loads.now)) _) c.requires (value_low (inp c.args.script.now c.args.offs.now c.args.words.now c.args.heads.now c.args.loads.now)) c.value-inner.ensures c.value-inner.auto.text c.in-Done-inner.is in
-    (here q2 c.requires).room
-
-pub returns-in_default-sign : goal.returns-in_default-sign
-returns-in_default-sign c =
-    let p = narrowed (seq (before_l (inp c.args.script.now c.args.offs.now c.args.words.now c.args.heads.now c.args.loads.now) c.args.hi) (word_l semi)) (c.args.hi - 1) (opening {L = var_l (inp c.args.script.now c.args.offs.now c.args.words.now c.args.heads.now c.args.loads.now)} {text = c.args.text.now} {hi = c.args.hi} {at = c.args.at}) (is-ended (inp c.args.script.now c.args.offs.now c.args.words.now c.args.heads.now c.args.loads.now) c.args.hi) (omega arith) in
-    let p1 = put (before_l (inp c.args.script.now c.args.offs.now c.args.words.now c.args.heads.now c.args.loads.now) c.args.hi) (word_l semi) p (cut-seq (before_l (inp c.args.script.now c.args.offs.now c.args.words.now c.args.heads.now c.args.loads.now) c.args.hi) (word_l semi) _) c.requires (fixed-low (worded semi)) c.put_sign-end.ensures c.put_sign-end.auto.text c.in-Done.is in
-    let q = narrowed (seq (seq (seq (word_l var_word) (own_l (inp c.args.script.now c.args.offs.now c.args.words.now c.args.heads.now c.args.loads.now) c.args.hi)) (word_l eq)) (value_l (inp c.args.script.now c.args.offs.now c.args.words.now c.args.heads.now c.args.loads.now))) _ p1 (is_set (inp c.args.script.now c.args.offs.now c.args.words.now c.args.heads.now c.args.loads.now) c.args.hi _ c.if-heads-m-eq0.false) (le_refl _) in
-    let q2 = put (seq (seq (word_l var_word) (own_l (inp c.args.script.now c.args.offs.now c.args.words.now c.args.heads.now c.args.loads.now) c.args.hi)) (word_l eq)) (value_l (inp c.args.script.now c.args.offs.now c.args.words.now c.args.heads.now c.args.loads.now)) q (cut-seq (seq (seq (word_l var_word) (own_l (inp c.args.script.now c.args.offs.now c.args.words.now c.args.heads.now c.args.loads.now) c.args.hi)) (word_l eq)) (value_l (inp c.args.script.now c.args.offs.now c.args.words.now c.args.heads.now c.args.loads.now)) _) c.requires (value_low (inp c.args.script.now c.args.offs.now c.args.words.now c.args.heads.now c.args.loads.now)) c.value-inner.ensures c.value-inner.auto.text c.in-Done-inner.is in
-    stop (seq (word_l var_word) (own_l (inp c.args.script.now c.args.offs.now c.args.words.now c.args.heads.now c.args.loads.now) c.args.hi)) (word_l eq) q2 (cut-seq (seq (word_l var_word) (own_l (inp c.args.script.now c.args.offs.now c.args.words.now c.args.heads.now c.args.loads.now) c.args.hi)) (word_l eq) _) c.put_sign-sign.ensures c.in_default-sign.is
-
-pub put_token-name-requires : goal.put_token-name-requires
-put_token-name-requires c =
-    let p = narrowed (seq (before_l (inp c.args.script.now c.args.offs.now c.args.words.now c.args.heads.now c.args.loads.now) c.args.hi) (word_l semi)) (c.args.hi - 1) (opening {L = var_l (inp c.args.script.now c.args.offs.now c.args.words.now c.args.heads.now c.args.loads.now)} {text = c.args.text.now} {hi = c.args.hi} {at = c.args.at}) (is-ended (inp c.args.script.now c.args.offs.now c.args.words.now c.args.heads.now c.args.loads.now) c.args.hi) (omega arith) in
-    let p1 = put (before_l (inp c.args.script.now c.args.offs.now c.args.words.now c.args.heads.now c.args.loads.now) c.args.hi) (word_l semi) p (cut-seq (before_l (inp c.args.script.now c.args.offs.now c.args.words.now c.args.heads.now c.args.loads.now) c.args.hi) (word_l semi) _) c.requires (fixed-low (worded semi)) c.put_sign-end.ensures c.put_sign-end.auto.text c.in-Done.is in
-    let q = narrowed (seq (seq (seq (word_l var_word) (own_l (inp c.args.script.now c.args.offs.now c.args.words.now c.args.heads.now c.args.loads.now) c.args.hi)) (word_l eq)) (value_l (inp c.args.script.now c.args.offs.now c.args.words.now c.args.heads.now c.args.loads.now))) _ p1 (is_set (inp c.args.script.now c.args.offs.now c.args.words.now c.args.heads.now c.args.loads.now) c.args.hi _ c.if-heads-m-eq0.false) (le_refl _) in
-    let q2 = put (seq (seq (word_l var_word) (own_l (inp c.args.script.now c.args.offs.now c.args.words.now c.args.heads.now c.args.loads.now) c.args.hi)) (word_l eq)) (value_l (inp c.args.script.now c.args.offs.now c.args.words.now c.args.heads.now c.args.loads.now)) q (cut-seq (seq (seq (word_l var_word) (own_l (inp c.args.script.now c.args.offs.now c.args.words.now c.args.heads.now c.args.loads.now) c.args.hi)) (word_l eq)) (value_l (inp c.args.script.now c.args.offs.now c.args.words.now c.args.heads.now c.args.loads.now)) _) c.requires (value_low (inp c.args.script.now c.args.offs.now c.args.words.now c.args.heads.now c.args.loads.now)) c.value-inner.ensures c.value-inner.auto.text c.in-Done-inner.is in
-    let q3 = put (seq (word_l var_word) (own_l (inp c.args.script.now c.args.offs.now c.args.words.now c.args.heads.now c.args.loads.now) c.args.hi)) (word_l eq) q2 (cut-seq (seq (word_l var_word) (own_l (inp c.args.script.now c.args.offs.now c.args.words.now c.args.heads.now c.args.loads.now) c.args.hi)) (word_l eq) _) c.requires (fixed-low (worded eq)) c.put_sign-sign.ensures c.put_sign-sign.auto.text c.in-Done-sign.is in
-    spot (word_l var_word) (own_l (inp c.args.script.now c.args.offs.now c.args.words.now c.args.heads.now c.args.loads.now) c.args.hi) q3 (cut-seq (word_l var_word) (own_l (inp c.args.script.now c.args.offs.now c.args.words.now c.args.heads.now c.args.loads.now) c.args.hi) _) c.requires
-
-pub shape_of-text-in_default-name : goal.shape_of-text-in_default-name
-shape_of-text-in_default-name c = c.put_token-name.auto.text ∙ c.put_sign-sign.auto.text ∙ c.value-inner.auto.text ∙ c.put_sign-end.auto.text
-
-pub returns-in_default-name : goal.returns-in_default-name
-returns-in_default-name c =
-    let p = narrowed (seq (before_l (inp c.args.script.now c.args.offs.now c.args.words.now c.args.heads.now c.args.loads.now) c.args.hi) (word_l semi)) (c.args.hi - 1) (opening {L = var_l (inp c.args.script.now c.args.offs.now c.args.words.now c.args.heads.now c.args.loads.now)} {text = c.args.text.now} {hi = c.args.hi} {at = c.args.at}) (is-ended (inp c.args.script.now c.args.offs.now c.args.words.now c.args.heads.now c.args.loads.now) c.args.hi) (omega arith) in
-    let p1 = put (before_l (inp c.args.script.now c.args.offs.now c.args.words.now c.args.heads.now c.args.loads.now) c.args.hi) (word_l semi) p (cut-seq (before_l (inp c.args.script.now c.args.offs.now c.args.words.now c.args.heads.now c.args.loads.now) c.args.hi) (word_l semi) _) c.requires (fixed-low (worded semi)) c.put_sign-end.ensures c.put_sign-end.auto.text c.in-Done.is in
-    let q = narrowed (seq (seq (seq (word_l var_word) (own_l (inp c.args.script.now c.args.offs.now c.args.words.now c.args.heads.now c.args.loads.now) c.args.hi)) (word_l eq)) (value_l (inp c.args.script.now c.args.offs.now c.args.words.now c.args.heads.now c.args.loads.now))) _ p1 (is_set (inp c.args.script.now c.args.offs.now c.args.words.now c.args.heads.now c.args.loads.now) c.args.hi _ c.if-heads-m-eq0.false) (le_refl _) in
-    let q2 = put (seq (seq (word_l var_word) (own_l (inp c.args.script.now c.args.offs.now c.args.words.now c.args.heads.now c.args.loads.now) c.args.hi)) (word_l eq)) (value_l (inp c.args.script.now c.args.offs.now c.args.words.now c.args.heads.now c.args.loads.now)) q (cut-seq (seq (seq (word_l var_word) (own_l (inp c.args.script.now c.args.offs.now c.args.words.now c.args.heads.now c.args.loads.now) c.args.hi)) (word_l eq)) (value_l (inp c.args.script.now c.args.offs.now c.args.words.now c.args.heads.now c.args.loads.now)) _) c.requires (value_low (inp c.args.script.now c.args.offs.now c.args.words.now c.args.heads.now c.args.loads.now)) c.value-inner.ensures c.value-inner.auto.text c.in-Done-inner.is in
-    let q3 = put (seq (word_l var_word) (own_l (inp c.args.script.now c.args.offs.now c.args.words.now c.args.heads.now c.args.loads.now) c.args.hi)) (word_l eq) q2 (cut-seq (seq (word_l var_word) (own_l (inp c.args.script.now c.args.offs.now c.args.words.now c.args.heads.now c.args.loads.now) c.args.hi)) (word_l eq) _) c.requires (fixed-low (worded eq)) c.put_sign-sign.ensures c.put_sign-sign.auto.text c.in-Done-sign.is in
-    stop (word_l var_word) (own_l (inp c.args.script.now c.args.offs.now c.args.words.now c.args.heads.now c.args.loads.now) c.args.hi) q3 (cut-seq (word_l var_word) (own_l (inp c.args.script.now c.args.offs.now c.args.words.now c.args.heads.now c.args.loads.now) c.args.hi) _) c.put_token-name.ensures c.in_default-name.is
-
-pub keyword-requires-2 : goal.keyword-requires-2
-keyword-requires-2 c =
-    let p = narrowed (seq (before_l (inp c.args.script.now c.args.offs.now c.args.words.now c.args.heads.now c.args.loads.now) c.args.hi) (word_l semi)) (c.args.hi - 1) (opening {L = var_l (inp c.args.script.now c.args.offs.now c.args.words.now c.args.heads.now c.args.loads.now)} {text = c.args.text.now} {hi = c.args.hi} {at = c.args.at}) (is-ended (inp c.args.script.now c.args.offs.now c.args.words.now c.args.heads.now c.args.loads.now) c.args.hi) (omega arith) in
-    let p1 = put (before_l (inp c.args.script.now c.args.offs.now c.args.words.now c.args.heads.now c.args.loads.now) c.args.hi) (word_l semi) p (cut-seq (before_l (inp c.args.script.now c.args.offs.now c.args.words.now c.args.heads.now c.args.loads.now) c.args.hi) (word_l semi) _) c.requires (fixed-low (worded semi)) c.put_sign-end.ensures c.put_sign-end.auto.text c.in-Done.is in
-    let q = narrowed (seq (seq (seq (word_l var_word) (own_l (inp c.args.script.now c.args.offs.now c.args.words.now c.args.heads.now c.args.loads.now) c.args.hi)) (word_l eq)) (value_l (inp c.args.script.now c.args.offs.now c.args.words.now c.args.heads.now c.args.loads.now))) _ p1 (is_set (inp c.args.script.now c.args.offs.now c.args.words.now c.args.heads.now c.args.loads.now) c.args.hi _ c.if-heads-m-eq0.false) (le_refl _) in
-    let q2 = put (seq (seq (word_l var_word) (own_l (inp c.args.script.now c.args.offs.now c.args.words.now c.args.heads.now c.args.loads.now) c.args.hi)) (word_l eq)) (value_l (inp c.args.script.now c.args.offs.now c.args.words.now c.args.heads.now c.args.loads.now)) q (cut-seq (seq (seq (word_l var_word) (own_l (inp c.args.script.now c.args.offs.now c.args.words.now c.args.heads.now c.args.loads.now) c.args.hi)) (word_l eq)) (value_l (inp c.args.script.now c.args.offs.now c.args.words.now c.args.heads.now c.args.loads.now)) _) c.requires (value_low (inp c.args.script.now c.args.offs.now c.args.words.now c.args.heads.now c.args.loads.now)) c.value-inner.ensures c.value-inner.auto.text c.in-Done-inner.is in
-    let q3 = put (seq (word_l var_word) (own_l (inp c.args.script.now c.args.offs.now c.args.words.now c.args.heads.now c.args.loads.now) c.args.hi)) (word_l eq) q2 (cut-seq (seq (word_l var_word) (own_l (inp c.args.script.now c.args.offs.now c.args.words.now c.args.heads.now c.args.loads.now) c.args.hi)) (word_l eq) _) c.requires (fixed-low (worded eq)) c.put_sign-sign.ensures c.put_sign-sign.auto.text c.in-Done-sign.is in
-    let q4 = put (word_l var_word) (own_l (inp c.args.script.now c.args.offs.now c.args.words.now c.args.heads.now c.args.loads.now) c.args.hi) q3 (cut-seq (word_l var_word) (own_l (inp c.args.script.now c.args.offs.now c.args.words.now c.args.heads.now c.args.loads.now) c.args.hi) _) c.requires (own-low (inp c.args.script.now c.args.offs.now c.args.words.now c.args.heads.now c.args.loads.now) c.args.hi) c.put_token-name.ensures c.put_token-name.auto.text c.in-Done-name.is in
-    (here q4 c.requires).room
-
-pub shape_of-text : goal.shape_of-text
-shape_of-text c = c.keyword-2.auto.text ∙ c.put_token-name.auto.text ∙ c.put_sign-sign.auto.text ∙ c.value-inner.auto.text ∙ c.put_sign-end.auto.text
+pub returns-in_err-put_token-2 : goal.returns-in_err-put_token-2
+returns-in_err-put_token-2 c =
+    let s0 = declared-part c.args.w.now in
+    let s1 = put c.requires s0 c.in_ok-put_sign.ensures in
+    let c0 = set-part c.args.w.now c.put_sign.new.self c.children-values.ensures s1 c.if-values-eq0.false in
+    let c1 = put c.requires c0 c.in_ok-value.ensures in
+    let c2 = put c.requires c1 c.in_ok-put_sign-2.ensures in
+    stop c2 c.in_err-put_token-2.ensures c.from_residual-in_err-put_token-2.ensures.0
 
 pub returns : goal.returns
 returns c =
-    let p = narrowed (seq (before_l (inp c.args.script.now c.args.offs.now c.args.words.now c.args.heads.now c.args.loads.now) c.args.hi) (word_l semi)) (c.args.hi - 1) (opening {L = var_l (inp c.args.script.now c.args.offs.now c.args.words.now c.args.heads.now c.args.loads.now)} {text = c.args.text.now} {hi = c.args.hi} {at = c.args.at}) (is-ended (inp c.args.script.now c.args.offs.now c.args.words.now c.args.heads.now c.args.loads.now) c.args.hi) (omega arith) in
-    let p1 = put (before_l (inp c.args.script.now c.args.offs.now c.args.words.now c.args.heads.now c.args.loads.now) c.args.hi) (word_l semi) p (cut-seq (before_l (inp c.args.script.now c.args.offs.now c.args.words.now c.args.heads.now c.args.loads.now) c.args.hi) (word_l semi) _) c.requires (fixed-low (worded semi)) c.put_sign-end.ensures c.put_sign-end.auto.text c.in-Done.is in
-    let q = narrowed (seq (seq (seq (word_l var_word) (own_l (inp c.args.script.now c.args.offs.now c.args.words.now c.args.heads.now c.args.loads.now) c.args.hi)) (word_l eq)) (value_l (inp c.args.script.now c.args.offs.now c.args.words.now c.args.heads.now c.args.loads.now))) _ p1 (is_set (inp c.args.script.now c.args.offs.now c.args.words.now c.args.heads.now c.args.loads.now) c.args.hi _ c.if-heads-m-eq0.false) (le_refl _) in
-    let q2 = put (seq (seq (word_l var_word) (own_l (inp c.args.script.now c.args.offs.now c.args.words.now c.args.heads.now c.args.loads.now) c.args.hi)) (word_l eq)) (value_l (inp c.args.script.now c.args.offs.now c.args.words.now c.args.heads.now c.args.loads.now)) q (cut-seq (seq (seq (word_l var_word) (own_l (inp c.args.script.now c.args.offs.now c.args.words.now c.args.heads.now c.args.loads.now) c.args.hi)) (word_l eq)) (value_l (inp c.args.script.now c.args.offs.now c.args.words.now c.args.heads.now c.args.loads.now)) _) c.requires (value_low (inp c.args.script.now c.args.offs.now c.args.words.now c.args.heads.now c.args.loads.now)) c.value-inner.ensures c.value-inner.auto.text c.in-Done-inner.is in
-    let q3 = put (seq (word_l var_word) (own_l (inp c.args.script.now c.args.offs.now c.args.words.now c.args.heads.now c.args.loads.now) c.args.hi)) (word_l eq) q2 (cut-seq (seq (word_l var_word) (own_l (inp c.args.script.now c.args.offs.now c.args.words.now c.args.heads.now c.args.loads.now) c.args.hi)) (word_l eq) _) c.requires (fixed-low (worded eq)) c.put_sign-sign.ensures c.put_sign-sign.auto.text c.in-Done-sign.is in
-    let q4 = put (word_l var_word) (own_l (inp c.args.script.now c.args.offs.now c.args.words.now c.args.heads.now c.args.loads.now) c.args.hi) q3 (cut-seq (word_l var_word) (own_l (inp c.args.script.now c.args.offs.now c.args.words.now c.args.heads.now c.args.loads.now) c.args.hi) _) c.requires (own-low (inp c.args.script.now c.args.offs.now c.args.words.now c.args.heads.now c.args.loads.now) c.args.hi) c.put_token-name.ensures c.put_token-name.auto.text c.in-Done-name.is in
-    end q4 c.requires.room c.keyword-2.ensures
+    let s0 = declared-part c.args.w.now in
+    let s1 = put c.requires s0 c.in_ok-put_sign.ensures in
+    let c0 = set-part c.args.w.now c.put_sign.new.self c.children-values.ensures s1 c.if-values-eq0.false in
+    let c1 = put c.requires c0 c.in_ok-value.ensures in
+    let c2 = put c.requires c1 c.in_ok-put_sign-2.ensures in
+    let c3 = put c.requires c2 c.in_ok-put_token-2.ensures in
+    end c.requires c3 c.keyword-2.ensures

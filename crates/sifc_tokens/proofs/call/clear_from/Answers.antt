@@ -1,6 +1,5 @@
-use mathlib.Core.Path.{refl, ◌∙◌}
-use Rattle.sifc_tokens.proofs.Clear.{cleared-all}
+use Rattle.sifc_tokens.proofs.Clear.{part-cleared}
 use Rattle.sifc_tokens.proofs.call.clear_from.Goals as goal
 
 pub returns : goal.returns
-returns c = c.clear_part.ensures ∙ cleared-all c.args.a.now c.args.n _ refl
+returns c = part-cleared c.args.a.now c.clear_part.new.part c.args.n c.requires c.clear_part.ensures

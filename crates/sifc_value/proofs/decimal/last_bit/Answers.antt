@@ -1,10 +1,14 @@
-use Rattle.std.proofs.Common.{sym, refl}
-use Rattle.sifc_value.specs.Decimal.{bit, bit-some}
+use Rattle.std.proofs.Common.{ℕ, ◌≡◌, zero, suc, refl, ◌∙◌, ne_eqb}
+use Rattle.std.specs.Prelude.{not, ◌==◌}
+use Rattle.std.specs.Int.{from_bool}
+use Rattle.sifc_value.specs.Decimal.{bit}
 use Rattle.sifc_value.proofs.decimal.last_bit.Goals as goal
 
-pub returns-then-rest-eq0 : goal.returns-then-rest-eq0
+-- the test as a number is the bit
+tested : (r : ℕ) → from_bool (not (r == 0)) ≡ bit r
 unfolding bit
-returns-then-rest-eq0 c = rw c.if-rest-eq0.true refl
+tested zero = refl
+tested (suc r) = rw (ne_eqb (suc r) 0 (λ e. cc)) refl
 
 pub returns : goal.returns
-returns c = sym (bit-some _ c.if-rest-eq0.false)
+returns c = c.from.ensures ∙ tested c.args.rest

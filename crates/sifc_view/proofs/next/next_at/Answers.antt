@@ -4,7 +4,7 @@ use Rattle.sifc_view.proofs.ViewLaws.{next_start, next-skip, next_word, next-sto
 use Rattle.sifc_view.proofs.next.next_at.Goals as goal
 
 pub loop-n-init : goal.loop-n-init
-loop-n-init c = next_start _ _ _ c.clip-at.ensures
+loop-n-init c = next_start _ _ _ c.min-at.ensures
 
 pub overflow_add-at : goal.overflow_add-at
 overflow_add-at c =
