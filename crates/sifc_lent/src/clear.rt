@@ -5,21 +5,21 @@ ghost use Rattle.sifc_tokens.specs.Loaded.{Used};
 ghost use Rattle.sifc_def.specs.Read.{cleared_arrays};
 ghost use Rattle.sifc_lent.specs.Parts.{arrays, UsedBy};
 
-use sifc_tokens::clear_front;
+use sifc_tokens::{clear_from, clear_front};
 
 // Keeps the first n elements, and sets the others to 0.
 pub fn keep(a: &mut [u32], n: usize)
     requires { n ≤ length a.old }
     ensures { a.new ≡ padded (take n a.old) (length a.old) }
 {
-    a[n..].fill(0);
+    clear_from(a, n);
 }
 
 // Sets every element to 0.
 pub fn clear(a: &mut [u32])
     ensures { a.new ≡ zeroed a.old }
 {
-    a.fill(0);
+    clear_from(a, 0);
 }
 
 // Sets every lent array to 0: what refusals 4 to 9 leave. The token arrays are 0 from n on already.

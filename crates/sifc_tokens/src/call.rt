@@ -7,12 +7,15 @@ ghost use Rattle.sifc_lex.specs.Bytes.{greatest_from};
 use sifc_err::{Ending, Refusal};
 use sifc_lex::{Ended, Step, end_kind, run_end, step_at};
 
-// Sets every element of a part to 0.
+// Sets every element of a part to 0. `fill` writes the last of them by itself, which is slower and which the test that
+// no byte is cleared twice counts as one too few.
 #[tactic(auto, unfolding(crate::specs::Tokens::zeroed))]
 fn clear_part(part: &mut [u32])
     ensures { part.new ≡ zeroed part.old }
 {
-    part.fill(0);
+    for x in part.iter_mut() {
+        *x = 0;
+    }
 }
 
 // Sets the elements from n on to 0.
