@@ -3,7 +3,7 @@ use Rattle.std.specs.Prelude.{Err, Ok}
 use Prim.Native.Nat.{ℕ, ◌-◌, ◌≤◌}
 use native.Mathlib.Omega.{arith}
 use mathlib.Core.Path.{◌≡◌, refl, sym, ap, ap₂, ◌∙◌, subst}
-use mathlib.Core.List.{List, [], ◌++◌, map}
+use mathlib.Core.List.{List, [], map}
 use mathlib.Core.Bool.{Bool, true, false}
 use lib.Dec.{ltb}
 use lib.ListN.{length, take, replicate, length-append, length-map}
@@ -190,18 +190,13 @@ flagged-is : (s : List ℕ) (a : Arrays) (t : List ℕ) (f : Found) → f.flag �
 unfolding texted if◌then◌otherwise◌
 flagged-is s a t f e = rw e refl
 
--- A buffer that is cleared.
-all-cleared : (t : List ℕ) → replicate (length t) 0 ≡ zeroed t
-unfolding zeroed
-all-cleared t = refl
-
 module _ (s o w h l y p r : List ℕ) (m : Summary) where
   -- The flag is up.
-  pub flagged : {t t' : List ℕ} {b : Arrays} → m.flag ≡ true → b ≡ cleared_arrays (arrays o w h l y p r) → t' ≡ replicate (length t) 0 → Texts s (arrays o w h l y p r) m t (written (Err Flagged) b t')
+  pub flagged : {t t' : List ℕ} {b : Arrays} → m.flag ≡ true → b ≡ cleared_arrays (arrays o w h l y p r) → t' ≡ zeroed t → Texts s (arrays o w h l y p r) m t (written (Err Flagged) b t')
   flagged {t} e c k =
       record {
         does = λ a f z.
-            ap₂ (λ (x : Arrays) (v : List ℕ). written (Err Flagged) x v) (c ∙ z.cleared) (k ∙ all-cleared t)
+            ap₂ (λ (x : Arrays) (v : List ℕ). written (Err Flagged) x v) (c ∙ z.cleared) k
             ∙ flagged-is s a t f (sym (flag_is s o w h l y p r m a f z) ∙ e);
       }
 
@@ -278,7 +273,7 @@ module _ (s : List ℕ) (a : Arrays) {b : Arrays} {u : Reading} (c : called u b 
   texts-is {m} {t} e long k q = let z = kept s a b m e (same-cleared long) (ap (λ (x : Reading). called x b) (sym k) ∙ c) in q.does a z.what z.by ∙ ap (texted s a t) (sym z.read_is)
 
   -- the reading is refused
-  pub refused-is : (t : List ℕ) {x : Refusal} {t' : List ℕ} → u ≡ Err x → t' ≡ replicate (length t) 0 → written (Err x) b t' ≡ texted s a t (read (rooms_of a) s)
+  pub refused-is : (t : List ℕ) {x : Refusal} {t' : List ℕ} → u ≡ Err x → t' ≡ zeroed t → written (Err x) b t' ≡ texted s a t (read (rooms_of a) s)
   unfolding answered texted
   refused-is t {x} {t'} k g = go (read (rooms_of a) s) (ap (λ (y : Reading). called y b) (sym k) ∙ c)
     where
@@ -287,7 +282,7 @@ module _ (s : List ℕ) (a : Arrays) {b : Arrays} {u : Reading} (c : called u b 
       go (refused y) d =
           let v : Err x ≡ Err y = ap (λ (z : Called Reading). z.answer) d in
           let n : b ≡ cleared_arrays a = ap (λ (z : Called Reading). z.arrays) d in
-          let i : t' ≡ zeroed t = g ∙ all-cleared t in
+          let i : t' ≡ zeroed t = g in
           cc
 
 -- ── entry ──

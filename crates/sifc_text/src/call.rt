@@ -10,7 +10,7 @@ use sifc_err::Refusal;
 use sifc_lent::{clear_used, entry_tests};
 use sifc_put::Tree;
 use sifc_read::after_entry;
-use sifc_write::write_tree;
+use sifc_write::{clear_from, write_tree};
 
 // The text of what a reading left, which answered this. A flag that is up is refused, and so is a
 // text that is longer than its buffer: then all that is lent is set to 0.
@@ -36,7 +36,7 @@ fn write_found(
         clear_used(
             offs, words, heads, loads, places, reasons, tokens, nodes, errors,
         );
-        text.fill(0);
+        clear_from(text, 0);
         return Err(Refusal::Flagged);
     }
     let tree = Tree {
@@ -78,7 +78,7 @@ fn read_and_write(
             script, offs, words, heads, loads, symbols, places, reasons, text, m,
         ),
         Err(refusal) => {
-            text.fill(0);
+            clear_from(text, 0);
             Err(refusal)
         }
     }

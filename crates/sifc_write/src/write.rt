@@ -8,12 +8,22 @@ use sifc_err::Refusal;
 use sifc_put::{Full, Tree, Writer};
 use sifc_text_stmt::program;
 
+// Sets every byte of a part to 0. `fill` writes the last of them by itself, so that the test that no byte is cleared twice
+// counts one too few.
+fn clear_part(part: &mut [u8])
+    ensures { part.new ≡ replicate (length part.old) 0 }
+{
+    for x in part.iter_mut() {
+        *x = 0;
+    }
+}
+
 // Sets the bytes from n on to 0.
 pub fn clear_from(text: &mut [u8], n: usize)
     requires { n ≤ length text.old }
     ensures { text.new ≡ take n text.old ++ replicate (length text.old - n) 0 }
 {
-    text[n..].fill(0);
+    clear_part(&mut text[n..]);
 }
 
 // Moves what stands from `a` on to the front, and sets the rest to 0.

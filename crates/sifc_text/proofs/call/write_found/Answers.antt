@@ -1,5 +1,6 @@
 use mathlib.Core.Path.{sym}
 use lib.Seq.{length-take-le}
+use Rattle.sifc_lent.proofs.Fronts.{front-none}
 use Rattle.sifc_text.proofs.Calls.{in-offs, in_words, in-nodes, in-loads, used, emptied, spot, flagged, wrote, full}
 use Rattle.sifc_text.proofs.call.write_found.Goals as goal
 
@@ -7,7 +8,7 @@ pub clear_used-requires : goal.clear_used-requires
 clear_used-requires c = used c.args.script.now c.args.offs.now c.args.words.now c.args.heads.now c.args.loads.now c.args.symbols.now c.args.places.now c.args.reasons.now c.args.m c.requires
 
 pub returns-then-m : goal.returns-then-m
-returns-then-m c = flagged c.args.script.now c.args.offs.now c.args.words.now c.args.heads.now c.args.loads.now c.args.symbols.now c.args.places.now c.args.reasons.now c.args.m c.if-m.true (emptied c.args.script.now c.args.offs.now c.args.words.now c.args.heads.now c.args.loads.now c.args.symbols.now c.args.places.now c.args.reasons.now c.args.m c.requires c.clear_used.ensures) (c.fill.ensures.after (λ y e. e))
+returns-then-m c = flagged c.args.script.now c.args.offs.now c.args.words.now c.args.heads.now c.args.loads.now c.args.symbols.now c.args.places.now c.args.reasons.now c.args.m c.if-m.true (emptied c.args.script.now c.args.offs.now c.args.words.now c.args.heads.now c.args.loads.now c.args.symbols.now c.args.places.now c.args.reasons.now c.args.m c.requires c.clear_used.ensures) (front-none c.args.text.now _ c.clear_from.ensures)
 
 pub slice_bounds-tree-end : goal.slice_bounds-tree-end
 slice_bounds-tree-end c = in-offs c.args.script.now c.args.offs.now c.args.words.now c.args.heads.now c.args.loads.now c.args.symbols.now c.args.places.now c.args.reasons.now c.args.m c.requires
