@@ -1,144 +1,115 @@
 -- What the proofs of the functions for blocks and listed errors cite.
-use Prim.Native.Nat.{ℕ, zero, suc, ◌+◌, ◌-◌, ◌≤◌, ◌<◌}
-use native.Mathlib.Numerals.{add-one}
-use native.Mathlib.Omega.{arith}
-use mathlib.Core.Path.{◌≡◌, refl, sym, ap, ◌∙◌, subst}
-use mathlib.Core.List.{List, [], ◌∷◌}
-use mathlib.Core.Bool.{Bool, true, false, ◌&&◌}
-use lib.ListN.{length, get_or, set, length-set}
-use lib.Dec.{ltb, eqb}
-use borrow.Author.Tests.{lt-ltb, le-ltb, ne_eqb}
+use Rattle.std.specs.Prelude.{ℕ, suc, ◌+◌, ◌-◌, ◌≤◌, ◌<◌, ◌≡◌, refl, List, [], ◌∷◌, Bool, true, false, length, get_or, set, eqb, Result, Ok, Err as Stopped, IsErr, IsErrAnd, IfOk}
+use Rattle.std.proofs.Common.{add-one, arith, sym, ap, ◌∙◌, lt-ltb, le-ltb, length-set}
+use Rattle.std.proofs.Math.Path.{subst}
+use Rattle.sifc_err.specs.declared.Refusal.{Refusal}
 use Rattle.sifc_err.specs.declared.Refusal.TheVariants.{ErrorsFull}
 use Rattle.sifc_word.specs.Base.{if◌then◌otherwise◌}
 use Rattle.sifc_def.specs.declared.Err.{Err}
 use Rattle.sifc_def.specs.declared.Why.{Why}
 use Rattle.sifc_def.specs.declared.Why.TheVariants.{InvalidIdent, InvalidTkn, InvalidTknMsg, InvalidAssign, InvalidForStmt, InvalidIfStmt, TknMismatch, FnParmCntExceeded, WrongFnParmCnt, UndeclSym, UnassignedVar, ExpectedIdent}
 use Rattle.sifc_def.specs.declared.What.TheVariants.{Other}
-use Rattle.sifc_def.specs.State.{err, St, Out, done, fail, refuse, go_on, list, add_error_w_pos, add_error}
+use Rattle.sifc_def.specs.State.{Ctx, err, St, Out, done, fail, refuse, go_on, list, add_error_w_pos, add_error}
 use Rattle.sifc_def.specs.Symbols.{store}
 use Rattle.sifc_def.specs.Stmt.{bind, with_return}
-use Rattle.sifc_symtab.specs.Table.{value_of, Fits}
-use Rattle.sifc_step.specs.declared.walk.Limits.{Limits}
-use Rattle.sifc_step.specs.declared.walk.Walk.{Walk}
-use Rattle.sifc_step.specs.declared.walk.Parsed.{Parsed}
-use Rattle.sifc_step.specs.declared.walk.Parsed.TheVariants.{Done, Failed, Refused}
-use Rattle.sifc_step.specs.Abs.{Inp, Mem, inp, mem, Rooms, rooms_of, ctx, abs, by_message, listed_by, Ready, Does, more, counted_by, count_of}
-use Rattle.sifc_step.specs.Book.{number_in, reason_of, notes-more}
-use Rattle.sifc_step.specs.Steps.{At, Kept, NotDone, begin, gives, fin, by, blank, blanks}
-use Rattle.sifc_step.specs.Small.{HeadWord}
-use Rattle.sifc_block.specs.Lists.{Elses, NodesOf, Noting, Noted}
+use Rattle.sifc_step.specs.declared.walk.Parser.{Parser}
+use Rattle.sifc_step.specs.declared.walk.Stop.{Stop}
+use Rattle.sifc_step.specs.declared.walk.Stop.TheVariants.{Refused}
+use Rattle.sifc_step.specs.Abs.{ctx_at, listed_by, lifted, Ready, Does, Paired}
+use Rattle.sifc_step.specs.Small.{HeadWord, Counts, Declares, SameNodes}
+use Rattle.sifc_step.specs.Book.{reason_of}
+use Rattle.sifc_step.proofs.Steps.{At, begin, by, fin, kept-same}
+use Rattle.sifc_step.proofs.Small.{handed}
+use Rattle.sifc_step.proofs.Book.{notes-more}
+use Rattle.sifc_block.specs.declared.book.Book.{Book}
 use Rattle.sifc_block.specs.declared.block.Names.{Names}
 use Rattle.sifc_block.specs.declared.block.Names.TheVariants.{Unnamed}
 use Rattle.sifc_block.specs.Bound.{between, names_of, NamesFit}
-
--- ── reasons ──
-
-pub number_small : (w : Why) → number_in w ≤ 11
-number_small (InvalidIdent i) = omega arith
-number_small (InvalidTkn i) = omega arith
-number_small (InvalidTknMsg m) = omega arith
-number_small (InvalidAssign i) = omega arith
-number_small InvalidForStmt = omega arith
-number_small InvalidIfStmt = omega arith
-number_small (TknMismatch k i) = omega arith
-number_small (FnParmCntExceeded n) = omega arith
-number_small (WrongFnParmCnt n m) = omega arith
-number_small (UndeclSym i) = omega arith
-number_small (UnassignedVar i) = omega arith
-number_small (ExpectedIdent i) = omega arith
-
-pub message-three : (m : ℕ) → m ≡ 3 → 2 ≡ by_message m
-message-three m e = sym (ap by_message e)
-
-pub message-other : (m : ℕ) → (m ≡ 3 → ⊥) → 1 ≡ by_message m
-message-other m ne = rw (by_message, ne_eqb m 3 ne) refl
+use Rattle.sifc_block.specs.Lists.{Roomy, Writes, Lists, SameSymbols, second_else, Noting, Noted}
+use Rattle.sifc_block.proofs.Steps.{book-same, book-on, listing, ends, given}
 
 -- ── the second else ──
 
-module _ {ps rs : List ℕ} {l : Limits} {w : Walk} {elses : ℕ} where
-  pub else-none : elses ≤ 1 → Elses ps rs l w elses (Done w) ps rs
+module _ {p : Parser} {b : Book} {elses : ℕ} where
+  pub else-none : elses ≤ 1 → Lists 0 (λ c. second_else c elses) p b (Ok tt) p b
   unfolding if◌then◌otherwise◌
-  else-none le = record {
-    nodes = refl;
-    does = λ s os ks M p. record {
-      tells = λ E e t. record {
-        errs = E;
-        notes = t;
-        same = sym (rw (le-ltb 1 elses le) refl);
-        fine = record { here = p.stands.here; calm = p.stands.calm; used = p.used; holds = p.holds; level = p.level; room = p.room; errors = sym e; on = omega arith };
-      };
-    };
-  }
+  else-none le = given (kept-same p) (book-same b) (λ r. ends (λ c. second_else c elses) (listing b (by (begin 0 (λ c. second_else c elses) r) (λ s. rw (le-ltb 1 elses le) refl))))
 
-  pub else-full : 1 < elses → l.errors ≤ w.errors → Elses ps rs l w elses (Refused ErrorsFull) ps rs
-  unfolding if◌then◌otherwise◌ add_error add_error_w_pos list go_on
-  else-full lt ge = record {
-    nodes = tt;
-    does = λ s os ks M p. record { tells = λ E e t. record { errs = E; notes = t; same = sym (rw (lt-ltb 1 elses lt, e, le-ltb _ _ ge) refl); fine = tt } };
-  }
+  module _ (lt : 1 < elses) where
+    pub else-full : p.lim.errors ≤ p.errors → Lists 0 (λ c. second_else c elses) p b (Stopped (Refused ErrorsFull)) p b
+    unfolding if◌then◌otherwise◌ add_error add_error_w_pos list go_on
+    else-full ge = record {
+      kept = kept-same p;
+      book = book-same b;
+      fine = λ r. tt;
+      tells = λ r E e t. record { errs = E; notes = t; count = tt; same = sym (rw (lt-ltb 1 elses lt, e, le-ltb _ _ ge) refl) };
+    }
 
-  pub else-listed : 1 < elses → w.errors < l.errors → l.errors ≡ length ps → length ps ≡ length rs → {x : Walk} → x ≡ more w → {ps' rs' : List ℕ} → (ps' ≡ set ps w.errors w.at) × (rs' ≡ set rs w.errors (reason_of InvalidIfStmt))
-      → Elses ps rs l w elses (Done x) ps' rs'
-  unfolding if◌then◌otherwise◌ add_error add_error_w_pos list go_on
-  else-listed lt lw room even {x} ex {ps'} {rs'} d = rw (ex, d.0, d.1) (record {
-    nodes = refl;
-    does = λ s os ks M p. record {
-      tells = λ E e t. record {
-        errs = err w.at InvalidIfStmt ∷ E;
-        notes = notes-more ps rs E (err w.at InvalidIfStmt) w.errors e (omega arith) (omega arith) t;
+    pub else-listed : p.errors < p.lim.errors → Roomy p b → {c : Book} → Writes b p.errors p.at (reason_of InvalidIfStmt) c → Lists 0 (λ c. second_else c elses) p b (Ok tt) (record p { errors = p.errors + 1 }) c
+    unfolding if◌then◌otherwise◌ add_error add_error_w_pos list go_on
+    else-listed lw room {c} d = record {
+      kept = record { inp = refl; symbols_name = refl; head_name = refl; load_name = refl; symbols = refl; head = refl; load = refl };
+      book = d.kept;
+      fine = λ r. record { here = r.stands.here; calm = r.stands.calm; used = r.used; holds = r.holds; level = r.level; room = omega (arith, lw); errors = refl; on = omega arith };
+      tells = λ r E e t. record {
+        errs = err p.at InvalidIfStmt ∷ E;
+        notes = rw (d.places, d.reasons) (notes-more b.places.now b.reasons.now E (err p.at InvalidIfStmt) p.errors e (omega (arith, lw, room.1)) (omega (arith, lw, room.0, room.1)) t);
+        count = let z : suc (length E) ≡ p.errors + 1 = omega (arith, e) in z;
         same = sym (rw (lt-ltb 1 elses lt, e, lt-ltb _ _ lw) refl);
-        fine = record { here = p.stands.here; calm = p.stands.calm; used = p.used; holds = p.holds; level = p.level; room = omega arith; errors = let z : w.errors + 1 ≡ suc (length E) = omega arith in z; on = omega arith };
       };
-    };
-  })
+    }
+
+-- the end of an if statement, after the else's error
+pub paired-still : (p q : Parser) → Counts p q → Paired p → Paired q
+paired-still p q a h = subst Paired (sym a) h
 
 -- ── the errors of a failure ──
 
-module _ {ps rs : List ℕ} {w : Walk} {e : Err} (h : Noting ps rs w e) where
-  pub noted-none : listed_by e.why ≡ 0 → Noted ps rs w e ps rs
-  noted-none z = record { notes = λ E l t. rw z t }
+by-test : (b : Bool) → elim b [ true ↦ 2 | false ↦ 1 ] ≤ 2
+by-test true = omega arith
+by-test false = omega arith
 
-  pub noted_one : listed_by e.why ≡ 1 → {n : ℕ} → n ≡ w.errors - 1 → {ps' rs' : List ℕ} → (ps' ≡ set ps n e.place) × (rs' ≡ set rs n (reason_of e.why)) → Noted ps rs w e ps' rs'
-  noted_one z {n} en d = record { notes = λ E l t. rw (z, d.0, d.1) (notes-more ps rs E e n (omega (arith, l, z, en)) (omega (arith, h.room, en, h.listed, z)) (omega (arith, h.room, h.even, en, h.listed, z)) t) }
+most : (y : Why) → listed_by y ≤ 2
+most (InvalidIdent i) = omega arith
+most (InvalidTkn i) = omega arith
+most (InvalidTknMsg q) = by-test (eqb q 3)
+most (InvalidAssign i) = omega arith
+most InvalidForStmt = omega arith
+most InvalidIfStmt = omega arith
+most (TknMismatch q i) = omega arith
+most (FnParmCntExceeded q) = omega arith
+most (WrongFnParmCnt q i) = omega arith
+most (UndeclSym i) = omega arith
+most (UnassignedVar i) = omega arith
+most (ExpectedIdent i) = omega arith
 
-  pub noted-two : (m : ℕ) → listed_by e.why ≡ m → (m ≡ 0 → ⊥) → (m ≡ 1 → ⊥) → {n k : ℕ} → n ≡ w.errors - 1 → k ≡ n - 1 → {ps₁ rs₁ ps' rs' : List ℕ}
-      → (ps₁ ≡ set ps k e.place) × (rs₁ ≡ set rs k (reason_of (InvalidIdent e.place))) → (ps' ≡ set ps₁ n e.place) × (rs' ≡ set rs₁ n (reason_of e.why)) → Noted ps rs w e ps' rs'
-  noted-two zero z a b en ek d₁ d₂ = absurd (a refl)
-  noted-two (suc zero) z a b en ek d₁ d₂ = absurd (b refl)
-  noted-two (suc (suc m)) z a b {n} {k} en ek d₁ d₂ = record {
-    notes = λ E l t.
-        let first = notes-more ps rs E (err e.place (InvalidIdent e.place)) k (omega (arith, l, z, en, ek, two)) (omega (arith, h.room, en, ek, h.listed, z)) (omega (arith, h.room, h.even, en, ek, h.listed, z)) t in
-        rw (z, d₂.0, d₂.1, d₁.0, d₁.1)
-        (notes-more (set ps k e.place) (set rs k (reason_of (InvalidIdent e.place))) (err e.place (InvalidIdent e.place) ∷ E) e n (omega (arith, l, z, en, two)) (simp length-set (omega (arith, h.room, en, h.listed, z))) (simp length-set (omega (arith, h.room, h.even, en, h.listed, z))) first);
-  }
-    where
-      two : suc (suc m) ≤ 2
-      two = subst (λ (x : ℕ). x ≤ 2) z (most e.why)
-        where
-          by-test : (b : Bool) → elim b [ true ↦ 2 | false ↦ 1 ] ≤ 2
-          by-test true = omega arith
-          by-test false = omega arith
+module _ {b : Book} {n : ℕ} {e : Err} (h : Noting b n e) where
+  pub noted-none : listed_by e.why ≡ 0 → Noted b n e b
+  noted-none z = record { kept = book-same b; notes = λ E l t. rw z t }
 
-          most : (y : Why) → listed_by y ≤ 2
-          most (InvalidIdent i) = omega arith
-          most (InvalidTkn i) = omega arith
-          most (InvalidTknMsg q) = by-test (eqb q 3)
-          most (InvalidAssign i) = omega arith
-          most InvalidForStmt = omega arith
-          most InvalidIfStmt = omega arith
-          most (TknMismatch q i) = omega arith
-          most (FnParmCntExceeded q) = omega arith
-          most (WrongFnParmCnt q i) = omega arith
-          most (UndeclSym i) = omega arith
-          most (UnassignedVar i) = omega arith
-          most (ExpectedIdent i) = omega arith
+  pub noted_one : {m : ℕ} → m ≡ listed_by e.why → (m ≡ 0 → ⊥) → (m ≡ 2 → ⊥) → {a c : Book} → a ≡ b → Writes a (n - 1) e.place (reason_of e.why) c → Noted b n e c
+  noted_one {m} em n0 n2 {a} {c} ea da =
+      let d : Writes b (n - 1) e.place (reason_of e.why) c = subst (λ (x : Book). Writes x (n - 1) e.place (reason_of e.why) c) ea da in
+      let z : listed_by e.why ≡ 1 = omega (arith, em, n0, n2, most e.why) in
+      record { kept = d.kept; notes = λ E l t. rw (z, d.places, d.reasons) (notes-more b.places.now b.reasons.now E e (n - 1) (omega (arith, l, z)) (omega (arith, h.room, h.listed, z)) (omega (arith, h.room, h.even, h.listed, z)) t) }
+
+  pub noted-two : {m : ℕ} → m ≡ listed_by e.why → m ≡ 2 → {a d c : Book} → Writes b (n - 1 - 1) e.place (reason_of (InvalidIdent e.place)) d → a ≡ d → Writes a (n - 1) e.place (reason_of e.why) c → Noted b n e c
+  noted-two {m} em m2 {a} {d} {c} x ea ya =
+      let y : Writes d (n - 1) e.place (reason_of e.why) c = subst (λ (z : Book). Writes z (n - 1) e.place (reason_of e.why) c) ea ya in
+      let z : listed_by e.why ≡ 2 = sym em ∙ m2 in
+      record {
+        kept = book-on x.kept y.kept;
+        notes = λ E l t.
+            let first = notes-more b.places.now b.reasons.now E (err e.place (InvalidIdent e.place)) (n - 1 - 1) (omega (arith, l, z)) (omega (arith, h.room, h.listed, z)) (omega (arith, h.room, h.even, h.listed, z)) t in
+            rw (z, y.places, y.reasons, x.places, x.reasons)
+            (notes-more (set b.places.now (n - 1 - 1) e.place) (set b.reasons.now (n - 1 - 1) (reason_of (InvalidIdent e.place))) (err e.place (InvalidIdent e.place) ∷ E) e (n - 1) (omega (arith, l, z)) (simp length-set (omega (arith, h.room, h.listed, z))) (simp length-set (omega (arith, h.room, h.even, h.listed, z))) first);
+      }
 
 -- ── the names that a block binds ──
 
--- what is stored fits
-pub fits-other : {I : Inp} {M : Mem} {w : Walk} {i : ℕ} → Ready I M w → i < 4294967296 → Fits I.script I.offs I.words M.symbols w.symbols w.level i Other
-unfolding value_of
-fits-other p h = record { holds = p.holds; level-fits = omega (arith, p.level, p.stands.here, p.stands.toks.few); name-fits = h; value-fits = omega arith }
+-- the name of a token that is read where it stood
+pub stored-as : {i k : ℕ} {p q : Parser} {x : Result (Unit {0}) Stop} → i ≡ k → Does 0 (λ c. store c i Other) p x q → Does 0 (λ c. store c k Other) p x q
+stored-as {p = p} {q = q} {x = x} e d = subst (λ (m : ℕ). Does 0 (λ c. store c m Other) p x q) e d
 
 -- nothing follows
 pub and_ok : (o : Out (Unit {0})) → go_on o (λ a s. done tt s) ≡ o
@@ -147,81 +118,63 @@ and_ok (done tt s) = refl
 and_ok (fail e s) = refl
 and_ok (refuse r) = refl
 
-pub kept-symbols : {ys ys' hs ls : List ℕ} → length ys' ≡ length ys → Kept (mem ys hs ls) (mem ys' hs ls)
-kept-symbols e = record { symbols = e; head = refl; load = refl }
+-- what is left of the names, ns at the parser q, gives what all of them were to give
+abbrev pub Binding : List ℕ → Parser → List ℕ → Parser → Type 0
+Binding ns₀ p ns q = At 0 0 (λ s. bind (ctx_at p) ns₀ s) (λ s. bind (ctx_at p) ns s) p q
 
--- what is left of the names, ns at the walk x, gives what all of them were to give
-abbrev pub Binding : List ℕ → List ℕ → List ℕ → Mem → Walk → List ℕ → Mem → Walk → List ℕ → Type 0
-Binding s os ks M₀ x₀ ns₀ M x ns =
-    (l : Limits) → Ready (inp s os ks l) M₀ x₀ → (E : List Err) → length E ≡ x₀.errors
-    → At (bind (ctx (inp s os ks l) (rooms_of M₀)) ns₀ (abs (inp s os ks l) E x₀ M₀)) (bind (ctx (inp s os ks l) (rooms_of M₀)) ns (abs (inp s os ks l) E x M)) (inp s os ks l) (rooms_of M₀) 0 (0 + x₀.at) E M x
-
-pub binding : {s os ks : List ℕ} {M : Mem} {x : Walk} (ns : List ℕ) → Binding s os ks M x ns M x ns
-binding ns l p E e = begin 0 (λ c. bind c ns) E e p
-
--- the first of them, k, up to the end
-pub binding-from : {s os ks : List ℕ} {M : Mem} {x : Walk} (a : List ℕ) (first count end : ℕ) → end ≡ first + count → Binding s os ks M x (between a first count) M x (between a first (end - first))
-binding-from {s} {os} {ks} {M} {x} a first count end e = subst (λ (m : ℕ). Binding s os ks M x (between a first count) M x (between a first m)) (let z : count ≡ end - first = omega arith in z) (binding (between a first count))
-
-pub bound-ready : {s os ks : List ℕ} {M₀ M : Mem} {x₀ x : Walk} {l : Limits} (ns₀ ns : List ℕ) → Binding s os ks M₀ x₀ ns₀ M x ns → Ready (inp s os ks l) M₀ x₀ → Ready (inp s os ks l) M x
-bound-ready {x₀ = x₀} {l = l} ns₀ ns b p = (b l p (blank x₀.errors) (blanks x₀.errors)).is
+-- all of them, from the first to the end
+pub binding-from : {p : Parser} (a : List ℕ) (first count : ℕ) → Ready p → Binding (between a first count) p (between a first ((first + count) - first)) p
+binding-from {p} a first count r =
+    subst (λ (m : ℕ). Binding (between a first count) p (between a first m) p) (let z : count ≡ (first + count) - first = omega arith in z) (begin 0 (λ c. bind c (between a first count)) r)
 
 -- the first of the names that are left
-pub between_more : (a : List ℕ) (k end : ℕ) → k < end → between a k (end - k) ≡ get_or a k 0 ∷ between a (k + 1) (end - (k + 1))
+between_more : (a : List ℕ) (k end : ℕ) → k < end → between a k (end - k) ≡ get_or a k 0 ∷ between a (k + 1) (end - (k + 1))
 unfolding between
 between_more a k end h =
     let e : end - k ≡ suc (end - (k + 1)) = omega arith in
     ap (between a k) e ∙ ap (λ (m : ℕ). get_or a k 0 ∷ between a m (end - (k + 1))) (sym (add-one k))
 
-pub between_none : (a : List ℕ) (k end : ℕ) → end ≤ k → between a k (end - k) ≡ []
+between_none : (a : List ℕ) (k end : ℕ) → end ≤ k → between a k (end - k) ≡ []
 unfolding between
 between_none a k end h = ap (between a k) (let e : end - k ≡ 0 = omega arith in e)
 
-module _ {o₀ : Out (Unit {0})} {I : Inp} {n : Rooms} {k lo : ℕ} {E : List Err} {M : Mem} {w : Walk} where
-  pub bind-first : (ns : List ℕ) {ms : List ℕ} {i : ℕ} (s : St) → At o₀ (bind (ctx I n) ns s) I n k lo E M w → ns ≡ i ∷ ms → At o₀ (go_on (store (ctx I n) i Other s) (λ a. bind (ctx I n) ms)) I n k lo E M w
+module _ (ns a : List ℕ) (k end : ℕ) {p q : Parser} (t : Binding ns p (between a k (end - k)) q) where
+  pub bind-first : k < end → At 0 0 (λ s. bind (ctx_at p) ns s) (λ s. go_on (store (ctx_at p) (get_or a k 0) Other s) (λ x. bind (ctx_at p) (between a (k + 1) (end - (k + 1))))) p q
   unfolding bind
-  bind-first ns s p e = by p (ap (λ (l : List ℕ). bind (ctx I n) l s) e)
+  bind-first h = by t (λ s. ap (λ (l : List ℕ). bind (ctx_at p) l s) (between_more a k end h))
 
-  pub bind-end : (ns : List ℕ) (s : St) → At o₀ (bind (ctx I n) ns s) I n k lo E M w → ns ≡ [] → At o₀ (done tt s) I n k lo E M w
+  pub bind-end : end ≤ k → At 0 0 (λ s. bind (ctx_at p) ns s) (λ s. done tt s) p q
   unfolding bind
-  bind-end ns s p e = by p (ap (λ (l : List ℕ). bind (ctx I n) l s) e)
+  bind-end h = by t (λ s. ap (λ (l : List ℕ). bind (ctx_at p) l s) (between_none a k end h))
 
--- ── the inserted return statement ──
+-- a name that is stored leaves the nodes' words
+pub nodes-still : (p q : Parser) → Declares p q → SameNodes p q
+nodes-still p q a = (ap (λ (y : Parser). y.head) a, ap (λ (y : Parser). y.load) a)
 
-pub ends-not : (n : ℕ) (b : Bool) → n ≡ 0 → false ≡ ltb 0 n && b
-ends-not n b e = rw e refl
-
-pub ends-if : (n : ℕ) (b : Bool) → (n ≡ 0 → ⊥) → b ≡ ltb 0 n && b
-ends-if n b ne = rw (lt-ltb 0 n (omega (arith, ne))) refl
-
-pub body_is : {o₀ : Out ℕ} {I : Inp} {n : Rooms} {k lo : ℕ} {E : List Err} {M : Mem} {w : Walk} (b body : Bool) (m : ℕ) → At o₀ (with_return (ctx I n) body m (abs I E w M)) I n k lo E M w → body ≡ b
-    → At o₀ (with_return (ctx I n) b m (abs I E w M)) I n k lo E M w
-body_is {I = I} {n = n} {E = E} {M = M} {w = w} b body m p e = by p (ap (λ (x : Bool). with_return (ctx I n) x m (abs I E w M)) e)
-
--- no count where it is not done
-pub none-few : {r : Parsed} {m : ℕ} → NotDone r → count_of r ≤ m
-none-few {r = Done w} h = absurd h.lost
-none-few {r = Failed w e} h = omega arith
-none-few {r = Refused f} h = omega arith
-
-pub counted-more : (x : Walk) {y : Walk} (n : ℕ) → y ≡ counted_by x (n + 1) → y ≡ counted_by x (suc n)
-counted-more x n e = e ∙ ap (counted_by x) (add-one n)
-
-pub nodes-at : {r : Parsed} {x : Walk} {n : ℕ} → NodesOf n r → r ≡ Done x → x.nodes ≡ n
-nodes-at {r} {x} {n} h e = subst (λ (q : Parsed). NodesOf n q) e h
-
--- the code's n + 2 is the definition's 2 + n
-pub plus-two : {k r : ℕ} {f : Bool} (n : ℕ) → HeadWord k f (n + 2) r → HeadWord k f (2 + n) r
-plus-two {k} {r} {f} n h = subst (λ (m : ℕ). HeadWord k f m r) (let e : n + 2 ≡ 2 + n = omega arith in e) h
+pub nodes-on : (p q x : Parser) → SameNodes p q → SameNodes q x → SameNodes p x
+nodes-on p q x a b = (b.0 ∙ a.0, b.1 ∙ a.1)
 
 -- ── the names, by their case ──
 
 pub names-fit : {n m : Names} (ls : List ℕ) → n ≡ m → NamesFit n ls → NamesFit m ls
 names-fit ls e h = subst (λ (x : Names). NamesFit x ls) e h
 
-pub bind-as : {n m : Names} {I : Inp} {M M' : Mem} {w : Walk} {r : Parsed} (ls : List ℕ) → Ready I M w → n ≡ m → Does 0 (λ c. bind c (names_of m ls)) I M w r M' → Does 0 (λ c. bind c (names_of n ls)) I M w r M'
-bind-as {n} {m} {I} {M} {M'} {w} {r} ls p e d = subst (λ (x : Names). Does 0 (λ c. bind c (names_of x ls)) I M w r M') (sym e) d
+pub bind-as : {n m : Names} {p q : Parser} {r : Result (Unit {0}) Stop} (ls : List ℕ) → n ≡ m → Does 0 (λ c. bind c (names_of m ls)) p r q → Does 0 (λ c. bind c (names_of n ls)) p r q
+bind-as {n} {m} {p} {q} {r} ls e d = subst (λ (x : Names). Does 0 (λ c. bind c (names_of x ls)) p r q) (sym e) d
 
-pub bind-none : {n : Names} {I : Inp} {M : Mem} {w : Walk} (ls : List ℕ) → Ready I M w → n ≡ Unnamed → Does 0 (λ c. bind c (names_of n ls)) I M w (Done w) M
+pub bind-none : {n : Names} {p : Parser} (ls : List ℕ) → Ready p → n ≡ Unnamed → Does 0 (λ c. bind c (names_of n ls)) p (Ok tt) p
 unfolding bind
-bind-none {n} {I} {M} {w} ls p e = bind-as ls p e (gives (λ E q. fin (begin 0 (λ c. bind c []) E q p)))
+bind-none ls r e = bind-as ls e (fin (λ c. bind c []) (begin 0 (λ c. bind c []) r))
+
+-- ── the inserted return statement ──
+
+pub body_is : {j k : ℕ} {f : St → Out ℕ} {p q : Parser} (b body : Bool) (m : ℕ) → At j k f (λ s. with_return (ctx_at p) body m s) p q → body ≡ b → At j k f (λ s. with_return (ctx_at p) b m s) p q
+body_is {p = p} b body m t e = by t (λ s. ap (λ (x : Bool). with_return (ctx_at p) x m s) e)
+
+pub return-stops : {f : Ctx → St → Out ℕ} {p q : Parser} {g : Refusal} (x : Result ℕ Refusal) (n : ℕ) → Does 0 f p (Stopped (Refused g)) q → IsErr x × IsErrAnd x (λ h. h ≡ g) → SameSymbols p q → Does 0 f p (lifted x) q × IfOk x (λ m. m ≤ n) × SameSymbols p q
+return-stops (Ok a) n d h e = absurd h.1
+return-stops (Stopped s) n d h e = (handed (Stopped s) d h, tt, e)
+
+-- the code's n + 2 is the definition's 2 + n
+pub plus-two : {k r : ℕ} {f : Bool} (n : ℕ) → HeadWord k f (n + 2) r → HeadWord k f (2 + n) r
+plus-two {k} {r} {f} n h = subst (λ (m : ℕ). HeadWord k f m r) (let e : n + 2 ≡ 2 + n = omega arith in e) h

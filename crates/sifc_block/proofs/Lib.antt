@@ -1,2 +1,2 @@
-pub mod Tags
+pub mod Steps
 pub mod Blocks

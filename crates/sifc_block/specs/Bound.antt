@@ -5,9 +5,6 @@ use Rattle.sifc_def.specs.Ast.{Block}
 use Rattle.sifc_def.specs.State.{Ctx, Void, ◌>>=◌, ◌>>◌, expect, push}
 use Rattle.sifc_def.specs.Symbols.{level_now, close_scope}
 use Rattle.sifc_def.specs.Stmt.{with_return}
-use Rattle.sifc_step.specs.declared.walk.Walk.{Walk}
-use Rattle.sifc_step.specs.declared.walk.Parsed.{Parsed}
-use Rattle.sifc_step.specs.Abs.{Inp, mem, Ready, Counts, count_of}
 use Rattle.sifc_block.specs.declared.block.Names.{Names}
 use Rattle.sifc_block.specs.declared.block.Names.TheVariants.{Unnamed, Pair, Params}
 
@@ -25,11 +22,6 @@ abbrev pub NamesFit : Names → List ℕ → Type 0
 NamesFit Unnamed loads = Unit {0}
 NamesFit (Pair i j) loads = (i < 65536) × (j < 65536)
 NamesFit (Params first count) loads = first + count ≤ length loads
-
--- a function's body and its inserted return statement
-pub record Returns (hs ls : List ℕ) (w : Walk) (body : Bool) (n : ℕ) (r : Parsed) (hs' ls' : List ℕ) : Type 0 where
-  pub does : (I : Inp) (ys : List ℕ) → Ready I (mem ys hs ls) w → Counts 0 (λ c. with_return c body n) I (mem ys hs ls) w r (mem ys hs' ls')
-  pub few : count_of r ≤ suc n
 
 -- what follows the n declarations of a block, in the definition
 abbrev pub end_block : Ctx → Bool → ℕ → Void

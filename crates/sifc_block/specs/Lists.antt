@@ -1,41 +1,85 @@
--- Functions that list errors and go on: what they promise, beside the walk's state, of the errors' words. The steps by which the proofs go over their calls.
-use Rattle.std.specs.Prelude.{ℕ, ◌+◌, ◌-◌, ◌≤◌, ◌<◌, ◌≡◌, List, length, ltb}
-use Rattle.std.proofs.Common.{arith, ◌∙◌}
-use Rattle.std.proofs.Math.Path.{sym, ap}
+-- Functions that list errors and go on: what they promise, beside the parser's state, of the errors' words.
+use Rattle.std.specs.Prelude.{ℕ, ◌+◌, ◌≤◌, ◌<◌, ◌≡◌, List, length, set, ltb, Result, Ok, Err as Stopped}
 use Rattle.sifc_def.specs.declared.Err.{Err}
 use Rattle.sifc_def.specs.declared.Why.TheVariants.{InvalidIfStmt}
 use Rattle.sifc_def.specs.Error.{carried, carried_too}
-use Rattle.sifc_def.specs.State.{Ctx, St, Out, Void, ◌>>◌, ok, when, add_error, go_on}
+use Rattle.sifc_def.specs.State.{Ctx, St, Out, Void, ◌>>◌, ok, when, add_error}
 use Rattle.sifc_def.specs.Stmt.{end_if}
-use Rattle.sifc_step.specs.declared.walk.Limits.{Limits}
-use Rattle.sifc_step.specs.declared.walk.Walk.{Walk}
-use Rattle.sifc_step.specs.declared.walk.Parsed.{Parsed}
-use Rattle.sifc_step.specs.declared.walk.Parsed.TheVariants.{Done, Failed, Refused}
-use Rattle.sifc_step.specs.Abs.{Inp, Mem, inp, mem, Rooms, rooms_of, ctx, ctx_of, abs, listed_by, with_err, outcome_of, Ready, Fine, FineOf, void}
+use Rattle.sifc_step.specs.declared.walk.Parser.{Parser}
+use Rattle.sifc_step.specs.declared.walk.Stop.{Stop}
+use Rattle.sifc_step.specs.declared.walk.Stop.TheVariants.{Failed, Refused}
+use Rattle.sifc_step.specs.Abs.{Inp, Mem, Walk, inp_of, mem_of, walk_of, ctx_at, abs_at, listed_by, with_err, outcome_of, Ready, Fine, Broke, Kept}
 use Rattle.sifc_step.specs.Book.{Notes}
-use Rattle.sifc_step.specs.Steps.{At, Ends, Kept, NotDone, rooms-kept, halts, farther, fine-at}
+use Rattle.sifc_block.specs.declared.book.Book.{Book}
+
+-- ── the words of the errors ──
+
+-- E is what they hold, newest first
+abbrev pub Holding : Book → List Err → Type 0
+Holding b E = Notes b.places.now b.reasons.now E
+
+-- there are as many of both as errors may be listed
+abbrev pub Roomy : Parser → Book → Type 0
+Roomy p b = (length b.places.now ≡ length b.reasons.now) × (p.lim.errors ≡ length b.places.now)
 
 -- What a function may assume of the words: they hold what was listed, and there are as many as errors may be listed.
-pub record Booked (l : Limits) (ps rs : List ℕ) (w : Walk) : Type 0 where
+pub record Booked (p : Parser) (b : Book) : Type 0 where
   pub errs : List Err
-  pub notes : Notes ps rs errs
-  pub count : length errs ≡ w.errors
-  pub even : length ps ≡ length rs
-  pub room : l.errors ≡ length ps
+  pub notes : Holding b errs
+  pub count : length errs ≡ p.errors
+  pub even : length b.places.now ≡ length b.reasons.now
+  pub room : p.lim.errors ≡ length b.places.now
 
--- r, with what the arrays and the errors' words hold at the end, is the outcome o: errs is what is listed then
-pub record Told {A : Type 0} (v : Walk → A) (o : Out A) (I : Inp) (lo : ℕ) (r : Parsed) (M : Mem) (ps rs : List ℕ) : Type 0 where
+-- they are the same memory, and as long
+pub record KeptBook (b c : Book) : Type 0 where
+  pub places_name : c.places.ghost_name ≡ b.places.ghost_name
+  pub reasons_name : c.reasons.ghost_name ≡ b.reasons.ghost_name
+  pub places : length c.places.now ≡ length b.places.now
+  pub reasons : length c.reasons.now ≡ length b.reasons.now
+
+-- one error is written, as number n
+pub record Writes (b : Book) (n place reason : ℕ) (c : Book) : Type 0 where
+  pub kept : KeptBook b c
+  pub places : c.places.now ≡ set b.places.now n place
+  pub reasons : c.reasons.now ≡ set b.reasons.now n reason
+
+-- ── functions that list errors ──
+
+-- how many are listed, n, where m were listed before the error that it fails with
+abbrev pub CountOf : {A : Type 0} → Result A Stop → ℕ → ℕ → Type 0
+CountOf (Ok a) m n = m ≡ n
+CountOf (Stopped (Failed e)) m n = m + listed_by e.why ≡ n
+CountOf (Stopped (Refused f)) m n = Unit {0}
+
+-- r, with what the parser q and the errors' words c hold at the end, is the outcome o of what began at p: errs is what is listed then
+pub record Told {A : Type 0} (o : Out A) (p : Parser) (r : Result A Stop) (q : Parser) (c : Book) : Type 0 where
   pub errs : List Err
-  pub notes : Notes ps rs errs
-  pub same : outcome_of v I errs r M ≡ o
-  pub fine : FineOf I M lo (length errs) r
+  pub notes : Holding c errs
+  pub count : CountOf r (length errs) q.errors
+  pub same : outcome_of (inp_of p) errs r (mem_of q) (walk_of q) ≡ o
 
--- from the walk w, the arrays M and the errors' words, f gives r and leaves M' and ps' and rs', j tokens farther at least
-pub record ListsAs {A : Type 0} (v : Walk → A) (j : ℕ) (f : Ctx → St → Out A) (I : Inp) (M : Mem) (ps rs : List ℕ) (w : Walk) (r : Parsed) (M' : Mem) (ps' rs' : List ℕ) : Type 0 where
-  pub tells : (E : List Err) → length E ≡ w.errors → Notes ps rs E → Told v (f (ctx_of I M) (abs I E w M)) I (j + w.at) r M' ps' rs'
+-- what it leaves, however many errors are listed: lo is how far it has come
+abbrev pub NextOf : {A : Type 0} → Inp → Mem → ℕ → Result A Stop → Walk → Type 0
+NextOf I M lo (Ok a) w = Fine I M lo w.errors w
+NextOf I M lo (Stopped (Failed e)) w = Broke I M lo w.errors w
+NextOf I M lo (Stopped (Refused f)) w = Unit {0}
 
-abbrev pub Lists : ℕ → (Ctx → Void) → Inp → Mem → List ℕ → List ℕ → Walk → Parsed → Mem → List ℕ → List ℕ → Type 0
-Lists j f I M ps rs w r M' ps' rs' = ListsAs void j f I M ps rs w r M' ps' rs'
+-- from the parser p, where it is ready, and the errors' words b, f gives r and leaves q and c, j tokens farther at least
+pub record Lists {A : Type 0} (j : ℕ) (f : Ctx → St → Out A) (p : Parser) (b : Book) (r : Result A Stop) (q : Parser) (c : Book) : Type 0 where
+  pub kept : Kept p q
+  pub book : KeptBook b c
+  pub fine : Ready p → NextOf (inp_of p) (mem_of q) (j + p.at) r (walk_of q)
+  pub tells : Ready p → (E : List Err) → length E ≡ p.errors → Holding b E → Told (f (ctx_at p) (abs_at E p)) p r q c
+
+-- ── the end of an if statement ──
+
+-- its symbols are as they were
+abbrev pub SameSymbols : Parser → Parser → Type 0
+SameSymbols p q = q.symbols ≡ p.symbols
+
+pub record EndsIf (p : Parser) (b : Book) (n elses : ℕ) (r : Result (Unit {0}) Stop) (q : Parser) (c : Book) : Type 0 where
+  pub does : Lists 0 (λ x. end_if x n elses) p b r q c
+  pub alone : SameSymbols p q
 
 -- ── the second else ──
 
@@ -43,19 +87,6 @@ abbrev pub second_else : Ctx → ℕ → Void
 second_else c elses = when (ltb 1 elses) (do
   add_error c InvalidIfStmt
   ok)
-
--- as many nodes as before, where it is done
-abbrev pub NodesOf : ℕ → Parsed → Type 0
-NodesOf n (Done x) = x.nodes ≡ n
-NodesOf n (Failed x e) = Unit {0}
-NodesOf n (Refused f) = Unit {0}
-
-pub record Elses (ps rs : List ℕ) (l : Limits) (w : Walk) (elses : ℕ) (r : Parsed) (ps' rs' : List ℕ) : Type 0 where
-  pub nodes : NodesOf w.nodes r
-  pub does : (s os ks : List ℕ) (M : Mem) → Ready (inp s os ks l) M w → Lists 0 (λ c. second_else c elses) (inp s os ks l) M ps rs w r M ps' rs'
-
-pub record EndsIf (hs ls ps rs : List ℕ) (l : Limits) (w : Walk) (n elses : ℕ) (r : Parsed) (hs' ls' ps' rs' : List ℕ) : Type 0 where
-  pub does : (s os ks ys : List ℕ) → Ready (inp s os ks l) (mem ys hs ls) w → Lists 0 (λ c. end_if c n elses) (inp s os ks l) (mem ys hs ls) ps rs w r (mem ys hs' ls') ps' rs'
 
 -- ── the errors of a failure ──
 
@@ -65,78 +96,13 @@ pub record Fitting (e : Err) : Type 0 where
   pub first : carried e.why < 65536
   pub second : carried_too e.why ≤ 64
 
--- what is assumed of them: an error that was listed fits
-pub record Noting (ps rs : List ℕ) (w : Walk) (e : Err) : Type 0 where
-  pub listed : listed_by e.why ≤ w.errors
-  pub room : w.errors ≤ length ps
-  pub even : length ps ≡ length rs
+-- what is assumed of them, where n are listed: an error that was listed fits
+pub record Noting (b : Book) (n : ℕ) (e : Err) : Type 0 where
+  pub listed : listed_by e.why ≤ n
+  pub room : n ≤ length b.places.now
+  pub even : length b.places.now ≡ length b.reasons.now
   pub fits : (listed_by e.why ≡ 0 → ⊥) → Fitting e
 
-pub record Noted (ps rs : List ℕ) (w : Walk) (e : Err) (ps' rs' : List ℕ) : Type 0 where
-  pub notes : (E : List Err) → length E + listed_by e.why ≡ w.errors → Notes ps rs E → Notes ps' rs' (with_err (listed_by e.why) e E)
-
--- ── steps ──
-
-pub told : {A : Type 0} {v : Walk → A} {o : Out A} {I : Inp} {lo : ℕ} {r : Parsed} {M : Mem} {E : List Err} {ps rs : List ℕ} → Notes ps rs E → Ends v o I lo E r M → Told v o I lo r M ps rs
-told {E = E} t e = record { errs = E; notes = t; same = e.same; fine = e.fine }
-
--- where a walk stands after a call that may have listed errors
-pub record Going {A : Type 0} (o₀ : Out A) (o : List Err → Out A) (I : Inp) (n : Rooms) (k lo : ℕ) (M : Mem) (ps rs : List ℕ) (x : Walk) : Type 0 where
-  pub errs : List Err
-  pub notes : Notes ps rs errs
-  pub at : At o₀ (o errs) I n k lo errs M x
-
--- the call, as its promise has it
-is_call : {A : Type 0} (f : Ctx → St → Out A) (I : Inp) (E : List Err) (M : Mem) (n : Rooms) (w : Walk) (s : St) → rooms_of M ≡ n → s ≡ abs I E w M → f (ctx I n) s ≡ f (ctx_of I M) (abs I E w M)
-is_call f I E M n w s e d = ap (λ (t : St). f (ctx I n) t) d ∙ ap (λ (m : Rooms). f (ctx I m) (abs I E w M)) (sym e)
-
-module _ (j : ℕ) {A B : Type 0} {v : Walk → A} (f : Ctx → St → Out A) {o₀ : Out B} {I : Inp} {n : Rooms} {k lo : ℕ} {E : List Err} {M M' : Mem} {ps rs ps' rs' : List ℕ} {w : Walk} {s : St} where
-  -- a call that is done
-  pub goes : {x : Walk} (K : A → St → Out B) {r : Parsed} → At o₀ (go_on (f (ctx I n) s) K) I n k lo E M w → s ≡ abs I E w M → Notes ps rs E → ListsAs v j f I M ps rs w r M' ps' rs' → Kept M M' → r ≡ Done x
-      → Going o₀ (λ (F : List Err). K (v x) (abs I F x M')) I n (k - j) lo M' ps' rs' x
-  unfolding go_on
-  goes {x} K {r} p d t g l e =
-      let y = g.tells E p.listed t in
-      let fine : Fine I M' (j + w.at) (length y.errs) x = fine-at y.fine e in
-      record {
-        errs = y.errs;
-        notes = y.notes;
-        at = record {
-          left = p.left ∙ ap (λ (o : Out A). go_on o K) (is_call f I E M n w s p.room d ∙ sym y.same ∙ ap (λ (q : Parsed). outcome_of v I y.errs q M') e);
-          room = rooms-kept l ∙ p.room;
-          is = record {
-            stands = record { toks = p.is.stands.toks; here = fine.here; calm = fine.calm };
-            even = l.head ∙ p.is.even ∙ sym l.load;
-            used = fine.used;
-            holds = fine.holds;
-            level = fine.level;
-            room = fine.room;
-          };
-          on = omega (arith, p.on, fine.on);
-          listed = sym fine.errors;
-        };
-      }
-
-  -- a call that is not done
-  pub stops : {v' : Walk → B} (K : A → St → Out B) {r : Parsed} → At o₀ (go_on (f (ctx I n) s) K) I n k lo E M w → s ≡ abs I E w M → k ≤ j → Notes ps rs E → ListsAs v j f I M ps rs w r M' ps' rs' → NotDone r
-      → Told v' o₀ I lo r M' ps' rs'
-  stops {v'} K {r} p d le t g h =
-      let y = g.tells E p.listed t in
-      record {
-        errs = y.errs;
-        notes = y.notes;
-        same = sym (p.left ∙ ap (λ (o : Out A). go_on o K) (is_call f I E M n w s p.room d ∙ sym y.same) ∙ halts v v' I y.errs r M' K h);
-        fine = farther r I M' lo (j + w.at) (length y.errs) (omega (arith, p.on)) y.fine;
-      }
-
--- a last call
-pub lasts : (j : ℕ) {A : Type 0} {v : Walk → A} (f : Ctx → St → Out A) {o₀ : Out A} {I : Inp} {n : Rooms} {k lo : ℕ} {E : List Err} {M M' : Mem} {ps rs ps' rs' : List ℕ} {w : Walk} {s : St} {r : Parsed}
-    → At o₀ (f (ctx I n) s) I n k lo E M w → s ≡ abs I E w M → k ≤ j → Notes ps rs E → ListsAs v j f I M ps rs w r M' ps' rs' → Told v o₀ I lo r M' ps' rs'
-lasts j {A} {v} f {o₀} {I} {n} {k} {lo} {E} {M} {M'} {ps} {rs} {ps'} {rs'} {w} {s} {r} p d le t g =
-    let y = g.tells E p.listed t in
-    record {
-      errs = y.errs;
-      notes = y.notes;
-      same = sym (p.left ∙ is_call f I E M n w s p.room d ∙ sym y.same);
-      fine = farther r I M' lo (j + w.at) (length y.errs) (omega (arith, p.on)) y.fine;
-    }
+pub record Noted (b : Book) (n : ℕ) (e : Err) (c : Book) : Type 0 where
+  pub kept : KeptBook b c
+  pub notes : (E : List Err) → length E + listed_by e.why ≡ n → Holding b E → Holding c (with_err (listed_by e.why) e E)

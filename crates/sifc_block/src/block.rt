@@ -1,13 +1,14 @@
 // The names that a block binds, and its end.
-ghost use Rattle.std.specs.Prelude.{◌≡◌, ◌&&◌, [], ◌∷◌, eqb, ltb, length, ◌+◌, ◌%◌, ◌≤◌, ◌<◌};
-ghost use Rattle.sifc_def.specs.Stmt.{bind as bind_all};
-ghost use Rattle.sifc_step.specs.Abs.{inp, mem, Ready, Does};
-ghost use Rattle.sifc_block.specs.Bound.{names_of, NamesFit, between, Returns, end_block};
+ghost use Rattle.std.specs.Prelude.{◌≡◌, ◌&&◌, [], ◌∷◌, eqb, ltb, length, ◌+◌, ◌%◌, ◌≤◌, ◌<◌, IfOk};
+ghost use Rattle.sifc_def.specs.Stmt.{bind as bind_all, with_return};
+ghost use Rattle.sifc_step.specs.Abs.{Ready, Does, lifted};
+ghost use Rattle.sifc_step.specs.Small.{SameNodes};
+ghost use Rattle.sifc_block.specs.Bound.{names_of, NamesFit, between, end_block};
+ghost use Rattle.sifc_block.specs.Lists.{SameSymbols};
 
 use sifc_def::What;
-use sifc_step::{
-    Limits, Parsed, Walk, close_scope, expect, head_word, push_node, store_name, top, with_count,
-};
+use sifc_err::Refusal;
+use sifc_step::{Parser, Stop, head_word};
 
 const RIGHT_BRACE: u32 = 4;
 
@@ -26,145 +27,70 @@ pub enum Names {
 }
 
 // Declares the names of a block, in order.
-pub fn bind(
-    script: &[u8],
-    offs: &[u32],
-    words: &[u32],
-    symbols: &mut [u32],
-    head: &[u32],
-    load: &[u32],
-    lim: Limits,
-    w: Walk,
-    names: Names,
-) -> Parsed
-    requires { Ready (inp script.now offs.now words.now lim) (mem symbols.old head.now load.now) w × NamesFit names load.now }
-    ensures { Does 0 (λ c. bind_all c (names_of names load.now)) (inp script.now offs.now words.now lim) (mem symbols.old head.now load.now) w result (mem symbols.new head.now load.now) }
+pub fn bind(p: &mut Parser<'_>, names: Names) -> Result<(), Refusal>
+    requires { Ready p.old × NamesFit names p.old.load.now }
+    ensures { Does 0 (λ c. bind_all c (names_of names p.old.load.now)) p.old (lifted result) p.new × SameNodes p.old p.new }
 {
     match names {
-        Names::Unnamed => Parsed::Done(w),
-        Names::Pair(i, j) => bind_pair(script, offs, words, symbols, head, load, lim, w, i, j),
-        Names::Params(first, count) => {
-            bind_params(
-                script, offs, words, symbols, head, load, lim, w, first, count,
-            )
-        }
+        Names::Unnamed => Ok(()),
+        Names::Pair(i, j) => bind_pair(p, i, j),
+        Names::Params(first, count) => bind_params(p, first, count),
     }
 }
 
 // The two names of a loop.
-fn bind_pair(
-    script: &[u8],
-    offs: &[u32],
-    words: &[u32],
-    symbols: &mut [u32],
-    head: &[u32],
-    load: &[u32],
-    lim: Limits,
-    w: Walk,
-    i: usize,
-    j: usize,
-) -> Parsed
-    requires { Ready (inp script.now offs.now words.now lim) (mem symbols.old head.now load.now) w × (i < 65536) × (j < 65536) }
-    ensures { Does 0 (λ c. bind_all c (i ∷ j ∷ [])) (inp script.now offs.now words.now lim) (mem symbols.old head.now load.now) w result (mem symbols.new head.now load.now) }
+fn bind_pair(p: &mut Parser<'_>, i: usize, j: usize) -> Result<(), Refusal>
+    requires { Ready p.old × (i < 65536) × (j < 65536) }
+    ensures { Does 0 (λ c. bind_all c (i ∷ j ∷ [])) p.old (lifted result) p.new × SameNodes p.old p.new }
 {
-    let one = store_name(script, offs, words, symbols, w, i, What::Other);
-    let Parsed::Done(x) = one else {
-        return one;
-    };
-    store_name(script, offs, words, symbols, x, j, What::Other)
+    p.store_name(i, What::Other)?;
+    p.store_name(j, What::Other)
 }
 
 // The parameters of a function.
-fn bind_params(
-    script: &[u8],
-    offs: &[u32],
-    words: &[u32],
-    symbols: &mut [u32],
-    head: &[u32],
-    load: &[u32],
-    lim: Limits,
-    w: Walk,
-    first: usize,
-    count: usize,
-) -> Parsed
-    requires { Ready (inp script.now offs.now words.now lim) (mem symbols.old head.now load.now) w × (first + count ≤ length load.now) }
-    ensures { Does 0 (λ c. bind_all c (between load.now first count)) (inp script.now offs.now words.now lim) (mem symbols.old head.now load.now) w result (mem symbols.new head.now load.now) }
+fn bind_params(p: &mut Parser<'_>, first: usize, count: usize) -> Result<(), Refusal>
+    requires { Ready p.old × (first + count ≤ length p.old.load.now) }
+    ensures { Does 0 (λ c. bind_all c (between p.old.load.now first count)) p.old (lifted result) p.new × SameNodes p.old p.new }
 {
-    let end = first + count;
-    let mut x = w;
-    let mut k = first;
-    while k < end {
-        let i = load[k] as usize;
-        let one = store_name(script, offs, words, symbols, x, i, What::Other);
-        let Parsed::Done(y) = one else {
-            return one;
-        };
-        x = y;
-        k += 1;
+    for k in first..first + count {
+        let i = p.load[k] as usize;
+        p.store_name(i, What::Other)?;
     }
-    Parsed::Done(x)
+    Ok(())
 }
 
 // Whether the last of n declarations is a return statement, by its first word.
 fn ends_with_return(n: usize, word: u32) -> bool
     ensures { result ≡ ltb 0 n && eqb (word % 32) 6 }
 {
-    if n == 0 {
-        return false;
-    }
-    word % 32 == RETURN_STMT
+    n != 0 && word % 32 == RETURN_STMT
 }
 
-// The inserted return statement of a function's body: Done's count is how many declarations there are.
-fn with_return(head: &mut [u32], load: &mut [u32], w: Walk, body: bool, n: usize) -> Parsed
-    requires { (length head.old ≡ length load.old) × (w.nodes ≤ length head.old) × (n < 65536) }
-    ensures { Returns head.old load.old w body n result head.new load.new }
+// The inserted return statement of a function's body: how many declarations there are.
+fn with_return(p: &mut Parser<'_>, body: bool, n: usize) -> Result<usize, Refusal>
+    requires { Ready p.old × (n < 65536) }
+    ensures { Does 0 (λ c. with_return c body n) p.old (lifted result) p.new × IfOk result (λ m. m ≤ n + 1) × SameSymbols p.old p.new }
 {
     if !body {
-        return Parsed::Done(with_count(w, n));
+        return Ok(n);
     }
-    let last = top(head, load, w.nodes);
+    let last = p.top();
     if ends_with_return(n, last.head) {
-        return Parsed::Done(with_count(w, n));
+        return Ok(n);
     }
-    let made = push_node(head, load, w, RETURN_STMT, 0);
-    let Parsed::Done(x) = made else {
-        return made;
-    };
-    Parsed::Done(with_count(x, n + 1))
+    p.push_node(RETURN_STMT, 0)?;
+    Ok(n + 1)
 }
 
 // The end of a block with n declarations: the payload is the level inside.
-pub fn end_block(
-    script: &[u8],
-    offs: &[u32],
-    words: &[u32],
-    symbols: &[u32],
-    head: &mut [u32],
-    load: &mut [u32],
-    lim: Limits,
-    w: Walk,
-    body: bool,
-    n: usize,
-) -> Parsed
-    requires { Ready (inp script.now offs.now words.now lim) (mem symbols.now head.old load.old) w × (n < 65536) }
-    ensures { Does 0 (λ c. end_block c body n) (inp script.now offs.now words.now lim) (mem symbols.now head.old load.old) w result (mem symbols.now head.new load.new) }
+pub fn end_block(p: &mut Parser<'_>, body: bool, n: usize) -> Result<(), Stop>
+    requires { Ready p.old × (n < 65536) }
+    ensures { Does 0 (λ c. end_block c body n) p.old result p.new × SameSymbols p.old p.new }
 {
-    let closed = expect(offs, words, lim, w, RIGHT_BRACE);
-    let Parsed::Done(x) = closed else {
-        return closed;
-    };
-    let scope = x.level;
-    let outside = close_scope(x);
-    let ended = with_return(head, load, outside, body, n);
-    let Parsed::Done(y) = ended else {
-        return ended;
-    };
-    push_node(
-        head,
-        load,
-        y,
-        head_word(BLOCK, false, y.count),
-        scope as u32,
-    )
+    p.expect(RIGHT_BRACE)?;
+    let scope = p.level;
+    p.close_scope();
+    let count = with_return(p, body, n)?;
+    p.push_node(head_word(BLOCK, false, count), scope as u32)?;
+    Ok(())
 }

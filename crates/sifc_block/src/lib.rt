@@ -5,4 +5,4 @@ mod block;
 mod book;
 
 pub use block::{Names, bind, end_block};
-pub use book::{end_if, note_failure};
+pub use book::{Book, end_if};

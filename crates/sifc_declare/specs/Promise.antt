@@ -1,29 +1,26 @@
 -- What the functions of this crate promise beside the definition of their own name.
-use Rattle.std.specs.Prelude.{ℕ, ◌<◌, List}
+use Rattle.std.specs.Prelude.{ℕ, ◌<◌, List, [], ◌∷◌, Result, Ok, Err as Stopped, IfOk}
 use Rattle.sifc_def.specs.declared.What.TheVariants.{Other}
 use Rattle.sifc_def.specs.State.{Ctx, Void, ◌>>◌, consume, push}
 use Rattle.sifc_def.specs.Symbols.{store}
 use Rattle.sifc_def.specs.Expr.{Rec}
 use Rattle.sifc_def.specs.Stmt.{declare_var, array_nodes, initial}
-use Rattle.sifc_step.specs.declared.walk.Limits.{Limits}
-use Rattle.sifc_step.specs.declared.walk.Walk.{Walk}
-use Rattle.sifc_step.specs.declared.walk.Parsed.{Parsed}
-use Rattle.sifc_step.specs.declared.walk.Parsed.TheVariants.{Done, Failed, Refused}
-use Rattle.sifc_step.specs.Abs.{inp, Mem, kind_in, flag_in, kids_in, Ready, Does}
+use Rattle.sifc_step.specs.declared.walk.Parser.{Parser}
+use Rattle.sifc_step.specs.declared.walk.Stop.{Stop}
+use Rattle.sifc_step.specs.Abs.{kind_in, flag_in, kids_in}
 
--- a walk that is done is past token a
-abbrev pub AheadOf : ℕ → Parsed → Type 0
-AheadOf a (Done w) = a < w.at
-AheadOf a (Failed w e) = Unit {0}
-AheadOf a (Refused f) = Unit {0}
+-- a parser that a value leaves is past token a
+abbrev pub AheadOf : {A : Type 0} → ℕ → Result A Stop → Parser → Type 0
+AheadOf a r q = IfOk r (λ x. a < q.at)
 
--- limits that leave room for what a walk has listed: for a function that lists nothing
-abbrev pub freely : Walk → Limits
-freely w = record { errors = w.errors; fault = 0 }
+-- with limits that leave room for what is listed: for a function that lists nothing
+abbrev pub freely : Parser → Parser
+freely p = record p { lim = record { errors = p.errors; fault = p.lim.fault } }
 
--- what such a function promises: f, whatever the limits are
-pub record Declares (f : Ctx → Void) (s os ks : List ℕ) (M : Mem) (w : Walk) (r : Parsed) (M' : Mem) : Type 0 where
-  pub does : (l : Limits) → Ready (inp s os ks l) M w → Does 0 f (inp s os ks l) M w r M'
+-- two tokens, as the definition has them: in a list
+abbrev pub listed : Result (ℕ × ℕ) Stop → Result (List ℕ) Stop
+listed (Ok x) = Ok (x.0 ∷ x.1 ∷ [])
+listed (Stopped s) = Stopped s
 
 -- ── parts of the definitions that the code has as functions ──
 

@@ -1,3 +1,3 @@
 pub mod Depth
 pub mod Levels
-pub mod Tags
+pub mod Parts

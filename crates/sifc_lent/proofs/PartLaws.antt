@@ -1,5 +1,5 @@
 -- The parts of the reading call together leave what the definition says.
-use Rattle.std.specs.Prelude.{ℕ, zero, suc, ◌-◌, ◌/◌, ◌%◌, ◌≤◌, ◌<◌, ◌≡◌, Bool, true, false, eqb, ltb, get_or, replicate, Err, Ok, Some}
+use Rattle.std.specs.Prelude.{ℕ, zero, suc, ◌-◌, ◌/◌, ◌%◌, ◌≤◌, ◌<◌, ◌≡◌, Bool, true, false, eqb, ltb, get_or, replicate, Result, Err, Ok, Some}
 use Rattle.std.proofs.Math.Path.{refl, sym, ap, ap₂}
 use Rattle.std.proofs.Common.{◌∙◌, subst, arith, le-ltb, eqb-true, ltb-true, ltb-false, length-append, take-suc}
 use mathlib.Core.List.{List, [], ◌∷◌, ◌++◌, map, reverse, reverse-cons, map-append}
@@ -26,14 +26,12 @@ use Rattle.sifc_def.specs.Walk.{End, walk}
 use Rattle.sifc_def.specs.Read.{Arrays, rooms_of, cleared_arrays, Found, found, fault_of, ctx_of, ended, read, bit, head_word, called, early_of, summary, filled, answered, depth_limit}
 use Rattle.sifc_symtab.specs.Toks.{toks_of, toks-at, toks-past-offs}
 use Rattle.sifc_step.specs.declared.walk.Limits.{Limits}
-use Rattle.sifc_step.specs.declared.walk.Walk.{Walk}
-use Rattle.sifc_step.specs.declared.walk.Last.{Last}
 use Rattle.sifc_step.specs.declared.walk.Walked.{Walked}
-use Rattle.sifc_step.specs.declared.walk.Walked.TheVariants.{Finished, Refused}
 use Rattle.sifc_step.specs.Abs.{Inp, inp, mem, flag_in, node_in, nodes_of}
 use Rattle.sifc_step.specs.Abs as abstraction
-use Rattle.sifc_step.specs.Steps.{length-nodes}
-use Rattle.sifc_step.specs.Book.{reason-is, Notes, last_of, Ending, Walks}
+use Rattle.sifc_step.proofs.Steps.{length-nodes}
+use Rattle.sifc_step.specs.Book.{Notes, last_of, Ending, Walks}
+use Rattle.sifc_step.proofs.Book.{reason-is}
 use Rattle.sifc_lent.specs.Parts.{arrays, bare, place_word, place_word_at, WithinOf, Fits, summary_of, settled_of, finish_of}
 use Rattle.sifc_lent.proofs.LexedLaws.{lexed-back, length-offs, length-words, used-part}
 
@@ -207,53 +205,53 @@ module _ (s : List ℕ) (a b : Arrays) (d : Held s a b) where
       unfolding read
       read_is o e = rw (le-ltb (length a.offs) (length (lex s)) d.fits, read) (ap (ended (lex s)) (ap (λ (x : Ctx). walk x depth_limit) (sym same-ctx) ∙ e))
 
-      finish-refused : (f : Refusal) → walk (abstraction.ctx_of I (mem a.symbols a.heads a.loads)) depth_limit ≡ refuse f → finish_of s n (Refused f) b ≡ answered s a (read (rooms_of a) s)
+      finish-refused : (f : Refusal) → walk (abstraction.ctx_of I (mem a.symbols a.heads a.loads)) depth_limit ≡ refuse f → finish_of s n (Err f) b ≡ answered s a (read (rooms_of a) s)
       unfolding finish_of answered ended
       finish-refused f e = ap (called (Err f)) cleared-long ∙ ap (answered s a) (sym (read_is (refuse f) e))
 
-      module _ (x : Walk) (flag : Bool) (last : Last) (w : Ending I (mem a.symbols a.heads a.loads) flag last x (mem b.symbols b.heads b.loads) b.places b.reasons) where
+      module _ (z : Walked) (w : Ending I (mem a.symbols a.heads a.loads) z (mem b.symbols b.heads b.loads) b.places b.reasons) where
         abbrev what : Found
-        what = record { toks = lex s; nodes = reverse (nodes_of x.nodes b.heads b.loads); errs = reverse w.listed; flag = flag; early = last_of last }
+        what = record { toks = lex s; nodes = reverse (nodes_of w.x.nodes b.heads b.loads); errs = reverse w.listed; flag = z.flag; early = last_of z.last }
 
         read_found : read (rooms_of a) s ≡ found what
         unfolding ended
         read_found = read_is _ w.is
 
         -- the counts and the error that ended it
-        told : summary_of s (take n b.offs) (take n b.words) x flag last ≡ summary c what
+        told : summary_of s (take n b.offs) (take n b.words) z ≡ summary c what
         unfolding summary_of
         told =
             let et : length (take n b.offs) ≡ length (lex s) = ap length used-offs ∙ length-offs (lex s) in
-            let en : x.nodes ≡ length (reverse (nodes_of x.nodes b.heads b.loads)) = sym (length-reverse (nodes_of x.nodes b.heads b.loads) ∙ length-nodes x.nodes b.heads b.loads) in
-            let ee : x.errors ≡ length (reverse w.listed) = sym (length-reverse w.listed ∙ w.errors) in
-            let ey : early_of (bare s (toks_of (take n b.offs) (take n b.words))) (last_of last) ≡ early_of c (last_of last) = early-same c s (toks_of (take n b.offs) (take n b.words)) (last_of last) refl (sym used-toks) in
+            let en : z.nodes ≡ length (reverse (nodes_of w.x.nodes b.heads b.loads)) = sym (length-reverse (nodes_of w.x.nodes b.heads b.loads) ∙ length-nodes w.x.nodes b.heads b.loads ∙ w.nodes) in
+            let ee : z.errors ≡ length (reverse w.listed) = sym (length-reverse w.listed ∙ w.errors) in
+            let ey : early_of (bare s (toks_of (take n b.offs) (take n b.words))) (last_of z.last) ≡ early_of c (last_of z.last) = early-same c s (toks_of (take n b.offs) (take n b.words)) (last_of z.last) refl (sym used-toks) in
             cc
 
-        used-heads : x.nodes ≤ length b.heads
+        used-heads : w.x.nodes ≤ length b.heads
         used-heads = w.fine.used
 
-        used-loads : x.nodes ≤ length b.loads
+        used-loads : w.x.nodes ≤ length b.loads
         used-loads = omega (arith, w.fine.used, w.fine.even)
 
         -- the arrays
-        left : length b.places ≡ length b.reasons → settled_of s (take n b.offs) x b ≡ filled c what a
+        left : length b.places ≡ length b.reasons → settled_of s (take n b.offs) z b ≡ filled c what a
         unfolding settled_of
         left even =
             same-arrays
             d.offs
             d.words
-            (ap₂ padded (sym (heads-back x.nodes b.heads b.loads used-heads)) d.heads)
-            (ap₂ padded (sym (loads-back x.nodes b.heads b.loads used-loads)) d.loads)
+            (ap₂ padded (ap (λ (k : ℕ). take k b.heads) (sym w.nodes) ∙ sym (heads-back w.x.nodes b.heads b.loads used-heads)) d.heads)
+            (ap₂ padded (ap (λ (k : ℕ). take k b.loads) (sym w.nodes) ∙ sym (loads-back w.x.nodes b.heads b.loads used-loads)) d.loads)
             (zeroed-long b.symbols a.symbols d.symbols)
             (ap₂ padded (ap (λ (k : ℕ). map (place_word_at s (take n b.offs)) (take k b.places)) (sym w.errors) ∙ sym (places-back c (take n b.offs) (take n b.words) b.places b.reasons w.listed used-even (sym used-toks) w.notes (omega (arith, w.errors, w.room)))) d.places)
             (ap₂ padded (ap (λ (k : ℕ). take k b.reasons) (sym w.errors) ∙ sym (reasons-back c b.places b.reasons w.listed w.notes (omega (arith, w.errors, w.room)))) d.reasons)
 
-        finish-found : length b.places ≡ length b.reasons → finish_of s n (Finished x flag last) b ≡ answered s a (read (rooms_of a) s)
+        finish-found : length b.places ≡ length b.reasons → finish_of s n (Ok z) b ≡ answered s a (read (rooms_of a) s)
         unfolding finish_of answered
         finish-found even = ap₂ (λ (m : Summary) (z : Arrays). called (Ok m) z) told (left even) ∙ ap (answered s a) (sym read_found)
 
       -- what the walk gave lies in the arrays
-      pub fits-is : (r : Walked) → length s < 65536 → length a.places ≡ length a.reasons → Walks I (mem a.symbols a.heads a.loads) r (mem b.symbols b.heads b.loads) b.places b.reasons → Fits s b n r
+      pub fits-is : (r : Result Walked Refusal) → length s < 65536 → length a.places ≡ length a.reasons → Walks I (mem a.symbols a.heads a.loads) r (mem b.symbols b.heads b.loads) b.places b.reasons → Fits s b n r
       fits-is r h e w =
           record {
             short = h;
@@ -262,11 +260,11 @@ module _ (s : List ℕ) (a b : Arrays) (d : Held s a b) where
             within = go r w;
           }
         where
-          go : (z : Walked) → Walks I (mem a.symbols a.heads a.loads) z (mem b.symbols b.heads b.loads) b.places b.reasons → WithinOf b z
-          go (Refused f) v = tt
-          go (Finished x flag last) v = record { heads = v.fine.used; loads = omega (arith, v.fine.used, v.fine.even); places = v.room; reasons = omega (arith, v.room, e, d.places, d.reasons) }
+          go : (z : Result Walked Refusal) → Walks I (mem a.symbols a.heads a.loads) z (mem b.symbols b.heads b.loads) b.places b.reasons → WithinOf b z
+          go (Err f) v = tt
+          go (Ok z) v = record { heads = omega (arith, v.fine.used, v.nodes); loads = omega (arith, v.fine.used, v.fine.even, v.nodes); places = v.room; reasons = omega (arith, v.room, e, d.places, d.reasons) }
 
       -- What the walk gave, made into the answer, is the definition's.
-      pub finish-is : (r : Walked) → length a.places ≡ length a.reasons → Walks I (mem a.symbols a.heads a.loads) r (mem b.symbols b.heads b.loads) b.places b.reasons → finish_of s n r b ≡ answered s a (read (rooms_of a) s)
-      finish-is (Refused f) e w = finish-refused f w
-      finish-is (Finished x flag last) e w = finish-found x flag last w (d.places ∙ e ∙ sym d.reasons)
+      pub finish-is : (r : Result Walked Refusal) → length a.places ≡ length a.reasons → Walks I (mem a.symbols a.heads a.loads) r (mem b.symbols b.heads b.loads) b.places b.reasons → finish_of s n r b ≡ answered s a (read (rooms_of a) s)
+      finish-is (Err f) e w = finish-refused f w
+      finish-is (Ok z) e w = finish-found z w (d.places ∙ e ∙ sym d.reasons)

@@ -1,5 +1,5 @@
 -- What the parts of the reading call are to leave, in terms of what each is lent.
-use Rattle.std.specs.Prelude.{ℕ, ◌+◌, ◌-◌, ◌*◌, ◌≤◌, ◌<◌, ◌≡◌, List, map, Bool, length, take, get_or, Err, Ok}
+use Rattle.std.specs.Prelude.{ℕ, ◌+◌, ◌-◌, ◌*◌, ◌≤◌, ◌<◌, ◌≡◌, List, map, length, take, get_or, Result, Err, Ok}
 use Rattle.sifc_err.specs.declared.Token.{Token}
 use Rattle.sifc_tokens.specs.declared.place.Place.{Place}
 use Rattle.sifc_tokens.specs.Place.{place_of, walked_to}
@@ -10,10 +10,8 @@ use Rattle.sifc_def.specs.declared.Summary.{Summary}
 use Rattle.sifc_def.specs.State.{Ctx}
 use Rattle.sifc_def.specs.Read.{Arrays, cleared_arrays, Called, called, early_of}
 use Rattle.sifc_symtab.specs.Toks.{toks_of}
-use Rattle.sifc_step.specs.declared.walk.Walk.{Walk}
-use Rattle.sifc_step.specs.declared.walk.Last.{Last}
+use Rattle.sifc_err.specs.declared.Refusal.{Refusal}
 use Rattle.sifc_step.specs.declared.walk.Walked.{Walked}
-use Rattle.sifc_step.specs.declared.walk.Walked.TheVariants.{Finished, Refused}
 use Rattle.sifc_step.specs.Book.{last_of}
 use Rattle.sifc_lent.specs.declared.place.Spot.{Spot}
 
@@ -72,23 +70,23 @@ pub record Within (nodes errors : ℕ) (hs ls ps rs : List ℕ) : Type 0 where
   pub reasons : errors ≤ length rs
 
 -- what a walk came to lies in the arrays
-abbrev pub WithinOf : Arrays → Walked → Type 0
-WithinOf a (Finished x flag last) = Within x.nodes x.errors a.heads a.loads a.places a.reasons
-WithinOf a (Refused f) = Unit {0}
+abbrev pub WithinOf : Arrays → Result Walked Refusal → Type 0
+WithinOf a (Ok x) = Within x.nodes x.errors a.heads a.loads a.places a.reasons
+WithinOf a (Err f) = Unit {0}
 
 -- the first n elements of the token arrays are the tokens, all past them is 0, and the walk over them came to this
-pub record Fits (s : List ℕ) (a : Arrays) (n : ℕ) (r : Walked) : Type 0 where
+pub record Fits (s : List ℕ) (a : Arrays) (n : ℕ) (r : Result Walked Refusal) : Type 0 where
   pub short : length s < 65536
   pub offs : Used n a.offs
   pub words : Used n a.words
   pub within : WithinOf a r
 
 -- the answer of a walk over all of these tokens
-unfoldable pub summary_of : List ℕ → List ℕ → List ℕ → Walk → Bool → Last → Summary
-summary_of s os ws x flag last = record { tokens = length os; nodes = x.nodes; errors = x.errors; flag = flag; early = early_of (bare s (toks_of os ws)) (last_of last) }
+unfoldable pub summary_of : List ℕ → List ℕ → List ℕ → Walked → Summary
+summary_of s os ws x = record { tokens = length os; nodes = x.nodes; errors = x.errors; flag = x.flag; early = early_of (bare s (toks_of os ws)) (last_of x.last) }
 
 -- the arrays after a walk over tokens of these offsets; the token arrays stay
-unfoldable pub settled_of : List ℕ → List ℕ → Walk → Arrays → Arrays
+unfoldable pub settled_of : List ℕ → List ℕ → Walked → Arrays → Arrays
 settled_of s os x a =
     record {
       offs = a.offs;
@@ -101,6 +99,6 @@ settled_of s os x a =
     }
 
 -- the answer and the arrays, where the first n elements of the token arrays are the tokens
-unfoldable pub finish_of : List ℕ → ℕ → Walked → Arrays → Called Reading
-finish_of s n (Refused f) a = called (Err f) (cleared_arrays a)
-finish_of s n (Finished x flag last) a = called (Ok (summary_of s (take n a.offs) (take n a.words) x flag last)) (settled_of s (take n a.offs) x a)
+unfoldable pub finish_of : List ℕ → ℕ → Result Walked Refusal → Arrays → Called Reading
+finish_of s n (Err f) a = called (Err f) (cleared_arrays a)
+finish_of s n (Ok x) a = called (Ok (summary_of s (take n a.offs) (take n a.words) x)) (settled_of s (take n a.offs) x a)

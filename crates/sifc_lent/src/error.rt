@@ -10,7 +10,6 @@ ghost use Rattle.sifc_lent.specs.Parts.{bare};
 
 use sifc_def::{Err, Why};
 use sifc_err::{ParseErr, ParseErrTy, Token};
-use sifc_step::Last;
 use sifc_tokens::place_at;
 
 const EOF: u32 = 47;
@@ -70,11 +69,14 @@ fn parse_err(script: &[u8], offs: &[u32], words: &[u32], e: Err) -> ParseErr
 }
 
 // The error that ended the reading, if one did.
-pub fn early_of(script: &[u8], offs: &[u32], words: &[u32], last: Last) -> Option<ParseErr>
+pub fn early_of(
+    script: &[u8],
+    offs: &[u32],
+    words: &[u32],
+    last: Option<sifc_def::Err>,
+) -> Option<ParseErr>
     ensures { result ≡ early_of (bare script.now (toks_of offs.now words.now)) (last_of last) }
 {
-    match last {
-        Last::Never => None,
-        Last::By(e) => Some(parse_err(script, offs, words, e)),
-    }
+    let e = last?;
+    Some(parse_err(script, offs, words, e))
 }

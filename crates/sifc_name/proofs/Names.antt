@@ -1,15 +1,8 @@
 -- What the proofs of the functions that ask the symbol table cite.
-use Prim.Native.Nat.{ℕ, zero, suc, ◌+◌, ◌-◌, ◌*◌, ◌/◌, ◌%◌, ◌≤◌, ◌<◌}
-use native.Mathlib.Numerals.{add-one}
-use native.Mathlib.Omega.{arith}
-use mathlib.Core.Path.{◌≡◌, refl, sym, ap, ap₂, ◌∙◌, subst}
-use mathlib.Core.List.{List, [], ◌∷◌, ◌++◌}
-use mathlib.Core.Option.{Option, none, some}
-use mathlib.Core.Bool.{Bool, true, false}
-use lib.ListN.{length, get_or, set, take, drop, length-set}
-use lib.Seq.{get_or-set_same, get_or-set_other}
-use lib.Dec.{eqb, eqb→eq}
-use borrow.Author.Tests.{eq-eqb, ne_eqb}
+use Rattle.std.specs.Prelude.{Option as Found, Some, None, is_some, ℕ, zero, suc, ◌+◌, ◌-◌, ◌%◌, ◌≤◌, ◌<◌, ◌≡◌, refl, List, [], ◌∷◌, ◌++◌, Bool, true, false, eqb, length, get_or, set, take, drop, Result, Ok, Err as Stopped}
+use Rattle.std.proofs.Common.{add-one, arith, sym, ap, ap₂, ◌∙◌, length-set, get_or-set_same, get_or-set_other, eqb→eq, eq-eqb, ne_eqb}
+use Rattle.std.proofs.Math.Path.{subst}
+use Rattle.std.proofs.Math.Option.{Option, none, some}
 use Rattle.sifc_err.specs.declared.Refusal.TheVariants.{SourceFault}
 use Rattle.sifc_err.specs.declared.Token.{Token}
 use Rattle.sifc_word.specs.Base.{if◌then◌otherwise◌}
@@ -17,71 +10,56 @@ use Rattle.sifc_word.specs.Reserved.{is_std_lib_fn}
 use Rattle.sifc_def.specs.declared.Err.{Err}
 use Rattle.sifc_def.specs.declared.What.{What}
 use Rattle.sifc_def.specs.declared.What.TheVariants.{Placeholder, Function, Variable, Other}
-use Rattle.sifc_def.specs.declared.Why.{Why}
 use Rattle.sifc_def.specs.declared.Why.TheVariants.{UndeclSym, WrongFnParmCnt}
-use Rattle.sifc_def.specs.State.{Node, Sym, Ctx, St, Out, done, refuse, go_on, token_at, name_at, panic_at, throw_past, push, set_nodes, without}
-use Rattle.sifc_def.specs.Symbols.{is_sym, find_at, find, retrieve}
-use Rattle.sifc_def.specs.Expr.{assign_var, assign_token, assign_array, is_named, call_counted, call_declared, known, check_name}
-use Rattle.sifc_symtab.specs.declared.symtab.Found.{Found}
-use Rattle.sifc_symtab.specs.declared.symtab.Found.TheVariants.{Nothing, Declared}
-use Rattle.sifc_symtab.specs.Toks.{toks_of, toks-at, toks-past-words}
-use Rattle.sifc_symtab.specs.Table.{name_in, what_of, value_of, tag_at, value_at, sym_at, listed, syms_of, found_of, Retrieves}
-use Rattle.sifc_step.specs.declared.walk.Limits.{Limits}
-use Rattle.sifc_step.specs.declared.walk.Walk.{Walk}
+use Rattle.sifc_def.specs.State.{Node, Ctx, St, Out, done, refuse, go_on, name_at, panic_at, throw, throw_past, push, set_nodes, without}
+use Rattle.sifc_def.specs.Symbols.{find, retrieve}
+use Rattle.sifc_def.specs.Expr.{assign_var, is_named, call_counted, call_declared, known, check_name}
+use Rattle.sifc_symtab.specs.Toks.{toks-at, toks-past-words}
+use Rattle.sifc_symtab.specs.Table.{name_in, value_of, found_of, value_in}
+use Rattle.sifc_step.specs.declared.walk.Parser.{Parser}
 use Rattle.sifc_step.specs.declared.walk.Target.{Target}
-use Rattle.sifc_step.specs.declared.walk.Parsed.{Parsed}
-use Rattle.sifc_step.specs.declared.walk.Parsed.TheVariants.{Refused}
-use Rattle.sifc_step.specs.Abs.{Inp, Mem, inp, mem, Rooms, rooms_of, kind_in, flag_in, node_in, nodes_of, ctx, abs, kind_at, Ready, Does}
-use Rattle.sifc_step.specs.Small.{Pushes, Throws, Pasts}
-use Rattle.sifc_name.specs.Name.{is_known, Exists, value_in, Named, CallWord, CallsCounted, CallsDeclared, AssignsVar, Shifts, Mutates, fewer}
-use Rattle.sifc_step.specs.Steps.{off-is, length-nodes, At, Ends, NotDone, by, farther}
+use Rattle.sifc_step.specs.declared.walk.Stop.{Stop}
+use Rattle.sifc_step.specs.declared.walk.Stop.TheVariants.{Refused}
+use Rattle.sifc_step.specs.Abs.{node_in, nodes_of, ctx_at, abs_at, kind_at, Ready, inp_of, mem_of, rooms_of, Does}
+use Rattle.sifc_step.specs.Small.{node_of}
+use Rattle.sifc_step.proofs.Steps.{At, off-is, length-nodes, kept-same, ctx-kept}
+use Rattle.sifc_step.proofs.Small.{alike, least, refuses, stays}
+use Rattle.sifc_name.specs.Name.{kind_of, found_at, Looks, is_known, Shifts}
 
 -- ── tokens ──
 
-pub token-kind-in : (os ks : List ℕ) (i : ℕ) → length os ≡ length ks → i < length ks → kind_at ks i ≡ (token_at (toks_of os ks) i).kind
-token-kind-in os ks i e h = sym (ap (λ (x : Token). x.kind) (toks-at os ks i (omega (arith, e)) h))
+pub token-kind-in : (p : Parser) (i : ℕ) → Ready p → i < length p.words.now → kind_at p.words.now i ≡ kind_of p i
+token-kind-in p i r h = sym (ap (λ (x : Token). x.kind) (toks-at p.offs.now p.words.now i (omega (arith, r.stands.toks.even, h)) h))
 
-pub token-kind-past : (os ks : List ℕ) (i : ℕ) → length ks ≤ i → 47 ≡ (token_at (toks_of os ks) i).kind
-token-kind-past os ks i h = sym (ap (λ (x : Token). x.kind) (toks-past-words os ks i h))
+pub token-kind-past : (p : Parser) (i : ℕ) → length p.words.now ≤ i → 47 ≡ kind_of p i
+token-kind-past p i h = sym (ap (λ (x : Token). x.kind) (toks-past-words p.offs.now p.words.now i h))
 
-module _ {os ks : List ℕ} {t : Target} where
-  pub named-not : (t.head % 32 ≡ 24 → ⊥) → Named os ks t false
+pub named-not : (p : Parser) (t : Target) → (t.head % 32 ≡ 24 → ⊥) → false ≡ is_named (ctx_at p) (node_of t)
+unfolding is_named
+named-not p t ne = rw (ne_eqb (t.head % 32) 24 ne) refl
+
+module _ (p : Parser) (t : Target) (h : t.head % 32 ≡ 24) {k : ℕ} (e : k ≡ kind_of p t.load) where
+  pub named-ident : k ≡ 31 → true ≡ is_named (ctx_at p) (node_of t)
   unfolding is_named
-  named-not ne = record { is = λ c e. rw (ne_eqb (t.head % 32) 24 ne) refl }
+  named-ident i = rw (eq-eqb (t.head % 32) 24 h, eq-eqb (kind_of p t.load) 31 (sym e ∙ i)) refl
 
-  module _ (h : t.head % 32 ≡ 24) {k i : ℕ} (ek : k ≡ (token_at (toks_of os ks) i).kind) (ei : i ≡ t.load) where
-    pub named-ident : k ≡ 31 → Named os ks t true
-    unfolding is_named
-    named-ident e =
-        let kind-of : k ≡ (token_at (toks_of os ks) t.load).kind = ek ∙ ap (λ (j : ℕ). (token_at (toks_of os ks) j).kind) ei in
-        record { is = λ c et. rw (eq-eqb (t.head % 32) 24 h, et, eq-eqb (token_at (toks_of os ks) t.load).kind 31 (sym kind-of ∙ e)) refl }
-
-    pub named-str : (k ≡ 31 → ⊥) → Named os ks t (eqb k 32)
-    unfolding is_named
-    named-str ne =
-        let kind-of : k ≡ (token_at (toks_of os ks) t.load).kind = ek ∙ ap (λ (j : ℕ). (token_at (toks_of os ks) j).kind) ei in
-        record { is = λ c et. rw (eq-eqb (t.head % 32) 24 h, et, ne_eqb (token_at (toks_of os ks) t.load).kind 31 (λ z. ne (kind-of ∙ z))) (ap (λ (z : ℕ). eqb z 32) (sym kind-of)) }
+  pub named-str : (k ≡ 31 → ⊥) → eqb k 32 ≡ is_named (ctx_at p) (node_of t)
+  unfolding is_named
+  named-str ne = rw (eq-eqb (t.head % 32) 24 h, ne_eqb (kind_of p t.load) 31 (λ z. ne (e ∙ z))) (ap (λ (z : ℕ). eqb z 32) e)
 
 -- ── what the symbol table says ──
 
-pub lost-past : {os ks : List ℕ} {l : Limits} {w : Walk} {why : Why} {r : Parsed} → Pasts os ks l w why r → NotDone r
-lost-past d = record { lost = d.lost }
-
--- the symbol words are as they were
-pub held : {A : Type 0} {v : Walk → A} {o₀ : Out A} {I : Inp} {lo : ℕ} {E : List Err} {r : Parsed} {ys ys' hs ls : List ℕ} → ys' ≡ ys → Ends v o₀ I lo E r (mem ys hs ls) → Ends v o₀ I lo E r (mem ys' hs ls)
-held {A} {v} {o₀} {I} {lo} {E} {r} {ys} {ys'} {hs} {ls} e p = subst (λ (zs : List ℕ). Ends v o₀ I lo E r (mem zs hs ls)) (sym e) p
-
-module _ {A : Type 0} {o₀ : Out A} {I : Inp} {n : Rooms} {k lo : ℕ} {E : List Err} {M : Mem} {w : Walk} where
+module _ {B : Type 0} {j k : ℕ} {f : St → Out B} {p q : Parser} where
   -- a look-up
-  pub looked : {i i' : ℕ} {r : Found} {ys : List ℕ} (K : Option What → St → Out A) → At o₀ (go_on (retrieve (ctx I n) (name_at (ctx I n) i) (abs I E w M)) K) I n k lo E M w → i' ≡ i
-      → Retrieves I.script I.offs I.words M.symbols w.symbols w.level i' r ys → At o₀ (K (found_of r) (abs I E w M)) I n k lo E M w
+  pub looked : (i : ℕ) {r : Found What} (K : Option What → St → Out B) → At j k f (λ s. go_on (retrieve (ctx_at p) (name_at (ctx_at p) i) s) K) p q → Looks q i r → At j k f (K (found_of r)) p q
   unfolding go_on retrieve
-  looked {i} {i'} {r} {ys} K p e d = by p (ap (λ (o : Option What). K o (abs I E w M)) (sym (d.found ∙ ap (λ (j : ℕ). find w.level (name_in I.script I.offs I.words j) (syms_of I.script I.offs I.words M.symbols w.symbols)) e)))
-
-  -- panic 3
-  pub panicked : {v : Walk → A} {kind i o : ℕ} (s : St) → At o₀ (panic_at (ctx I n) kind i s) I n k lo E M w → i < length I.words → o ≡ get_or I.offs i 0 → Ends v o₀ I lo E (Refused (SourceFault kind o)) M
-  unfolding panic_at
-  panicked {v} {kind} {i} {o} s p h e = record { same = sym (p.left ∙ ap (λ (z : ℕ). refuse (SourceFault kind z)) (off-is I n i p.is.stands.toks h ∙ sym e)); fine = tt }
+  looked i {r} K t d = record {
+    kept = t.kept;
+    left = λ E l. t.left E l ∙ ap (λ (o : Option What). K o (abs_at E q)) (ap (λ (c : Ctx). find q.level (name_at c i) (abs_at E q).syms) (sym (ctx-kept t.kept)) ∙ sym d.found);
+    is = t.is;
+    on = t.on;
+    errors = t.errors;
+  }
 
 known_is : (c : Ctx) (i : ℕ) (o : Option What) (s : St) → is_known o (name_at c i) ≡ true → known c i o s ≡ done tt s
 unfolding known is_known if◌then◌otherwise◌
@@ -102,195 +80,16 @@ name-looked : (c : Ctx) (i : ℕ) (s : St) → s.check ≡ true → check_name c
 unfolding check_name retrieve go_on if◌then◌otherwise◌
 name-looked c i s e = rw e refl
 
-module _ {A : Type 0} {o₀ : Out A} {I : Inp} {n : Rooms} {k lo : ℕ} {E : List Err} {M : Mem} {w : Walk} where
-  pub unchecked : (i : ℕ) (K : Unit {0} → St → Out A) → At o₀ (go_on (check_name (ctx I n) i (abs I E w M)) K) I n k lo E M w → w.check ≡ false → At o₀ (K tt (abs I E w M)) I n k lo E M w
-  unfolding go_on
-  unchecked i K p e = by p (ap (λ (o : Out (Unit {0})). go_on o K) (name-skipped (ctx I n) i (abs I E w M) e))
-
-  module _ (i : ℕ) (K : Unit {0} → St → Out A) (p : At o₀ (go_on (check_name (ctx I n) i (abs I E w M)) K) I n k lo E M w) (e : w.check ≡ true) {r : Bool} {ys : List ℕ}
-      (d : Exists I.script I.offs I.words M.symbols w.symbols w.level i r ys) where
-    pub checked : r ≡ true → At o₀ (K tt (abs I E w M)) I n k lo E M w
-    unfolding go_on
-    checked y = by p (ap (λ (o : Out (Unit {0})). go_on o K) (name-looked (ctx I n) i (abs I E w M) e ∙ known_is (ctx I n) i _ (abs I E w M) (sym d.known ∙ y)))
-
-    pub undeclared : r ≡ false → At o₀ (go_on (throw_past (ctx I n) (UndeclSym i) (abs I E w M)) K) I n k lo E M w
-    undeclared y = by p (ap (λ (o : Out (Unit {0})). go_on o K) (name-looked (ctx I n) i (abs I E w M) e ∙ known-not (ctx I n) i _ (abs I E w M) (sym d.known ∙ y)))
-
-pub exists-some : {s os ks ys : List ℕ} {n level i : ℕ} {f : Found} {w : What} {ys' : List ℕ} → Retrieves s os ks ys n level i f ys' → f ≡ Declared w → Exists s os ks ys n level i true ys'
+pub found-known : (p : Parser) (i : ℕ) (f : Found What) → Looks p i f → is_some f ≡ true → true ≡ is_known (found_at p i) (name_in p.script.now p.offs.now p.words.now i)
 unfolding is_known
-exists-some {s} {os} {ks} {ys} {n} {level} {i} {f} {w} d e = record { known = ap (λ (o : Option What). is_known o (name_in s os ks i)) (sym (ap found_of e) ∙ d.found); kept = d.kept }
+found-known p i None d e = absurd (let z : ◌≡◌ {A = ℕ} 0 1 = cc in omega arith)
+found-known p i (Some w) d e = ap (λ (o : Option What). is_known o (name_in p.script.now p.offs.now p.words.now i)) d.found
 
-pub exists-none : {s os ks ys : List ℕ} {n level i : ℕ} {f : Found} {ys' : List ℕ} {b : Bool} {nm : List ℕ} → Retrieves s os ks ys n level i f ys' → f ≡ Nothing → b ≡ is_std_lib_fn nm → nm ≡ name_in s os ks i → Exists s os ks ys n level i b ys'
+pub none-known : (p : Parser) (i : ℕ) (f : Found What) {nm : List ℕ} → Looks p i f → is_some f ≡ false → nm ≡ name_in p.script.now p.offs.now p.words.now i
+    → is_std_lib_fn nm ≡ is_known (found_at p i) (name_in p.script.now p.offs.now p.words.now i)
 unfolding is_known
-exists-none {s} {os} {ks} {ys} {n} {level} {i} {f} {ys'} {b} {nm} d e eb en = record { known = eb ∙ ap is_std_lib_fn en ∙ ap (λ (o : Option What). is_known o (name_in s os ks i)) (sym (ap found_of e) ∙ d.found); kept = d.kept }
-
-pub std-name : (s os ks : List ℕ) {b : Bool} {nm : List ℕ} {i i' : ℕ} → b ≡ is_std_lib_fn nm → nm ≡ name_in s os ks i' → i' ≡ i → b ≡ is_std_lib_fn (name_in s os ks i)
-std-name s os ks eb en ei = eb ∙ ap is_std_lib_fn (en ∙ ap (λ (j : ℕ). name_in s os ks j) ei)
-
--- ── what is found fits a word, as the words do ──
-
-SmallIn : ℕ → Option What → Type 0
-unfolding value_of
-SmallIn b none = Unit {0}
-SmallIn b (some w) = value_of w < b
-
-what-small : (b t v : ℕ) → 0 < b → v < b → value_of (what_of t v) < b
-unfolding what_of if◌then◌otherwise◌ value_of
-what-small b t v z h = pick (eqb t 0) (eqb t 1) (eqb t 2) (eqb t 3)
-  where
-    pick : (p q r s : Bool) → value_of (if◌then◌otherwise◌ p Placeholder (if◌then◌otherwise◌ q (Function v) (if◌then◌otherwise◌ r (Variable v false) (if◌then◌otherwise◌ s (Variable v true) Other)))) < b
-    pick true q r s = z
-    pick false true r s = h
-    pick false false true s = h
-    pick false false false true = h
-    pick false false false false = z
-
-module _ (b : ℕ) (f : ℕ → Sym) (small : (k : ℕ) → value_of (f k).what < b) where
-  at_small : (l : ℕ) (nm : List ℕ) (k m : ℕ) → SmallIn b (find_at l nm (listed f k m))
-  unfolding SmallIn find_at listed
-  at_small l nm k zero = tt
-  at_small l nm k (suc m) = pick (is_sym l nm (f k)) (at_small l nm (suc k) m)
-    where
-      pick : (q : Bool) → SmallIn b (find_at l nm (listed f (suc k) m)) → SmallIn b (elim q [ true ↦ some (f k).what | false ↦ find_at l nm (listed f (suc k) m) ])
-      pick true h = small k
-      pick false h = h
-
-  in_small : (l : ℕ) (nm : List ℕ) (m : ℕ) → SmallIn b (find l nm (listed f 0 m))
-  unfolding SmallIn find
-  in_small zero nm m = at_small zero nm 0 m
-  in_small (suc l) nm m = pick (find_at (suc l) nm (listed f 0 m)) (at_small (suc l) nm 0 m) (in_small l nm m)
-    where
-      pick : (o : Option What) → SmallIn b o → SmallIn b (find l nm (listed f 0 m)) → SmallIn b (elim o [ some w ↦ some w | none ↦ find l nm (listed f 0 m) ])
-      pick (some w) h g = h
-      pick none h g = g
-
-pub found-small : {s os ks ys : List ℕ} {n level i : ℕ} {f : Found} {ys' : List ℕ} (b : ℕ) → 0 < b → ((k : ℕ) → get_or ys k 0 < b) → Retrieves s os ks ys n level i f ys' → value_in f < b
-unfolding syms_of sym_at SmallIn
-found-small {s} {os} {ks} {ys} {n} {level} {i} {f} {ys'} b z h d =
-    pick f (subst (λ (o : Option What). SmallIn b o) (sym d.found) (in_small b (sym_at s os ks ys) (λ k. what-small b (tag_at ys k) (value_at ys k) z (omega (arith, h (4 * k)))) level (name_in s os ks i) n))
-  where
-    pick : (g : Found) → SmallIn b (found_of g) → value_in g < b
-    pick Nothing q = z
-    pick (Declared w) q = q
-
--- ── a call's node ──
-
-pub pushed-call : {I : Inp} {M : Mem} {w : Walk} {n h : ℕ} {std : Bool} {r : Parsed} {hs ls : List ℕ} → Ready I M w → CallWord n std h → Pushes M.head M.load w h 0 r hs ls
-    → Does 0 (λ c. push c 20 std (suc n) 0) I M w r (mem M.symbols hs ls)
-pushed-call {I} {M} {w} {n} {h} {std} {r} {hs} {ls} p cw d =
-    subst (λ (k : ℕ). Does 0 (λ c. push c k std (suc n) 0) I M w r (mem M.symbols hs ls)) cw.kind
-    (subst (λ (q : Bool). Does 0 (λ c. push c (kind_in h) q (suc n) 0) I M w r (mem M.symbols hs ls)) cw.flag
-    (subst (λ (k : ℕ). Does 0 (λ c. push c (kind_in h) (flag_in h) k 0) I M w r (mem M.symbols hs ls)) cw.kids (d.does I M.symbols p)))
-
-pub word-plain : (n : ℕ) {std : Bool} → std ≡ false → CallWord n std (n * 64 + 84)
-word-plain n e = record { kind = omega arith; flag = ne_eqb ((n * 64 + 84) / 32 % 2) 1 (λ z. omega arith) ∙ sym e; kids = omega arith }
-
-pub word-std : (n : ℕ) {std : Bool} → std ≡ true → CallWord n std (n * 64 + 84 + 32)
-word-std n e = record { kind = omega arith; flag = eq-eqb ((n * 64 + 84 + 32) / 32 % 2) 1 (omega arith) ∙ sym e; kids = omega arith }
-
-module _ {hs ls : List ℕ} {l : Limits} {w : Walk} {want n : ℕ} {r : Parsed} where
-  pub counted-wrong : (want ≡ n → ⊥) → Throws l w (WrongFnParmCnt want n) r → CallsCounted hs ls l w want n r hs ls
-  unfolding call_counted if◌then◌otherwise◌
-  counted-wrong ne d = record {
-    does = λ s os ks ys p.
-        let g = d.does s os ks (mem ys hs ls) p in
-        record { same = λ E q. g.same E q ∙ sym (rw (ne_eqb want n ne) refl); fine = g.fine };
-  }
-
-  pub counted-right : want ≡ n → {h : ℕ} {hs' ls' : List ℕ} → CallWord n false h → Pushes hs ls w h 0 r hs' ls' → CallsCounted hs ls l w want n r hs' ls'
-  unfolding call_counted if◌then◌otherwise◌
-  counted-right e {h} cw d = record {
-    does = λ s os ks ys p.
-        let g = pushed-call {I = inp s os ks l} {M = mem ys hs ls} p cw d in
-        record { same = λ E q. g.same E q ∙ sym (rw (eq-eqb want n e) refl); fine = g.fine };
-  }
-
--- by what the name was declared as
-module _ {os ks hs ls : List ℕ} {l : Limits} {w : Walk} {i n : ℕ} {f : Found} {r : Parsed} where
-  pub declared-none : f ≡ Nothing → Pasts os ks l w (UndeclSym i) r → CallsDeclared os ks hs ls l w i n f r hs ls
-  unfolding call_declared
-  declared-none e d = subst (λ (g : Found). CallsDeclared os ks hs ls l w i n g r hs ls) (sym e) (record {
-    does = λ s ys p.
-        let g = d.does s (mem ys hs ls) p in
-        record { same = λ E q. g.same E q; fine = farther r (inp s os ks l) (mem ys hs ls) (0 + w.at) (1 + w.at) w.errors (omega arith) g.fine };
-  })
-
-  module _ {hs' ls' : List ℕ} {what : What} (e : f ≡ Declared what) where
-    pub declared-null : what ≡ Placeholder → {h : ℕ} → CallWord n false h → Pushes hs ls w h 0 r hs' ls' → CallsDeclared os ks hs ls l w i n f r hs' ls'
-    unfolding call_declared
-    declared-null ew {h} cw d = subst (λ (g : Found). CallsDeclared os ks hs ls l w i n g r hs' ls') (sym (e ∙ ap Declared ew)) (record {
-      does = λ s ys p.
-          let g = pushed-call {I = inp s os ks l} {M = mem ys hs ls} p cw d in
-          record { same = λ E q. g.same E q; fine = g.fine };
-    })
-
-    pub declared-fn : {want : ℕ} → what ≡ Function want → CallsCounted hs ls l w want n r hs' ls' → CallsDeclared os ks hs ls l w i n f r hs' ls'
-    unfolding call_declared
-    declared-fn {want} ew d = subst (λ (g : Found). CallsDeclared os ks hs ls l w i n g r hs' ls') (sym (e ∙ ap Declared ew)) (record {
-      does = λ s ys p. let g = d.does s os ks ys p in record { same = λ E q. g.same E q; fine = g.fine };
-    })
-
-    pub declared-var : {t : ℕ} {g : Bool} → what ≡ Variable t g → CallsCounted hs ls l w 0 n r hs' ls' → CallsDeclared os ks hs ls l w i n f r hs' ls'
-    unfolding call_declared
-    declared-var {t} {g} ew d = subst (λ (g : Found). CallsDeclared os ks hs ls l w i n g r hs' ls') (sym (e ∙ ap Declared ew)) (record {
-      does = λ s ys p. let g = d.does s os ks ys p in record { same = λ E q. g.same E q; fine = g.fine };
-    })
-
-    pub declared-other : what ≡ Other → CallsCounted hs ls l w 0 n r hs' ls' → CallsDeclared os ks hs ls l w i n f r hs' ls'
-    unfolding call_declared
-    declared-other ew d = subst (λ (g : Found). CallsDeclared os ks hs ls l w i n g r hs' ls') (sym (e ∙ ap Declared ew)) (record {
-      does = λ s ys p. let g = d.does s os ks ys p in record { same = λ E q. g.same E q; fine = g.fine };
-    })
-
-pub declared-at : {I : Inp} {M : Mem} {w : Walk} {i i' n : ℕ} {f : Found} {r : Parsed} {hs ls : List ℕ} → i' ≡ i → CallsDeclared I.offs I.words M.head M.load I.lim w i' n f r hs ls → Ready I M w
-    → Does 0 (λ c. call_declared c i n (found_of f)) I M w r (mem M.symbols hs ls)
-declared-at {I} {M} {w} {i} {i'} {n} {f} {r} {hs} {ls} e d p = subst (λ (j : ℕ). Does 0 (λ c. call_declared c j n (found_of f)) I M w r (mem M.symbols hs ls)) e (d.does I.script M.symbols p)
-
--- ── assignment to a name ──
-
--- no variable
-abbrev pub NoVar : Found → Type 0
-NoVar Nothing = Unit {0}
-NoVar (Declared Placeholder) = Unit {0}
-NoVar (Declared (Function n)) = Unit {0}
-NoVar (Declared (Variable t g)) = ⊥
-NoVar (Declared Other) = Unit {0}
-
-pub none-var : {f : Found} → f ≡ Nothing → NoVar f
-none-var e = subst (λ (g : Found). NoVar g) (sym e) tt
-
-pub no-var : {f : Found} {what : What} → f ≡ Declared what → ((t : ℕ) (g : Bool) → what ≡ Variable t g → ⊥) → NoVar f
-no-var {f} {what} e h = subst (λ (g : Found). NoVar g) (sym e) (pick what h)
-  where
-    pick : (x : What) → ((t : ℕ) (g : Bool) → x ≡ Variable t g → ⊥) → NoVar (Declared x)
-    pick Placeholder q = tt
-    pick (Function n) q = tt
-    pick (Variable t g) q = absurd (q t g refl)
-    pick Other q = tt
-
-pub small_at : {f : Found} {what : What} {t b : ℕ} {g : Bool} → value_in f < b → f ≡ Declared what → what ≡ Variable t g → t < b
-unfolding value_of
-small_at {f} {what} {t} {b} {g} h e ew = subst (λ (x : Found). value_in x < b) (e ∙ ap Declared ew) h
-
-module _ {hs ls : List ℕ} {l : Limits} {w : Walk} {i : ℕ} {r : Parsed} where
-  pub assign-not : {f : Found} → NoVar f → Throws l w (UndeclSym i) r → AssignsVar hs ls l w i f r hs ls
-  unfolding assign_var
-  assign-not {f} h d = pick f h
-    where
-      pick : (g : Found) → NoVar g → AssignsVar hs ls l w i g r hs ls
-      pick Nothing q = record { does = λ s os ks ys p. d.does s os ks (mem ys hs ls) p }
-      pick (Declared Placeholder) q = record { does = λ s os ks ys p. d.does s os ks (mem ys hs ls) p }
-      pick (Declared (Function n)) q = record { does = λ s os ks ys p. d.does s os ks (mem ys hs ls) p }
-      pick (Declared (Variable t g)) q = absurd q
-      pick (Declared Other) q = record { does = λ s os ks ys p. d.does s os ks (mem ys hs ls) p }
-
-  pub assign-global : {f : Found} {what : What} {t : ℕ} {g : Bool} {hs' ls' : List ℕ} → f ≡ Declared what → what ≡ Variable t g → g ≡ true → Pushes hs ls w 181 t r hs' ls' → AssignsVar hs ls l w i f r hs' ls'
-  unfolding assign_var
-  assign-global {f} {what} {t} {g} {hs'} {ls'} e ew eg d = subst (λ (x : Found). AssignsVar hs ls l w i x r hs' ls') (sym (e ∙ ap Declared (ew ∙ ap (Variable t) eg))) (record { does = λ s os ks ys p. d.does (inp s os ks l) ys p })
-
-  pub assign_local : {f : Found} {what : What} {t : ℕ} {g : Bool} {hs' ls' : List ℕ} → f ≡ Declared what → what ≡ Variable t g → g ≡ false → Pushes hs ls w 149 t r hs' ls' → AssignsVar hs ls l w i f r hs' ls'
-  unfolding assign_var
-  assign_local {f} {what} {t} {g} {hs'} {ls'} e ew eg d = subst (λ (x : Found). AssignsVar hs ls l w i x r hs' ls') (sym (e ∙ ap Declared (ew ∙ ap (Variable t) eg))) (record { does = λ s os ks ys p. d.does (inp s os ks l) ys p })
+none-known p i (Some w) d e en = absurd (let z : ◌≡◌ {A = ℕ} 0 1 = cc in omega arith)
+none-known p i None d e en = ap is_std_lib_fn en ∙ ap (λ (o : Option What). is_known o (name_in p.script.now p.offs.now p.words.now i)) d.found
 
 -- ── a node taken out: those after it move down ──
 
@@ -370,38 +169,118 @@ nodes-shifted (suc m) from hs ls hs' ls' le f g = pick (eqb from (suc m)) refl (
         ap₂ ◌∷◌ (ap₂ (λ (h t : ℕ). node_in h t) (f.moved m lt (omega arith) ∙ ap (λ (j : ℕ). get_or hs j 0) (add-one m)) (g.moved m lt (omega arith) ∙ ap (λ (j : ℕ). get_or ls j 0) (add-one m))) (ih lt)
         ∙ sym (without-older from (node_in (get_or hs (suc m) 0) (get_or ls (suc m) 0)) (nodes_of (suc m) hs ls) (omega (arith, length-nodes (suc m) hs ls)))
 
-module _ {hs ls : List ℕ} {w : Walk} {slot : ℕ} {r : Parsed} {hs' ls' : List ℕ} where
-  pub mutate-past : w.nodes ≤ slot → Pushes hs ls w 211 0 r hs' ls' → Mutates hs ls w slot r hs' ls'
-  unfolding assign_array set_nodes go_on
-  mutate-past ge d = record {
-    does = λ I ys p.
-        let g = d.does I ys p in
-        record {
-          same = λ E q. g.same E q ∙ ap (λ (xs : List Node). push (ctx I (rooms_of (mem ys hs ls))) 19 false 3 0 (record { at = w.at; nodes = xs; syms = syms_of I.script I.offs I.words ys w.symbols; level = w.level; check = w.check; errs = E })) (sym (without-none slot (nodes_of w.nodes hs ls) (omega (arith, length-nodes w.nodes hs ls))));
-          fine = g.fine;
-        };
-  }
+-- the nodes of the definition after the node is taken out
+pub taken-out : (p : Parser) (slot : ℕ) (hs ls : List ℕ) → slot < p.nodes → Shifts p.head.now slot p.nodes hs → Shifts p.load.now slot p.nodes ls → nodes_of (p.nodes - 1) hs ls ≡ without slot (nodes_of p.nodes p.head.now p.load.now)
+taken-out p slot hs ls lt sh sl =
+    let some : p.nodes ≡ suc (p.nodes - 1) = omega arith in
+    nodes-shifted (p.nodes - 1) slot p.head.now p.load.now hs ls (omega arith) (subst (λ (m : ℕ). Shifts p.head.now slot m hs) some sh) (subst (λ (m : ℕ). Shifts p.load.now slot m ls) some sl)
+    ∙ ap (λ (m : ℕ). without slot (nodes_of m p.head.now p.load.now)) (sym some)
 
-  pub mutate : {x : Walk} {hs₁ ls₁ : List ℕ} → slot < w.nodes → length hs₁ ≡ length hs → length ls₁ ≡ length ls → Shifts hs slot w.nodes hs₁ → Shifts ls slot w.nodes ls₁ → x ≡ fewer w → Pushes hs₁ ls₁ x 211 0 r hs' ls' → Mutates hs ls w slot r hs' ls'
-  unfolding assign_array set_nodes go_on
-  mutate {x} {hs₁} {ls₁} lt eh el sh sl ex d' =
-      let d : Pushes hs₁ ls₁ (fewer w) 211 0 r hs' ls' = subst (λ (y : Walk). Pushes hs₁ ls₁ y 211 0 r hs' ls') ex d' in
-      let some : w.nodes ≡ suc (w.nodes - 1) = omega arith in
-      let ns : nodes_of (w.nodes - 1) hs₁ ls₁ ≡ without slot (nodes_of w.nodes hs ls) =
-      nodes-shifted (w.nodes - 1) slot hs ls hs₁ ls₁ (omega arith) (subst (λ (m : ℕ). Shifts hs slot m hs₁) some sh) (subst (λ (m : ℕ). Shifts ls slot m ls₁) some sl) ∙ ap (λ (m : ℕ). without slot (nodes_of m hs ls)) (sym some) in
+pub none-out : (p : Parser) (slot : ℕ) → p.nodes ≤ slot → nodes_of p.nodes p.head.now p.load.now ≡ without slot (nodes_of p.nodes p.head.now p.load.now)
+none-out p slot h = sym (without-none slot (nodes_of p.nodes p.head.now p.load.now) (omega (arith, length-nodes p.nodes p.head.now p.load.now)))
+
+-- ── a call's node, and an assignment's ──
+
+pub called-wrong : {p q : Parser} {want n : ℕ} {s : Stop} → (want ≡ n → ⊥) → Does {A = Unit {0}} 0 (λ c. throw c (WrongFnParmCnt want n)) p (Stopped s) q → Does 0 (λ c. call_counted c want n) p (Stopped s) q
+unfolding call_counted if◌then◌otherwise◌
+called-wrong {p} {q} {want} {n} ne d = alike (λ c. throw c (WrongFnParmCnt want n)) (λ z E l. sym (rw (ne_eqb want n ne) refl)) d
+
+pub called-right : {p q : Parser} {want n : ℕ} {x : Result (Unit {0}) Stop} → want ≡ n → Does 0 (λ c. push c 20 false (suc n) 0) p x q → Does 0 (λ c. call_counted c want n) p x q
+unfolding call_counted if◌then◌otherwise◌
+called-right {p} {q} {want} {n} e d = alike (λ c. push c 20 false (suc n) 0) (λ z E l. sym (rw (eq-eqb want n e) refl)) d
+
+-- ── by what was found ──
+
+pub small_at : {f : Found What} {w : What} {t : ℕ} {g : Bool} → value_in f < 65536 → f ≡ Some w → w ≡ Variable t g → t < 65536
+unfolding value_of
+small_at h e ew = subst (λ (x : Found What). value_in x < 65536) (e ∙ ap Some ew) h
+
+module _ {p q : Parser} (i : ℕ) {f : Found What} where
+  pub assign-none : f ≡ None → {s : Stop} → Does {A = Unit {0}} 0 (λ c. throw c (UndeclSym i)) p (Stopped s) q → Does 0 (λ c. assign_var c i (found_of f)) p (Stopped s) q
+  unfolding assign_var
+  assign-none e d = rw e (alike (λ c. throw c (UndeclSym i)) (λ z E l. refl) d)
+
+  module _ {w : What} (e : f ≡ Some w) where
+    pub assign-not : ((t : ℕ) (g : Bool) → w ≡ Variable t g → ⊥) → {s : Stop} → Does {A = Unit {0}} 0 (λ c. throw c (UndeclSym i)) p (Stopped s) q → Does 0 (λ c. assign_var c i (found_of f)) p (Stopped s) q
+    unfolding assign_var
+    assign-not h {s} d = rw e (pick w h)
+      where
+        pick : (x : What) → ((t : ℕ) (g : Bool) → x ≡ Variable t g → ⊥) → Does 0 (λ c. assign_var c i (some x)) p (Stopped s) q
+        pick Placeholder h = alike (λ c. throw c (UndeclSym i)) (λ z E l. refl) d
+        pick (Function n) h = alike (λ c. throw c (UndeclSym i)) (λ z E l. refl) d
+        pick (Variable t g) h = absurd (h t g refl)
+        pick Other h = alike (λ c. throw c (UndeclSym i)) (λ z E l. refl) d
+
+    pub assign-var : {t : ℕ} {g : Bool} {x : Result (Unit {0}) Stop} → w ≡ Variable t g → Does 0 (λ c. push c 21 g 2 t) p x q → Does 0 (λ c. assign_var c i (found_of f)) p x q
+    unfolding assign_var
+    assign-var {t} {g} ew d = rw (e, ew) (alike (λ c. push c 21 g 2 t) (λ z E l. refl) d)
+
+  module _ (n : ℕ) {x : Result (Unit {0}) Stop} where
+    pub call-none : f ≡ None → Does 1 (λ c. throw_past c (UndeclSym i)) p x q → Does 0 (λ c. call_declared c i n (found_of f)) p x q
+    unfolding call_declared
+    call-none e d = rw e (alike (λ c. throw_past c (UndeclSym i)) (λ z E l. refl) (least d))
+
+    module _ {w : What} (e : f ≡ Some w) where
+      pub call-null : w ≡ Placeholder → Does 0 (λ c. push c 20 false (suc n) 0) p x q → Does 0 (λ c. call_declared c i n (found_of f)) p x q
+      unfolding call_declared
+      call-null ew d = rw (e, ew) (alike (λ c. push c 20 false (suc n) 0) (λ z E l. refl) d)
+
+      pub call-fn : {m : ℕ} → w ≡ Function m → Does 0 (λ c. call_counted c m n) p x q → Does 0 (λ c. call_declared c i n (found_of f)) p x q
+      unfolding call_declared
+      call-fn {m} ew d = rw (e, ew) (alike (λ c. call_counted c m n) (λ z E l. refl) d)
+
+      pub call-var : {t : ℕ} {g : Bool} → w ≡ Variable t g → Does 0 (λ c. call_counted c 0 n) p x q → Does 0 (λ c. call_declared c i n (found_of f)) p x q
+      unfolding call_declared
+      call-var ew d = rw (e, ew) (alike (λ c. call_counted c 0 n) (λ z E l. refl) d)
+
+      pub call-other : w ≡ Other → Does 0 (λ c. call_counted c 0 n) p x q → Does 0 (λ c. call_declared c i n (found_of f)) p x q
+      unfolding call_declared
+      call-other ew d = rw (e, ew) (alike (λ c. call_counted c 0 n) (λ z E l. refl) d)
+
+-- ── the steps of a name ──
+
+pub panicked : {p : Parser} {j : ℕ} {f : Ctx → St → Out (Unit {0})} (kind i : ℕ) → Ready p → i < length p.words.now
+    → ((E : List Err) → length E ≡ p.errors → f (ctx_at p) (abs_at E p) ≡ panic_at (ctx_at p) kind i (abs_at E p)) → Does j f p (Stopped (Refused (SourceFault kind (get_or p.offs.now i 0)))) p
+unfolding panic_at
+panicked {p} kind i r h d = refuses (kept-same p) (λ z E l. d E l ∙ ap (λ (z : ℕ). refuse (SourceFault kind z)) (off-is (inp_of p) (rooms_of (mem_of p)) i r.stands.toks h))
+
+module _ {B : Type 0} {j k : ℕ} {f : St → Out B} {p : Parser} (i : ℕ) (K : Unit {0} → St → Out B) (t : At j k f (λ s. go_on (check_name (ctx_at p) i s) K) p p) where
+  pub unchecked : p.check ≡ false → At j k f (K tt) p p
+  unfolding go_on
+  unchecked e = record { kept = t.kept; left = λ E l. t.left E l ∙ ap (λ (o : Out (Unit {0})). go_on o K) (name-skipped (ctx_at p) i (abs_at E p) e); is = t.is; on = t.on; errors = t.errors }
+
+  module _ (e : p.check ≡ true) where
+    pub checked : true ≡ is_known (found_at p i) (name_in p.script.now p.offs.now p.words.now i) → At j k f (K tt) p p
+    unfolding go_on
+    checked y = record {
+      kept = t.kept;
+      left = λ E l. t.left E l ∙ ap (λ (o : Out (Unit {0})). go_on o K) (name-looked (ctx_at p) i (abs_at E p) e ∙ known_is (ctx_at p) i _ (abs_at E p) (sym y));
+      is = t.is;
+      on = t.on;
+      errors = t.errors;
+    }
+
+    pub undeclared : false ≡ is_known (found_at p i) (name_in p.script.now p.offs.now p.words.now i) → At j k f (λ s. go_on (throw_past (ctx_at p) (UndeclSym i) s) K) p p
+    undeclared y = record {
+      kept = t.kept;
+      left = λ E l. t.left E l ∙ ap (λ (o : Out (Unit {0})). go_on o K) (name-looked (ctx_at p) i (abs_at E p) e ∙ known-not (ctx_at p) i _ (abs_at E p) (sym y));
+      is = t.is;
+      on = t.on;
+      errors = t.errors;
+    }
+
+-- a node taken out, and none
+module _ {p : Parser} (r : Ready p) (slot : ℕ) where
+  pub takes-none : p.nodes ≤ slot → Does 0 (λ c. set_nodes c (without slot)) p (Ok tt) p
+  unfolding set_nodes
+  takes-none h = stays (λ z E l. ap (λ (xs : List Node). done tt (record { at = p.at; nodes = xs; syms = (abs_at E p).syms; level = p.level; check = p.check; errs = E })) (sym (none-out p slot h)))
+
+  pub takes-out : (slot < p.nodes) → {hs ls : List ℕ} → Shifts p.head.now slot p.nodes hs → Shifts p.load.now slot p.nodes ls → length hs ≡ length p.head.now → length ls ≡ length p.load.now
+      → Does 0 (λ c. set_nodes c (without slot)) p (Ok tt) (record p { head = record (p.head) { now = hs }; load = record (p.load) { now = ls }; nodes = p.nodes - 1 })
+  unfolding set_nodes
+  takes-out lt {hs} {ls} sh sl lh ll =
       record {
-        does = λ I ys p.
-            let q : Ready I (mem ys hs₁ ls₁) (fewer w) = record { stands = record { toks = p.stands.toks; here = p.stands.here; calm = p.stands.calm }; even = eh ∙ p.even ∙ sym el; used = omega (arith, p.used, eh); holds = p.holds; level = p.level; room = p.room } in
-            let g = d.does I ys q in
-            record {
-              same = λ E z. g.same E z ∙ ap₂ (λ (m : ℕ) (xs : List Node). push (ctx I (record { nodes = m; words = length ys })) 19 false 3 0 (record { at = w.at; nodes = xs; syms = syms_of I.script I.offs I.words ys w.symbols; level = w.level; check = w.check; errs = E })) eh ns;
-              fine = g.fine;
-            };
+        kept = record { inp = refl; symbols_name = refl; head_name = refl; load_name = refl; symbols = refl; head = lh; load = ll };
+        same = λ z E l. ap (λ (xs : List Node). done tt (record { at = p.at; nodes = xs; syms = (abs_at E p).syms; level = p.level; check = p.check; errs = E })) (taken-out p slot hs ls lt sh sl);
+        fine = λ z. record { here = r.stands.here; calm = r.stands.calm; used = omega (arith, r.used, lh); holds = r.holds; level = r.level; room = r.room; errors = refl; on = omega arith };
       }
-
--- the code's index is the definition's
-pub token-same : (c : Ctx) (s : St) {i i' : ℕ} → i' ≡ i → assign_token c i s ≡ assign_token c i' s
-token-same c s e = ap (λ (j : ℕ). assign_token c j s) (sym e)
-
-pub mutated : {I : Inp} {M : Mem} {w : Walk} {slot slot' : ℕ} {r : Parsed} {hs ls : List ℕ} → slot' ≡ slot → Ready I M w → Mutates M.head M.load w slot' r hs ls → Does 0 (λ c. assign_array c slot) I M w r (mem M.symbols hs ls)
-mutated {I} {M} {w} {slot} {slot'} {r} {hs} {ls} e p d = subst (λ (j : ℕ). Does 0 (λ c. assign_array c j) I M w r (mem M.symbols hs ls)) e (d.does I M.symbols p)

@@ -1,171 +1,90 @@
--- Loops whose turns may list errors, and one step of the depth of a block.
-use Prim.Native.Nat.{ℕ, zero, suc, ◌+◌, ◌-◌, ◌≤◌, ◌<◌}
-use native.Mathlib.Numerals.{add-one, sub-one}
-use native.Mathlib.Omega.{arith}
-use mathlib.Core.Path.{◌≡◌, refl, sym, ap, ◌∙◌, subst}
-use mathlib.Core.List.{List}
-use mathlib.Core.Bool.{Bool}
-use lib.ListN.{length}
+-- Loops whose turns may list errors, one step of the depth of a block, and steps that list nothing.
+use Rattle.std.specs.Prelude.{ℕ, zero, suc, ◌+◌, ◌-◌, ◌≤◌, ◌<◌, ◌≡◌, refl, List, length, Bool, Err as Stopped}
+use Rattle.std.proofs.Common.{add-one, sub-one, arith, sym, ap}
+use Rattle.std.proofs.Math.Path.{subst}
 use Rattle.sifc_err.specs.declared.Refusal.TheVariants.{TooDeep}
-use Rattle.sifc_def.specs.declared.Err.{Err}
-use Rattle.sifc_def.specs.State.{Ctx, St, Out, refuse, go_on}
+use Rattle.sifc_def.specs.State.{Ctx, St, Out, go_on}
 use Rattle.sifc_def.specs.Expr.{fuel}
 use Rattle.sifc_def.specs.Stmt.{block}
 use Rattle.sifc_def.specs.Walk.{walkers}
 use Rattle.sifc_symtab.specs.Toks.{length-toks}
-use Rattle.sifc_step.specs.declared.walk.Limits.{Limits}
-use Rattle.sifc_step.specs.declared.walk.Walk.{Walk}
-use Rattle.sifc_step.specs.declared.walk.Parsed.{Parsed}
-use Rattle.sifc_step.specs.declared.walk.Parsed.TheVariants.{Done, Failed, Refused}
-use Rattle.sifc_step.specs.Abs.{Inp, Mem, Rooms, rooms_of, ctx, ctx_of, abs, Ready, Fine, count_of}
-use Rattle.sifc_step.specs.Book.{Notes}
-use Rattle.sifc_step.specs.Steps.{At, Kept, NotDone, same, rooms-kept, begin, by, fine-at}
-use Rattle.sifc_block.specs.Lists.{Booked, Told, ListsAs, Going}
+use Rattle.sifc_step.specs.declared.walk.Parser.{Parser}
+use Rattle.sifc_step.specs.declared.walk.Stop.TheVariants.{Refused}
+use Rattle.sifc_step.specs.Abs.{Inp, ctx_at, abs_at, Ready}
+use Rattle.sifc_step.proofs.Steps.{begin, kept-same}
+use Rattle.sifc_step.proofs.Small.{refuses}
+use Rattle.sifc_block.specs.declared.book.Book.{Book}
+use Rattle.sifc_block.specs.Lists.{Lists}
+use Rattle.sifc_block.proofs.Steps.{Going, listing, quiet, turned}
 
--- ── the errors' words between calls ──
+-- ── where a function begins ──
 
--- after a step that lists nothing
-pub book : {A : Type 0} {o₀ o : Out A} {I : Inp} {n : Rooms} {k lo : ℕ} {E : List Err} {M : Mem} {l : Limits} {ps rs : List ℕ} {w x : Walk} → Booked l ps rs w → Notes ps rs E → At o₀ o I n k lo E M x → Booked l ps rs x
-book {E = E} b t p = record { errs = E; notes = t; count = p.listed; even = b.even; room = b.room }
-
--- after one that may have
-pub book-on : {A : Type 0} {o₀ : Out A} {o : List Err → Out A} {I : Inp} {n : Rooms} {k lo : ℕ} {M : Mem} {l : Limits} {ps rs ps' rs' : List ℕ} {w x : Walk} → Booked l ps rs w → length ps' ≡ length ps → length rs' ≡ length rs
-    → Going o₀ o I n k lo M ps' rs' x → Booked l ps' rs' x
-book-on b ep er g = record { errs = g.errs; notes = g.notes; count = g.at.listed; even = ep ∙ b.even ∙ sym er; room = b.room ∙ sym ep }
-
--- as far as a call that is done has come
-pub aheads : {A : Type 0} {v : Walk → A} (j : ℕ) (f : Ctx → St → Out A) {I : Inp} {M M' : Mem} {l : Limits} {ps rs ps' rs' : List ℕ} {w x : Walk} {r : Parsed} → Booked l ps rs w → Ready I M w → ListsAs v j f I M ps rs w r M' ps' rs' → r ≡ Done x → j + w.at ≤ x.at
-aheads {A} {v} j f {I} {M} {M'} {l} {ps} {rs} {ps'} {rs'} {w} {x} {r} b p g e =
-    let y = g.tells b.errs b.count b.notes in
-    let z : Fine I M' (j + w.at) (length y.errs) x = fine-at y.fine e in z.on
-
-pub count-below : {r : Parsed} {x : Walk} {m : ℕ} → count_of r < m → r ≡ Done x → x.count < m
-count-below {r} {x} {m} h e = subst (λ (q : Parsed). count_of q < m) e h
-
-pub none_below : (r : Parsed) → NotDone r → count_of r < 65536
-none_below (Done w) h = absurd h.lost
-none_below (Failed w e) h = omega arith
-none_below (Refused f) h = omega arith
+pub opens : {B : Type 0} (j : ℕ) (f : Ctx → St → Out B) (b : Book) {p : Parser} → Ready p → Going j j (f (ctx_at p)) (f (ctx_at p)) p b p b
+opens j f b r = listing b (begin j f r)
 
 -- ── one step of the depth ──
 
-pub block-step : (c : Ctx) (d : ℕ) (b : Bool) (ns : List ℕ) (s : St) → (d ≡ 0 → ⊥) → (walkers c d).block b ns s ≡ block c (walkers c (d - 1)) b ns s
+block-below : (c : Ctx) (d : ℕ) (b : Bool) (ns : List ℕ) → (d ≡ 0 → ⊥) → (s : St) → (walkers c d).block b ns s ≡ block c (walkers c (d - 1)) b ns s
 unfolding walkers
-block-step c zero b ns s f = absurd (f refl)
-block-step c (suc d) b ns s f = ap (λ (m : ℕ). block c (walkers c m) b ns s) (sym (sub-one (suc d)))
+block-below c zero b ns f s = absurd (f refl)
+block-below c (suc d) b ns f s = ap (λ (m : ℕ). block c (walkers c m) b ns s) (sym (sub-one (suc d)))
 
-pub block_none : (c : Ctx) (b : Bool) (ns : List ℕ) (s : St) {d : ℕ} → d ≡ 0 → (walkers c d).block b ns s ≡ refuse TooDeep
+pub block-step : (j d : ℕ) (body : Bool) (ns : List ℕ) (b : Book) {p : Parser} → Ready p → (d ≡ 0 → ⊥)
+    → Going j j ((walkers (ctx_at p) d).block body ns) (block (ctx_at p) (walkers (ctx_at p) (d - 1)) body ns) p b p b
+block-step j d body ns b {p} r f = turned (opens j (λ c. (walkers c d).block body ns) b r) (block-below (ctx_at p) d body ns f)
+
+-- no call more may be active
+pub block_none : (j d : ℕ) (body : Bool) (ns : List ℕ) (b : Book) (p : Parser) → d ≡ 0 → Lists {A = Unit {0}} j (λ c. (walkers c d).block body ns) p b (Stopped (Refused TooDeep)) p b
 unfolding walkers
-block_none c b ns s e = ap (λ (m : ℕ). (walkers c m).block b ns s) e
+block_none j d body ns b p e = quiet b (refuses (kept-same p) (λ z E l. ap (λ (m : ℕ). (walkers (ctx_at p) m).block body ns (abs_at E p)) e))
 
 -- the names, by an equal list
-pub block-named : {A : Type 0} {o₀ : Out A} {I : Inp} {n : Rooms} {k lo : ℕ} {E : List Err} {M : Mem} {w : Walk} (d : ℕ) (b : Bool) {ns ms : List ℕ} (s : St) (K : Unit {0} → St → Out A)
-    → At o₀ (go_on ((walkers (ctx I n) d).block b ns s) K) I n k lo E M w → ns ≡ ms → At o₀ (go_on ((walkers (ctx I n) d).block b ms s) K) I n k lo E M w
-block-named {I = I} {n = n} d b s K p e = by p (ap (λ (l : List ℕ). go_on ((walkers (ctx I n) d).block b l s) K) e)
+pub block-named : {A : Type 0} (d : ℕ) (body : Bool) {ns ms : List ℕ} (K : Unit {0} → St → Out A) {j k : ℕ} {f : St → Out A} {p q : Parser} {b c : Book}
+    → Going j k f (λ s. go_on ((walkers (ctx_at p) d).block body ns s) K) p b q c → ns ≡ ms → Going j k f (λ s. go_on ((walkers (ctx_at p) d).block body ms s) K) p b q c
+block-named d body K {p = p} g e = turned g (λ s. ap (λ (l : List ℕ). go_on ((walkers (ctx_at p) d).block body l s) K) e)
 
 -- ── loops ──
 
--- what is left of the turns, for what was listed before the loop
-pub record Left {A : Type 0} (o₀ : Out A) (o : List Err → Out A) (ps rs : List ℕ) (x : Walk) : Type 0 where
-  pub errs : List Err
-  pub notes : Notes ps rs errs
-  pub count : length errs ≡ x.errors
-  pub same : o₀ ≡ o errs
-
--- `loop` with the fuel f at the walk x gives what all turns were to give, `loop₀` at the loop's start
-pub record Turning {A : Type 0} (loop₀ loop : Ctx → ℕ → St → Out A) (I : Inp) (M₀ : Mem) (ps₀ rs₀ : List ℕ) (x₀ : Walk) (M : Mem) (ps rs : List ℕ) (x : Walk) : Type 0 where
+-- What is left of the turns, `loop` with the fuel f at the parser q and the words c, gives what all of them were to give, `loop₀` at the loop's start.
+pub record Turning {A : Type 0} (loop₀ loop : Ctx → ℕ → St → Out A) (p : Parser) (b : Book) (q : Parser) (c : Book) : Type 0 where
   pub f : ℕ
-  pub enough : length I.words ≤ f + x.at
-  pub kept : Kept M₀ M
-  pub places : length ps ≡ length ps₀
-  pub reasons : length rs ≡ length rs₀
-  pub start : Ready I M₀ x₀
-  pub book₀ : Booked I.lim ps₀ rs₀ x₀
-  pub is : Ready I M x
-  pub book : Booked I.lim ps rs x
-  pub on : x₀.at ≤ x.at
-  pub left : (E : List Err) → length E ≡ x₀.errors → Notes ps₀ rs₀ E
-      → Left (loop₀ (ctx_of I M₀) (fuel (ctx_of I M₀)) (abs I E x₀ M₀)) (λ (F : List Err). loop (ctx_of I M₀) f (abs I F x M)) ps rs x
+  pub enough : length p.words.now ≤ f + q.at
+  pub at : Going 0 0 (λ s. loop₀ (ctx_at p) (fuel (ctx_at p)) s) (λ s. loop (ctx_at p) f s) p b q c
 
-pub turning : {A : Type 0} (loop : Ctx → ℕ → St → Out A) {I : Inp} {M : Mem} {ps rs : List ℕ} {x : Walk} → Ready I M x → Booked I.lim ps rs x → Turning loop loop I M ps rs x M ps rs x
-turning loop {I} {M} {ps} {rs} {x} p b =
+pub turning : {A : Type 0} (loop : Ctx → ℕ → St → Out A) {p : Parser} (b : Book) → Ready p → Turning loop loop p b p b
+turning loop {p} b r =
     record {
-      f = fuel (ctx_of I M);
-      enough = omega (arith, length-toks I.offs I.words p.stands.toks.even, p.stands.toks.even);
-      kept = same;
-      places = refl;
-      reasons = refl;
-      start = p;
-      book₀ = b;
-      is = p;
-      book = b;
-      on = omega arith;
-      left = λ E e t. record { errs = E; notes = t; count = e; same = refl };
+      f = fuel (ctx_at p);
+      enough = omega (arith, length-toks p.offs.now p.words.now r.stands.toks.even, r.stands.toks.even);
+      at = opens 0 (λ c s. loop c (fuel c) s) b r;
     }
 
-module _ {A : Type 0} {loop₀ loop : Ctx → ℕ → St → Out A} {I : Inp} {M₀ : Mem} {ps₀ rs₀ : List ℕ} {x₀ : Walk} {M : Mem} {ps rs : List ℕ} {x : Walk} (t : Turning loop₀ loop I M₀ ps₀ rs₀ x₀ M ps rs x) where
+module _ {A : Type 0} {loop₀ loop : Ctx → ℕ → St → Out A} {p q : Parser} {b c : Book} (t : Turning loop₀ loop p b q c) where
   some_left : t.f ≡ suc (t.f - 1)
-  some_left = omega (arith, t.enough, t.is.stands.here)
+  some_left = omega (arith, t.enough, t.at.is.stands.here, ap (λ (I : Inp). length I.words) t.at.kept.inp)
 
-  -- a turn's start, in the function
-  pub turns : {o₀ : Out A} {n : Rooms} {k lo : ℕ} {E : List Err} → At o₀ (loop₀ (ctx I n) (fuel (ctx I n)) (abs I E x₀ M₀)) I n k lo E M₀ x₀ → Notes ps₀ rs₀ E
-      → Going o₀ (λ (F : List Err). loop (ctx I n) (suc (t.f - 1)) (abs I F x M)) I n k lo M ps rs x
-  turns {o₀} {n} {k} {lo} {E} p q =
-      let y = t.left E p.listed q in
-      record {
-        errs = y.errs;
-        notes = y.notes;
-        at = record {
-          left = p.left
-              ∙ ap (λ (m : Rooms). loop₀ (ctx I m) (fuel (ctx I m)) (abs I E x₀ M₀)) (sym p.room)
-              ∙ y.same
-              ∙ ap (λ (m : Rooms). loop (ctx I m) t.f (abs I y.errs x M)) p.room
-              ∙ ap (λ (m : ℕ). loop (ctx I n) m (abs I y.errs x M)) some_left;
-          room = rooms-kept t.kept ∙ p.room;
-          is = t.is;
-          on = omega (arith, p.on, t.on);
-          listed = y.count;
-        };
-      }
-
-  -- a turn's start, from the loop's own start
-  pub turns-own : (E : List Err) → length E ≡ x₀.errors → Notes ps₀ rs₀ E
-      → Going (loop₀ (ctx_of I M₀) (fuel (ctx_of I M₀)) (abs I E x₀ M₀)) (λ (F : List Err). loop (ctx_of I M₀) (suc (t.f - 1)) (abs I F x M)) I (rooms_of M₀) 0 (0 + x₀.at) M ps rs x
-  turns-own E e q = turns (begin 0 (λ c. loop₀ c (fuel c)) E e t.start) q
+  -- a turn's start
+  pub turn-own : Going 0 0 (λ s. loop₀ (ctx_at p) (fuel (ctx_at p)) s) (λ s. loop (ctx_at p) (suc (t.f - 1)) s) p b q c
+  turn-own = turned t.at (λ s. ap (λ (m : ℕ). loop (ctx_at p) m s) some_left)
 
   -- a turn more
-  pub onwards : (loop' : Ctx → ℕ → St → Out A) {M' : Mem} {ps' rs' : List ℕ} {z : Walk} → x.at < z.at → length ps' ≡ length ps → length rs' ≡ length rs
-      → ((E : List Err) → length E ≡ x₀.errors → Notes ps₀ rs₀ E
-      → Going (loop₀ (ctx_of I M₀) (fuel (ctx_of I M₀)) (abs I E x₀ M₀)) (λ (F : List Err). loop' (ctx_of I M₀) (t.f - 1) (abs I F z M')) I (rooms_of M₀) 0 (0 + x₀.at) M' ps' rs' z)
-      → Turning loop₀ loop' I M₀ ps₀ rs₀ x₀ M' ps' rs' z
-  onwards loop' {M'} {ps'} {rs'} {z} on ep er h =
-      let g = h t.book₀.errs t.book₀.count t.book₀.notes in
-      let p = g.at in
+  pub onward : {loop' : Ctx → ℕ → St → Out A} {j k : ℕ} {z : Parser} {d : Book} → q.at < z.at
+      → Going j k (λ s. loop₀ (ctx_at p) (fuel (ctx_at p)) s) (λ s. loop' (ctx_at p) (t.f - 1) s) p b z d → Turning loop₀ loop' p b z d
+  onward on h =
       record {
         f = t.f - 1;
         enough = omega (arith, t.enough, some_left, on);
-        kept = record {
-          symbols = ap (λ (n : Rooms). n.words) p.room;
-          head = ap (λ (n : Rooms). n.nodes) p.room;
-          load = sym p.is.even ∙ ap (λ (n : Rooms). n.nodes) p.room ∙ t.start.even;
-        };
-        places = ep ∙ t.places;
-        reasons = er ∙ t.reasons;
-        start = t.start;
-        book₀ = t.book₀;
-        is = p.is;
-        book = book-on t.book ep er g;
-        on = omega (arith, t.on, on);
-        left = λ E e q. let y = h E e q in record { errs = y.errs; notes = y.notes; count = y.at.listed; same = y.at.left };
+        at = record { kept = h.kept; book = h.book; left = h.left; is = h.is; on = omega (arith, t.at.on, on) };
       }
 
--- the code's n + 1 is the definition's suc n
-pub retold : {A : Type 0} (L : Ctx → ℕ → ℕ → St → Out A) (n : ℕ) {loop₀ : Ctx → ℕ → St → Out A} {I : Inp} {M₀ : Mem} {ps₀ rs₀ : List ℕ} {x₀ : Walk} {M : Mem} {ps rs : List ℕ} {x : Walk}
-    → Turning loop₀ (λ c f. L c f (suc n)) I M₀ ps₀ rs₀ x₀ M ps rs x → Turning loop₀ (λ c f. L c f (n + 1)) I M₀ ps₀ rs₀ x₀ M ps rs x
-retold L n {loop₀} {I} {M₀} {ps₀} {rs₀} {x₀} {M} {ps} {rs} {x} t = subst (λ (m : ℕ). Turning loop₀ (λ c f. L c f m) I M₀ ps₀ rs₀ x₀ M ps rs x) (sym (add-one n)) t
+  -- a turn that has passed a token leaves fewer
+  pub nearer : (z : ℕ) → q.at < z → length p.words.now - z < length p.words.now - q.at
+  nearer z on = omega (arith, t.at.is.stands.here, ap (λ (I : Inp). length I.words) t.at.kept.inp, on)
 
--- the same of two counts
-pub retold-two : {A : Type 0} (L : Ctx → ℕ → ℕ → ℕ → St → Out A) (n m : ℕ) {loop₀ : Ctx → ℕ → St → Out A} {I : Inp} {M₀ : Mem} {ps₀ rs₀ : List ℕ} {x₀ : Walk} {M : Mem} {ps rs : List ℕ} {x : Walk}
-    → Turning loop₀ (λ c f. L c f (suc n) (suc m)) I M₀ ps₀ rs₀ x₀ M ps rs x → Turning loop₀ (λ c f. L c f (n + 1) (m + 1)) I M₀ ps₀ rs₀ x₀ M ps rs x
-retold-two L n m {loop₀} {I} {M₀} {ps₀} {rs₀} {x₀} {M} {ps} {rs} {x} t =
-    retold (λ c f k. L c f k (m + 1)) n (retold (λ c f k. L c f (suc n) k) m t)
+  -- where so many turns have each passed a token
+  pub fewer : (n : ℕ) → n ≤ q.at → n < 65536
+  fewer n le = omega (arith, t.at.is.stands.here, t.at.is.stands.toks.few, le)
+
+-- the code's n + 1 is the definition's suc n
+pub retold : {A : Type 0} (L : Ctx → ℕ → ℕ → St → Out A) (n : ℕ) {loop₀ : Ctx → ℕ → St → Out A} {p q : Parser} {b c : Book} → Turning loop₀ (λ x f. L x f (suc n)) p b q c → Turning loop₀ (λ x f. L x f (n + 1)) p b q c
+retold L n {loop₀} {p} {q} {b} {c} t = subst (λ (m : ℕ). Turning loop₀ (λ x f. L x f m) p b q c) (sym (add-one n)) t

@@ -1,34 +1,21 @@
 -- What the functions of the cycle promise, where it is not one definition.
-use Rattle.std.specs.Prelude.{ℕ, ◌≤◌, ◌≡◌, List, [], ◌∷◌, Bool, true, false}
-use Rattle.sifc_word.specs.Kind.{RightParen, LeftBrace}
-use Rattle.sifc_def.specs.declared.What.TheVariants.{Function}
-use Rattle.sifc_def.specs.Ast.{ForStmt, FnParams, FnDecl}
-use Rattle.sifc_def.specs.State.{Ctx, Void, ◌>>=◌, ◌>>◌, expect, push, loads}
-use Rattle.sifc_def.specs.Symbols.{store}
-use Rattle.sifc_def.specs.Expr.{Rec}
+use Rattle.std.specs.Prelude.{ℕ, ◌+◌, ◌≤◌, ◌<◌, ◌≡◌, List, Bool, Result}
+use Rattle.sifc_word.specs.Kind.{LeftBrace}
 use Rattle.sifc_def.specs.Walk.{walkers}
-use Rattle.sifc_step.specs.declared.walk.Walk.{Walk}
-use Rattle.sifc_step.specs.declared.walk.Parsed.{Parsed}
-use Rattle.sifc_step.specs.Abs.{Inp, Mem, kind_at}
+use Rattle.sifc_step.specs.declared.walk.Parser.{Parser}
+use Rattle.sifc_step.specs.declared.walk.Stop.{Stop}
+use Rattle.sifc_step.specs.Abs.{here}
+use Rattle.sifc_block.specs.declared.block.Names.{Names}
+use Rattle.sifc_block.specs.declared.block.Names.TheVariants.{Unnamed, Pair, Params}
+use Rattle.sifc_block.specs.declared.book.Book.{Book}
 use Rattle.sifc_block.specs.Lists.{Lists}
 
+-- the names that a block binds: tokens, or nodes that are there
+abbrev pub NamesIn : Names → Parser → Type 0
+NamesIn Unnamed p = Unit {0}
+NamesIn (Pair i j) p = (i < 65536) × (j < 65536)
+NamesIn (Params first count) p = first + count ≤ p.nodes
+
 -- a block: one token farther at least where it begins with `{`
-pub record Blocks (I : Inp) (M : Mem) (ps rs : List ℕ) (w : Walk) (depth : ℕ) (body : Bool) (names : List ℕ) (r : Parsed) (M' : Mem) (ps' rs' : List ℕ) : Type 0 where
-  pub does : (j : ℕ) → j ≤ 1 → ((kind_at I.words w.at ≡ LeftBrace → ⊥) → j ≡ 0) → Lists j (λ c. (walkers c depth).block body names) I M ps rs w r M' ps' rs'
-
--- what follows a function's n parameters, in the definition
-abbrev pub fn_rest : Ctx → Rec → ℕ → ℕ → Void
-fn_rest c r i n = do
-  names ← loads c n
-  push c FnParams false n 0
-  expect c RightParen
-  r.block true names
-  push c FnDecl false 2 i
-  store c i (Function n)
-
--- what follows the two names of a loop and `in`
-abbrev pub for_rest : Ctx → Rec → ℕ → ℕ → Void
-for_rest c r i j = do
-  r.assign
-  r.block false (i ∷ j ∷ [])
-  push c ForStmt false 3 0
+pub record Blocks (depth : ℕ) (body : Bool) (names : List ℕ) (p : Parser) (b : Book) (r : Result (Unit {0}) Stop) (q : Parser) (d : Book) : Type 0 where
+  pub does : (j : ℕ) → j ≤ 1 → ((here p ≡ LeftBrace → ⊥) → j ≡ 0) → Lists j (λ c. (walkers c depth).block body names) p b r q d

@@ -1,4 +1,4 @@
-// Declarations and statements that hold blocks, and the walk over all of a script's declarations.
+// Declarations and statements that hold blocks.
 #![tactic(auto)]
 
 mod parser;

@@ -1,15 +1,9 @@
 -- What the proofs of the walk over all declarations cite.
-use Prim.Native.Nat.{ℕ, zero, suc, ◌+◌, ◌-◌, ◌*◌, ◌≤◌, ◌<◌}
-use native.Mathlib.Numerals.{add-one, sub-one}
-use native.Mathlib.Omega.{arith}
-use mathlib.Core.Path.{◌≡◌, refl, sym, ap, ap₂, ◌∙◌, subst}
-use mathlib.Core.Logic.{◌⊎◌, inl, inr}
-use mathlib.Core.List.{List, [], ◌∷◌, ◌++◌}
-use mathlib.Core.Option.{Option, none, some}
-use mathlib.Core.Bool.{Bool, true, false}
-use lib.ListN.{length, get_or, drop, length-append}
-use lib.Dec.{ltb, eqb}
-use borrow.Author.Tests.{eq-eqb, ne_eqb, ltb-true, ltb-false}
+use Rattle.std.specs.Prelude.{ℕ, zero, suc, ◌+◌, ◌-◌, ◌≤◌, ◌<◌, ◌≡◌, refl, ◌⊎◌, List, [], Bool, true, false, length, get_or, drop, ltb, eqb, Option as Maybe, None, Some, Result, Ok, Err as Stopped, IfOk, IsErr, IsErrAnd}
+use Rattle.std.proofs.Common.{add-one, arith, sym, ap, ◌∙◌, inl, inr, eq-eqb, ne_eqb, ltb-true, ltb-false}
+use Rattle.std.proofs.Math.ListN.{length-append}
+use Rattle.std.proofs.Math.Option.{none, some}
+use Rattle.std.proofs.Math.Path.{subst}
 use Rattle.sifc_err.specs.declared.Refusal.{Refusal}
 use Rattle.sifc_err.specs.declared.Refusal.TheVariants.{SourceFault}
 use Rattle.sifc_word.specs.Base.{if◌then◌otherwise◌}
@@ -18,7 +12,7 @@ use Rattle.sifc_lex.specs.Lex.{lex}
 use Rattle.sifc_def.specs.declared.Err.{Err}
 use Rattle.sifc_def.specs.declared.Why.{Why}
 use Rattle.sifc_def.specs.declared.Why.TheVariants.{InvalidIdent, InvalidTkn, InvalidTknMsg, InvalidAssign, InvalidForStmt, InvalidIfStmt, TknMismatch, FnParmCntExceeded, WrongFnParmCnt, UndeclSym, UnassignedVar, ExpectedIdent}
-use Rattle.sifc_def.specs.Error.{continuable, carried, carried_too}
+use Rattle.sifc_def.specs.Error.{continuable}
 use Rattle.sifc_def.specs.State.{Node, Ctx, St, Out, done, fail, refuse, Void, go_on, tok_at, arrive, set_nodes, keep}
 use Rattle.sifc_def.specs.Expr.{fuel}
 use Rattle.sifc_def.specs.Stmt.{decl}
@@ -26,27 +20,25 @@ use Rattle.sifc_def.specs.Walk.{End, end, start, walkers, give_up, settled, top_
 use Rattle.sifc_def.specs.Read.{depth_limit}
 use Rattle.sifc_def.proofs.OutcomeLaws.{Holds, by-test}
 use Rattle.sifc_def.proofs.GroveLaws.{Kept as Under, grows_none}
-use Rattle.sifc_def.proofs.StepLaws.{Toks, Well, Each, FairErr, clash}
+use Rattle.sifc_def.proofs.StepLaws.{Each, FairErr, clash}
 use Rattle.sifc_def.proofs.StmtLaws.{Broke as Failing, Decl, decl-does}
 use Rattle.sifc_def.proofs.TokLaws.{worth, lexed-toks}
 use Rattle.sifc_def.proofs.WalkLaws.{good-walkers, Far, FarOf, After, top-far}
-use Rattle.sifc_symtab.specs.Table.{listed, syms_of, Holds as Held}
+use Rattle.sifc_symtab.specs.Table.{listed, syms_of}
 use Rattle.sifc_symtab.specs.Toks.{toks_of, length-toks}
 use Rattle.sifc_step.specs.declared.walk.Limits.{Limits}
-use Rattle.sifc_step.specs.declared.walk.Walk.{Walk}
-use Rattle.sifc_step.specs.declared.walk.Parsed.{Parsed}
-use Rattle.sifc_step.specs.declared.walk.Parsed.TheVariants.{Done, Failed, Refused}
-use Rattle.sifc_step.specs.declared.walk.Last.{Last}
-use Rattle.sifc_step.specs.declared.walk.Last.TheVariants.{Never, By}
+use Rattle.sifc_step.specs.declared.walk.Parser.{Parser}
+use Rattle.sifc_step.specs.declared.walk.Stop.{Stop}
+use Rattle.sifc_step.specs.declared.walk.Stop.TheVariants.{Failed, Refused}
 use Rattle.sifc_step.specs.declared.walk.Walked.{Walked}
-use Rattle.sifc_step.specs.declared.walk.Walked.TheVariants.{Finished, Refused as NoWalk}
-use Rattle.sifc_step.specs.Abs.{Inp, Mem, inp, mem, Rooms, rooms_of, ctx, ctx_of, abs, nodes_of, by_message, listed_by, with_err, outcome_of, void, kind_at, Tokens, Stands, Ready, Fine, Broke, FineOf, Sure}
-use Rattle.sifc_step.specs.Book.{Notes, notes-none, last_of, Ending, Walks}
-use Rattle.sifc_step.specs.Steps.{Kept, same, rooms-kept, kind-is, off-is, length-nodes, fine-at}
-use Rattle.sifc_step.specs.Small.{HeadWord, Pushes}
-use Rattle.sifc_step.specs.SmallLaws.{pushed-as}
-use Rattle.sifc_block.specs.Lists.{Booked, Told, Lists, Noting, Noted}
-use Rattle.sifc_program.specs.Program.{Starts, does_go_on, start_walk, back_to, Closed, ClosedOf, EndsRead}
+use Rattle.sifc_step.specs.Abs.{Inp, Mem, inp, Walk, inp_of, mem_of, walk_of, rooms_of, ctx_of, ctx_at, abs, abs_at, nodes_of, listed_by, with_err, outcome_of, kind_at, here, ReadyOf, Ready, Fine, Broke, Kept, Does, lifted}
+use Rattle.sifc_step.specs.Book.{last_of, Walks}
+use Rattle.sifc_step.proofs.Steps.{kind-is, off-is, length-nodes, kept-same, kept-on, ctx-kept}
+use Rattle.sifc_step.proofs.Book.{notes-none}
+use Rattle.sifc_block.specs.declared.book.Book.{Book}
+use Rattle.sifc_block.specs.Lists.{Holding, Booked, KeptBook, Lists, Noting, Noted}
+use Rattle.sifc_block.proofs.Steps.{book-same, book-on}
+use Rattle.sifc_program.specs.Program.{Starts, Started, does_go_on, start_walk, ended}
 
 -- ── one turn of the definition's loop ──
 
@@ -147,11 +139,12 @@ keep-from hs ls (suc k) m h = pick (ltb m (suc k)) refl (λ l. keep-from hs ls k
         let l : suc k ≤ m = ltb-false m (suc k) t in
         ap (λ (i : ℕ). drop i (nodes_of (suc k) hs ls)) (let z : suc k - m ≡ 0 = omega arith in z) ∙ ap (λ (i : ℕ). nodes_of i hs ls) (let z : suc k ≡ m = omega arith in z)
 
-backed-is : (I : Inp) (E : List Err) (y : Walk) (M : Mem) (m : ℕ) → m ≤ y.nodes → backed m (abs I E y M) ≡ abs I E (back_to y m) M
+-- a failed declaration leaves no nodes
+backed-is : (I : Inp) (E : List Err) (q : Parser) (m : ℕ) → m ≤ q.nodes → backed m (abs I E (walk_of q) (mem_of q)) ≡ abs I E (walk_of (record q { nodes = m })) (mem_of q)
 unfolding keep
-backed-is I E y M m h =
-    ap (λ (ns : List Node). record { at = y.at; nodes = ns; syms = syms_of I.script I.offs I.words M.symbols y.symbols; level = y.level; check = y.check; errs = E })
-    (ap (λ (i : ℕ). drop (i - m) (nodes_of y.nodes M.head M.load)) (length-nodes y.nodes M.head M.load) ∙ keep-from M.head M.load y.nodes m h)
+backed-is I E q m h =
+    ap (λ (ns : List Node). record { at = q.at; nodes = ns; syms = syms_of I.script I.offs I.words q.symbols.now q.stored; level = q.level; check = q.check; errs = E })
+    (ap (λ (i : ℕ). drop (i - m) (nodes_of q.nodes q.head.now q.load.now)) (length-nodes q.nodes q.head.now q.load.now) ∙ keep-from q.head.now q.load.now q.nodes m h)
 
 under-length : {ns ns' : List Node} → Under ns ns' → length ns ≤ length ns'
 under-length {ns} {ns'} k = omega (arith, ap length k.is, length-append k.new ns)
@@ -175,315 +168,334 @@ abbrev declare : Ctx → Void
 declare c = decl c (walkers c depth_limit)
 
 -- what is left of the declarations gives what the whole walk is to give
-pub record Parsing (s os ks : List ℕ) (l : Limits) (M₀ : Mem) (ps₀ rs₀ : List ℕ) (M : Mem) (ps rs : List ℕ) (x : Walk) (n : ℕ) (flag : Bool) : Type 0 where
-  pub lexed : toks_of os ks ≡ lex s
+pub record Parsing (p₀ : Parser) (b₀ : Book) (p : Parser) (b : Book) (n : ℕ) (flag : Bool) : Type 0 where
+  pub lexed : toks_of p₀.offs.now p₀.words.now ≡ lex p₀.script.now
   pub f : ℕ
-  pub enough : length ks < f + x.at
-  pub kept : Kept M₀ M
-  pub places : length ps ≡ length ps₀
-  pub reasons : length rs ≡ length rs₀
-  pub is : Ready (inp s os ks l) M x
-  pub book : Booked l ps rs x
-  pub few : n ≤ x.at
-  pub far : Far (ctx_of (inp s os ks l) M₀) (worth (lex s)) (lexed-toks (ctx_of (inp s os ks l) M₀) s lexed) n (abs (inp s os ks l) book.errs x M)
-  pub left : walk (ctx_of (inp s os ks l) M₀) depth_limit
-      ≡ program (ctx_of (inp s os ks l) M₀) f (declare (ctx_of (inp s os ks l) M₀)) n flag (abs (inp s os ks l) book.errs x M)
+  pub enough : length p₀.words.now < f + p.at
+  pub kept : Kept p₀ p
+  pub kept-book : KeptBook b₀ b
+  pub is : Ready p
+  pub book : Booked p b
+  pub few : n ≤ p.at
+  pub far : Far (ctx_at p₀) (worth (lex p₀.script.now)) (lexed-toks (ctx_at p₀) p₀.script.now lexed) n (abs (inp_of p₀) book.errs (walk_of p) (mem_of p))
+  pub left : walk (ctx_at p₀) depth_limit ≡ program (ctx_at p₀) f (declare (ctx_at p₀)) n flag (abs (inp_of p₀) book.errs (walk_of p) (mem_of p))
 
-module _ (s os ks : List ℕ) (l : Limits) (M : Mem) where
-  -- nothing read yet
-  start_is : abs (inp s os ks l) [] start_walk M ≡ start
-  unfolding nodes_of syms_of listed
-  start_is = refl
+-- nothing read yet
+start_is : (I : Inp) (M : Mem) → abs I [] start_walk M ≡ start
+unfolding nodes_of syms_of listed
+start_is I M = refl
 
-  module _ {ps rs : List ℕ} (st : Starts s os ks M.head M.load ps rs l) where
-    some-token : 0 < length ks
-    some-token = omega (arith, (lexed-toks (ctx_of (inp s os ks l) M) s st.lexed).some, length-toks os ks st.toks.even, st.toks.even)
+module _ {s os ks hs ls ps rs : List ℕ} {l : Limits} (st : Starts s os ks hs ls ps rs l) (M : Mem) where
+  some-token : 0 < length ks
+  some-token = omega (arith, (lexed-toks (ctx_of (inp s os ks l) M) s st.lexed).some, length-toks os ks st.toks.even, st.toks.even)
 
-    front : (tok_at (ctx_of (inp s os ks l) M) 0).kind ≡ kind_at ks 0
-    front = kind-is (inp s os ks l) (rooms_of M) 0 st.toks some-token
+  front : (tok_at (ctx_of (inp s os ks l) M) 0).kind ≡ kind_at ks 0
+  front = kind-is (inp s os ks l) (rooms_of M) 0 st.toks some-token
 
-    pub starts-here : 0 < length ks
-    starts-here = some-token
+  pub starts-here : 0 < length ks
+  starts-here = some-token
 
-    pub starts-offs : 0 < length os
-    starts-offs = omega (arith, some-token, st.toks.even)
+  pub starts-offs : 0 < length os
+  starts-offs = omega (arith, some-token, st.toks.even)
 
-    -- a lexing panic in front
-    pub parse-panics : kind_at ks 0 ≡ 48 → {o : ℕ} → o ≡ get_or os 0 0 → walk (ctx_of (inp s os ks l) M) depth_limit ≡ refuse (SourceFault l.fault o)
-    parse-panics k {o} e =
-        let c : Ctx = ctx_of (inp s os ks l) M in
-        let off : (tok_at (ctx_of (inp s os ks l) M) 0).off ≡ o = off-is (inp s os ks l) (rooms_of M) 0 st.toks some-token ∙ sym e in
-        walk-arrives c depth_limit (λ (z : Out End). z ≡ refuse (SourceFault l.fault o)) (λ t. ap (λ (i : ℕ). refuse (SourceFault l.fault i)) off)
-        (λ t. absurd (clash (eq-eqb (tok_at c 0).kind 48 (front ∙ k)) t))
+  -- a lexing panic in front
+  pub parse-panics : kind_at ks 0 ≡ 48 → walk (ctx_of (inp s os ks l) M) depth_limit ≡ refuse (SourceFault l.fault (get_or os 0 0))
+  parse-panics k =
+      let c : Ctx = ctx_of (inp s os ks l) M in
+      walk-arrives c depth_limit (λ (z : Out End). z ≡ refuse (SourceFault l.fault (get_or os 0 0))) (λ t. ap (λ (i : ℕ). refuse (SourceFault l.fault i)) (off-is (inp s os ks l) (rooms_of M) 0 st.toks some-token))
+      (λ t. absurd (clash (eq-eqb (tok_at c 0).kind 48 (front ∙ k)) t))
 
-    pub parsing : (kind_at ks 0 ≡ 48 → ⊥) → Held s os ks M.symbols 0 → {x : Walk} → x ≡ start_walk → Parsing s os ks l M ps rs M ps rs x 0 false
-    unfolding Each
-    parsing ne h {x} ex =
-        let c : Ctx = ctx_of (inp s os ks l) M in
-        let calm : eqb (tok_at c 0).kind 48 ≡ false = ne_eqb (tok_at c 0).kind 48 (λ z. ne (sym front ∙ z)) in
-        rw ex (record {
-          lexed = st.lexed;
-          f = suc (fuel c);
-          enough = omega (arith, length-toks os ks st.toks.even, st.toks.even);
-          kept = same;
-          places = refl;
-          reasons = refl;
-          is = record {
-            stands = record { toks = st.toks; here = some-token; calm = ne };
-            even = st.even;
-            used = omega arith;
-            holds = h;
-            level = omega arith;
-            room = omega arith;
-          };
-          book = record { errs = []; notes = notes-none ps rs; count = refl; even = st.even-errors; room = st.room };
-          few = omega arith;
-          far = rw start_is (record {
-            well = record { here = (lexed-toks c s st.lexed).some; calm = calm; level = omega arith; syms = tt; errs = tt };
-            few = omega arith;
-            names = omega arith;
-            errors = omega arith;
-            grows = grows_none [];
-          });
-          left = walk-arrives c depth_limit (λ (z : Out End). z ≡ program c (suc (fuel c)) (declare c) 0 false start) (λ t. absurd (clash t calm)) (λ t. refl)
-              ∙ ap (λ (q : St). program c (suc (fuel c)) (declare c) 0 false q) (sym start_is);
-        })
+pub parsing : {p : Parser} {b : Book} → Started p b → Parsing p b p b 0 false
+unfolding Each
+parsing {p} {b} h =
+    let st = h.starts in
+    let I : Inp = inp_of p in
+    let M : Mem = mem_of p in
+    let c : Ctx = ctx_at p in
+    let e : start_walk ≡ walk_of p = sym h.new in
+    let k = front st M in
+    let some = some-token st M in
+    let calm : eqb (tok_at c 0).kind 48 ≡ false = ne_eqb (tok_at c 0).kind 48 (λ z. h.calm (sym k ∙ z)) in
+    let first : ReadyOf I M start_walk = record {
+      stands = record { toks = st.toks; here = some; calm = h.calm };
+      even = st.even;
+      used = omega arith;
+      holds = h.holds;
+      level = omega arith;
+      room = omega arith;
+    } in
+    let far : Far c (worth (lex p.script.now)) (lexed-toks c p.script.now st.lexed) 0 start = record {
+      well = record { here = (lexed-toks c p.script.now st.lexed).some; calm = calm; level = omega arith; syms = tt; errs = tt };
+      few = omega arith;
+      names = omega arith;
+      errors = omega arith;
+      grows = grows_none [];
+    } in
+    let same : start ≡ abs I [] (walk_of p) M = sym (start_is I M) ∙ ap (λ (w : Walk). abs I [] w M) e in
+    record {
+      lexed = st.lexed;
+      f = suc (fuel c);
+      enough = omega (arith, length-toks p.offs.now p.words.now st.toks.even, st.toks.even);
+      kept = kept-same p;
+      kept-book = book-same b;
+      is = subst (λ (w : Walk). ReadyOf I M w) e first;
+      book = record { errs = []; notes = notes-none b.places.now b.reasons.now; count = ap (λ (w : Walk). w.errors) e; even = st.even-errors; room = st.room };
+      few = omega arith;
+      far = subst (λ (z : St). Far c (worth (lex p.script.now)) (lexed-toks c p.script.now st.lexed) 0 z) same far;
+      left = walk-arrives c depth_limit (λ (z : Out End). z ≡ program c (suc (fuel c)) (declare c) 0 false start) (λ t. absurd (clash t calm)) (λ t. refl)
+          ∙ ap (λ (z : St). program c (suc (fuel c)) (declare c) 0 false z) same;
+    }
 
-module _ {s os ks : List ℕ} {l : Limits} {M₀ : Mem} {ps₀ rs₀ : List ℕ} {M : Mem} {ps rs : List ℕ} {x : Walk} {n : ℕ} {flag : Bool} (t : Parsing s os ks l M₀ ps₀ rs₀ M ps rs x n flag) where
+-- ── how it ends ──
+
+-- in the words of the parser at the start
+module _ {p₀ p : Parser} (k : Kept p₀ p) where
+  as-first : {A : Type 0} (m : Ctx → St → Out A) (E : List Err) → m (ctx_at p) (abs_at E p) ≡ m (ctx_at p₀) (abs (inp_of p₀) E (walk_of p) (mem_of p))
+  as-first m E = ap (λ (c : Ctx). m c (abs_at E p)) (ctx-kept k) ∙ ap (λ (I : Inp). m (ctx_at p₀) (abs I E (walk_of p) (mem_of p))) k.inp
+
+  -- the Program node after the errors E
+  pub closes : (b : Book) (n : ℕ) (flag : Bool) (last : Maybe Err) (E : List Err) (r : Result Walked Refusal) {q : Parser} → Ready p → Holding b E → length E ≡ p.errors → p.lim.errors ≡ length b.places.now
+      → walk (ctx_at p₀) depth_limit ≡ end_read (ctx_at p₀) n flag (last_of last) (abs (inp_of p₀) E (walk_of p) (mem_of p))
+      → Does 0 (λ c. end_read c n flag (last_of last)) p (lifted (ended r)) q → IfOk r (λ w. (w.nodes ≡ q.nodes) × (w.errors ≡ q.errors))
+      → Walks (inp_of p₀) (mem_of p₀) r (mem_of q) b.places.now b.reasons.now
+  closes b n flag last E (Ok w) {q} rp notes count room is d h =
+      let f : Fine (inp_of p) (mem_of q) (0 + p.at) p.errors (walk_of q) = d.fine rp in
+      record {
+        x = walk_of q;
+        listed = E;
+        notes = notes;
+        errors = count ∙ sym f.errors ∙ sym h.1;
+        is = is ∙ sym (as-first (λ c. end_read c n flag (last_of last)) E) ∙ sym (d.same rp E count) ∙ ap (λ (I : Inp). done (end w.flag (last_of w.last)) (abs I E (walk_of q) (mem_of q))) k.inp;
+        fine = subst (λ (I : Inp). ReadyOf I (mem_of q) (walk_of q)) k.inp (record {
+          stands = record { toks = rp.stands.toks; here = f.here; calm = f.calm };
+          even = d.kept.head ∙ rp.even ∙ sym d.kept.load;
+          used = f.used;
+          holds = f.holds;
+          level = f.level;
+          room = f.room;
+        });
+        nodes = sym h.0;
+        counted = sym h.1;
+        room = omega (arith, h.1, f.errors, rp.room, room);
+      }
+  closes b n flag last E (Stopped g) rp notes count room is d h = is ∙ sym (as-first (λ c. end_read c n flag (last_of last)) E) ∙ sym (d.same rp E count)
+
+module _ {p₀ : Parser} {b₀ : Book} {p : Parser} {b : Book} {n : ℕ} {flag : Bool} (t : Parsing p₀ b₀ p b n flag) where
   abbrev I : Inp
-  I = inp s os ks l
+  I = inp_of p₀
 
   abbrev c₀ : Ctx
-  c₀ = ctx_of (inp s os ks l) M₀
+  c₀ = ctx_at p₀
 
-  abbrev here : St
-  here = abs (inp s os ks l) t.book.errs x M
+  abbrev s₀ : List ℕ
+  s₀ = p₀.script.now
+
+  abbrev now_is : St
+  now_is = abs (inp_of p₀) t.book.errs (walk_of p) (mem_of p)
+
+  words_same : p.words.now ≡ p₀.words.now
+  words_same = ap (λ (J : Inp). J.words) t.kept.inp
 
   some_left : t.f ≡ suc (t.f - 1)
-  some_left = omega (arith, t.enough, t.is.stands.here)
+  some_left = omega (arith, t.enough, t.is.stands.here, ap length words_same)
 
-  front-is : (tok_at c₀ x.at).kind ≡ kind_at ks x.at
-  front-is = kind-is I (rooms_of M₀) x.at t.is.stands.toks t.is.stands.here
+  front-is : (tok_at c₀ p.at).kind ≡ here p
+  front-is =
+      ap (λ (c : Ctx). (tok_at c p.at).kind) (sym (ctx-kept t.kept)) ∙ kind-is (inp_of p) (rooms_of (mem_of p)) p.at t.is.stands.toks t.is.stands.here
 
-  left-suc : walk c₀ depth_limit ≡ program c₀ (suc (t.f - 1)) (declare c₀) n flag here
-  left-suc = t.left ∙ ap (λ (m : ℕ). program c₀ m (declare c₀) n flag here) some_left
+  left-suc : walk c₀ depth_limit ≡ program c₀ (suc (t.f - 1)) (declare c₀) n flag now_is
+  left-suc = t.left ∙ ap (λ (m : ℕ). program c₀ m (declare c₀) n flag now_is) some_left
 
-  same-rooms : ctx_of I M ≡ c₀
-  same-rooms = ap (λ (m : Rooms). ctx I m) (rooms-kept t.kept)
+  -- how many tokens there are
+  pub few-tokens : p.at < length p₀.words.now
+  few-tokens = omega (arith, t.is.stands.here, ap length words_same)
 
-  -- how it ends, from the end of the definition's loop
-  ended : {o : Out End} (E : List Err) (r : Walked) (M' : Mem) (ps' rs' : List ℕ) (errors : ℕ) → walk c₀ depth_limit ≡ o → ClosedOf I o E errors r M' → Notes ps' rs' E → length E ≡ errors → errors ≤ length ps' → Walks I M₀ r M' ps' rs'
-  ended E (Finished y g z) M' ps' rs' errors w d t' le lp = record { listed = E; notes = t'; errors = le ∙ sym d.listed; is = w ∙ d.same; fine = d.is; room = omega (arith, d.listed) }
-  ended E (NoWalk f) M' ps' rs' errors w d t' le lp = w ∙ d
+  pub few-declared : n < 65536
+  few-declared = omega (arith, t.few, t.is.stands.here, t.is.stands.toks.few)
 
-  pub at-end : kind_at ks x.at ≡ 47 → {r : Walked} {hs ls : List ℕ} → EndsRead M.head M.load x n flag Never r hs ls → length hs ≡ length M.head → length ls ≡ length M.load → Walks I M₀ r (mem M.symbols hs ls) ps rs
-  at-end k {r} {hs} {ls} d eh el =
-      let o = d.does I M.symbols t.is eh el t.book.errs t.book.count in
-      let z = subst (λ (c : Ctx). ClosedOf I (end_read c n flag none here) t.book.errs x.errors r (mem M.symbols hs ls)) same-rooms o in
-      ended t.book.errs r (mem M.symbols hs ls) ps rs x.errors (left-suc ∙ turn-eof c₀ (declare c₀) here (t.f - 1) n flag (eq-eqb _ 47 (front-is ∙ k))) z t.book.notes t.book.count (omega (arith, t.is.room, t.book.room))
+  pub at-end : here p ≡ 47 → (r : Result Walked Refusal) {q : Parser} → Does 0 (λ c. end_read c n flag none) p (lifted (ended r)) q → IfOk r (λ w. (w.nodes ≡ q.nodes) × (w.errors ≡ q.errors))
+      → Walks (inp_of p₀) (mem_of p₀) r (mem_of q) b.places.now b.reasons.now
+  at-end k r {q} d h =
+      closes t.kept b n flag None t.book.errs r t.is t.book.notes t.book.count t.book.room (left-suc ∙ turn-eof c₀ (declare c₀) now_is (t.f - 1) n flag (eq-eqb _ 47 (front-is ∙ k))) d h
 
-  module _ (ne : kind_at ks x.at ≡ 47 → ⊥) {r : Parsed} {M' : Mem} {ps' rs' : List ℕ} (d : Lists 1 (λ c. decl c (walkers c depth_limit)) I M ps rs x r M' ps' rs') (kp : Kept M M') (ep : length ps' ≡ length ps) (er : length rs' ≡ length rs) where
-    not-eof : eqb (tok_at c₀ x.at).kind 47 ≡ false
+  module _ (ne : here p ≡ 47 → ⊥) where
+    not-eof : eqb (tok_at c₀ p.at).kind 47 ≡ false
     not-eof = ne_eqb _ 47 (λ z. ne (sym front-is ∙ z))
 
-    abbrev said : Told void (decl (ctx_of I M) (walkers (ctx_of I M) depth_limit) here) I (1 + x.at) r M' ps' rs'
-    said = d.tells t.book.errs t.book.count t.book.notes
+    law : Decl c₀ (worth (lex s₀)) (declare c₀)
+    law = decl-does c₀ (worth (lex s₀)) (lexed-toks c₀ s₀ t.lexed) (walkers c₀ depth_limit) (good-walkers c₀ (worth (lex s₀)) (lexed-toks c₀ s₀ t.lexed) depth_limit)
 
-    declared : declare c₀ here ≡ outcome_of void I said.errs r M'
-    declared = ap (λ (c : Ctx). declare c here) (sym same-rooms) ∙ sym said.same
+    module _ {q : Parser} {d : Book} where
+      declared : {r : Result (Unit {0}) Stop} (l : Lists 1 (λ c. decl c (walkers c depth_limit)) p b r q d)
+          → declare c₀ now_is ≡ outcome_of I (l.tells t.is t.book.errs t.book.count t.book.notes).errs r (mem_of q) (walk_of q)
+      declared {r} l =
+          let y = l.tells t.is t.book.errs t.book.count t.book.notes in
+          sym (as-first t.kept declare t.book.errs) ∙ sym y.same ∙ ap (λ (J : Inp). outcome_of J y.errs r (mem_of q) (walk_of q)) t.kept.inp
 
-    law : Decl c₀ (worth (lex s)) (declare c₀)
-    law = decl-does c₀ (worth (lex s)) (lexed-toks c₀ s t.lexed) (walkers c₀ depth_limit) (good-walkers c₀ (worth (lex s)) (lexed-toks c₀ s t.lexed) depth_limit)
+      -- a refusal
+      pub refused-at : {f : Refusal} → Lists 1 (λ c. decl c (walkers c depth_limit)) p b (Stopped (Refused f)) q d → Walks I (mem_of p₀) (Stopped f) (mem_of q) d.places.now d.reasons.now
+      refused-at l = left-suc ∙ turn-refuse c₀ (declare c₀) now_is (t.f - 1) n flag not-eof (declared l)
 
-    kept-all : Kept M₀ M'
-    kept-all = record { symbols = kp.symbols ∙ t.kept.symbols; head = kp.head ∙ t.kept.head; load = kp.load ∙ t.kept.load }
+      -- a declaration that is read
+      module _ (l : Lists 1 (λ c. decl c (walkers c depth_limit)) p b (Ok tt) q d) where
+        abbrev errs_read : List Err
+        errs_read = (l.tells t.is t.book.errs t.book.count t.book.notes).errs
 
-    -- a refusal
-    pub refused-at : {f : Refusal} → r ≡ Refused f → Walks I M₀ (NoWalk f) M' ps' rs'
-    refused-at {f} e = left-suc ∙ turn-refuse c₀ (declare c₀) here (t.f - 1) n flag not-eof (declared ∙ ap (λ (q : Parsed). outcome_of void I said.errs q M') e)
+        after_read : After c₀ (worth (lex s₀)) (lexed-toks c₀ s₀ t.lexed) n none now_is (abs I errs_read (walk_of q) (mem_of q))
+        after_read = holds_of (top-far c₀ (worth (lex s₀)) (lexed-toks c₀ s₀ t.lexed) (declare c₀) law n now_is t.far not-eof) (top-done c₀ (declare c₀) now_is (declared l))
 
-    -- a declaration that is read
-    module _ {y : Walk} (e : r ≡ Done y) where
-      read_is : declare c₀ here ≡ done tt (abs I said.errs y M')
-      read_is = declared ∙ ap (λ (q : Parsed). outcome_of void I said.errs q M') e
+        pub read-ahead : p.at < q.at
+        read-ahead = after_read.on
 
-      fine_of : Fine I M' (1 + x.at) (length said.errs) y
-      fine_of = fine-at said.fine e
+        read-ready : Ready q
+        read-ready =
+            let f : Fine (inp_of p) (mem_of q) (1 + p.at) q.errors (walk_of q) = l.fine t.is in
+            subst (λ (J : Inp). ReadyOf J (mem_of q) (walk_of q)) (sym l.kept.inp) (record {
+              stands = record { toks = t.is.stands.toks; here = f.here; calm = f.calm };
+              even = l.kept.head ∙ t.is.even ∙ sym l.kept.load;
+              used = f.used;
+              holds = f.holds;
+              level = f.level;
+              room = f.room;
+            })
 
-      after_read : After c₀ (worth (lex s)) (lexed-toks c₀ s t.lexed) n none here (abs I said.errs y M')
-      after_read = holds_of (top-far c₀ (worth (lex s)) (lexed-toks c₀ s t.lexed) (declare c₀) law n here t.far not-eof) (top-done c₀ (declare c₀) here read_is)
+        pub parsed : Parsing p₀ b₀ q d (n + 1) flag
+        unfolding FarOf
+        parsed =
+            let y = l.tells t.is t.book.errs t.book.count t.book.notes in
+            record {
+              lexed = t.lexed;
+              f = t.f - 1;
+              enough = omega (arith, t.enough, some_left, after_read.on);
+              kept = kept-on t.kept l.kept;
+              kept-book = book-on t.kept-book l.book;
+              is = read-ready;
+              book = record { errs = y.errs; notes = y.notes; count = y.count; even = l.book.places ∙ t.book.even ∙ sym l.book.reasons; room = ap (λ (J : Inp). J.lim.errors) l.kept.inp ∙ t.book.room ∙ sym l.book.places };
+              few = omega (arith, t.few, after_read.on);
+              far = subst (λ (m : ℕ). Far c₀ (worth (lex s₀)) (lexed-toks c₀ s₀ t.lexed) m (abs I y.errs (walk_of q) (mem_of q))) (sym (add-one n)) after_read.far;
+              left = left-suc ∙ turn-done c₀ (declare c₀) now_is (t.f - 1) n flag not-eof (declared l) ∙ ap (λ (m : ℕ). program c₀ (t.f - 1) (declare c₀) m flag (abs I y.errs (walk_of q) (mem_of q))) (sym (add-one n));
+            }
 
-      pub read-ahead : x.at < y.at
-      read-ahead = after_read.on
+      -- one that fails
+      module _ {z : Err} (l : Lists 1 (λ c. decl c (walkers c depth_limit)) p b (Stopped (Failed z)) q d) where
+        abbrev many : ℕ
+        many = listed_by z.why
 
-      pub parsed : Parsing s os ks l M₀ ps₀ rs₀ M' ps' rs' y (n + 1) flag
-      unfolding FarOf
-      parsed = record {
-        lexed = t.lexed;
-        f = t.f - 1;
-        enough = omega (arith, t.enough, some_left, after_read.on);
-        kept = kept-all;
-        places = ep ∙ t.places;
-        reasons = er ∙ t.reasons;
-        is = record {
-          stands = record { toks = t.is.stands.toks; here = fine_of.here; calm = fine_of.calm };
-          even = kp.head ∙ t.is.even ∙ sym kp.load;
-          used = fine_of.used;
-          holds = fine_of.holds;
-          level = fine_of.level;
-          room = fine_of.room;
-        };
-        book = record { errs = said.errs; notes = said.notes; count = sym fine_of.errors; even = ep ∙ t.book.even ∙ sym er; room = t.book.room ∙ sym ep };
-        few = omega (arith, t.few, after_read.on);
-        far = subst (λ (m : ℕ). Far c₀ (worth (lex s)) (lexed-toks c₀ s t.lexed) m (abs I said.errs y M')) (sym (add-one n)) after_read.far;
-        left = left-suc ∙ turn-done c₀ (declare c₀) here (t.f - 1) n flag not-eof read_is ∙ ap (λ (m : ℕ). program c₀ (t.f - 1) (declare c₀) m flag (abs I said.errs y M')) (sym (add-one n));
-      }
+        abbrev errs_before : List Err
+        errs_before = (l.tells t.is t.book.errs t.book.count t.book.notes).errs
 
-    -- one that fails
-    module _ {y : Walk} {z : Err} (e : r ≡ Failed y z) where
-      abbrev many : ℕ
-      many = listed_by z.why
+        abbrev errs_failed : List Err
+        errs_failed = with_err (listed_by z.why) z errs_before
 
-      fail-is : declare c₀ here ≡ fail z (abs I (with_err many z said.errs) y M')
-      fail-is = declared ∙ ap (λ (q : Parsed). outcome_of void I said.errs q M') e
+        fail-is : declare c₀ now_is ≡ fail z (abs I errs_failed (walk_of q) (mem_of q))
+        fail-is = declared l
 
-      broke-of : Broke I M' (1 + x.at) (length said.errs + many) y
-      broke-of = subst (λ (q : Parsed). FineOf I M' (1 + x.at) (length said.errs) q) e said.fine
+        broke-of : Broke (inp_of p) (mem_of q) (1 + p.at) q.errors (walk_of q)
+        broke-of = l.fine t.is
 
-      failing : Failing c₀ (worth (lex s)) 1 0 0 here (abs I (with_err many z said.errs) y M')
-      failing = fails_of (law here t.far.well not-eof) fail-is
+        listed-so : length errs_before + many ≡ q.errors
+        listed-so = (l.tells t.is t.book.errs t.book.count t.book.notes).count
 
-      more-nodes : x.nodes ≤ y.nodes
-      more-nodes = omega (arith, under-length failing.kept, length-nodes x.nodes M.head M.load, length-nodes y.nodes M'.head M'.load)
+        failing : Failing c₀ (worth (lex s₀)) 1 0 0 now_is (abs I errs_failed (walk_of q) (mem_of q))
+        failing = fails_of (law now_is t.far.well not-eof) fail-is
 
-      after-fail : After c₀ (worth (lex s)) (lexed-toks c₀ s t.lexed) n (some z) here (backed (length (nodes_of x.nodes M.head M.load)) (abs I (with_err many z said.errs) y M'))
-      after-fail = holds_of (top-far c₀ (worth (lex s)) (lexed-toks c₀ s t.lexed) (declare c₀) law n here t.far not-eof) (top-fail c₀ (declare c₀) here fail-is)
+        more-nodes : p.nodes ≤ q.nodes
+        more-nodes = omega (arith, under-length failing.kept, length-nodes p.nodes p.head.now p.load.now, length-nodes q.nodes q.head.now q.load.now)
 
-      back_is : backed (length (nodes_of x.nodes M.head M.load)) (abs I (with_err many z said.errs) y M') ≡ abs I (with_err many z said.errs) (back_to y x.nodes) M'
-      back_is = ap (λ (m : ℕ). backed m (abs I (with_err many z said.errs) y M')) (length-nodes x.nodes M.head M.load) ∙ backed-is I (with_err many z said.errs) y M' x.nodes more-nodes
+        after-fail : After c₀ (worth (lex s₀)) (lexed-toks c₀ s₀ t.lexed) n (some z) now_is (backed (length (nodes_of p.nodes p.head.now p.load.now)) (abs I errs_failed (walk_of q) (mem_of q)))
+        after-fail = holds_of (top-far c₀ (worth (lex s₀)) (lexed-toks c₀ s₀ t.lexed) (declare c₀) law n now_is t.far not-eof) (top-fail c₀ (declare c₀) now_is fail-is)
 
-      fair : (many ≡ 0 → ⊥) → FairErr (length (toks_of os ks)) z
-      fair nz = fair-first (FairErr (length (toks_of os ks))) many z said.errs nz failing.well.errs
+        pub fail-ahead : p.at < q.at
+        fail-ahead = after-fail.on
 
-      tokens : length (toks_of os ks) ≤ 65536
-      tokens = omega (arith, length-toks os ks t.is.stands.toks.even, t.is.stands.toks.even, t.is.stands.toks.few)
+        back_is : backed (length (nodes_of p.nodes p.head.now p.load.now)) (abs I errs_failed (walk_of q) (mem_of q)) ≡ abs I errs_failed (walk_of (record q { nodes = p.nodes })) (mem_of q)
+        back_is = ap (λ (m : ℕ). backed m (abs I errs_failed (walk_of q) (mem_of q))) (length-nodes p.nodes p.head.now p.load.now) ∙ backed-is I errs_failed q p.nodes more-nodes
 
-      first_fits : {k : ℕ} → (k < length (toks_of os ks)) ⊎ (k ≤ 64) → k < 65536
-      first_fits (inl h) = omega (arith, tokens)
-      first_fits (inr h) = omega arith
+        tokens : length (toks_of p₀.offs.now p₀.words.now) ≤ 65536
+        tokens = omega (arith, length-toks p₀.offs.now p₀.words.now first_even, first_even, t.is.stands.toks.few, ap length words_same)
+          where
+            first_even : length p₀.offs.now ≡ length p₀.words.now
+            first_even = ap (λ (J : Inp). length J.offs) (sym t.kept.inp) ∙ t.is.stands.toks.even ∙ ap length words_same
 
-      -- what note_failure wants
-      pub noting : Noting ps' rs' y z
-      noting = record {
-        listed = omega (arith, broke-of.errors);
-        room = omega (arith, broke-of.room, t.book.room, ep);
-        even = ep ∙ t.book.even ∙ sym er;
-        fits = λ nz. let g = fair nz in record { place = omega (arith, g.place, tokens); first = first_fits g.first; second = g.second };
-      }
+        first_fits : {k : ℕ} → (k < length (toks_of p₀.offs.now p₀.words.now)) ⊎ (k ≤ 64) → k < 65536
+        first_fits (inl h) = omega (arith, tokens)
+        first_fits (inr h) = omega arith
 
-      module _ {ps'' rs'' : List ℕ} (nt : Noted ps' rs' y z ps'' rs'') (ep'' : length ps'' ≡ length ps') (er'' : length rs'' ≡ length rs') {w : Walk} (ew : w ≡ back_to y x.nodes) where
-        noted : Notes ps'' rs'' (with_err many z said.errs)
-        noted = nt.notes said.errs (sym broke-of.errors) said.notes
+        -- what note_failure wants
+        pub noting : Noting d q.errors z
+        noting = record {
+          listed = omega (arith, listed-so);
+          room = omega (arith, broke-of.room, t.book.room, l.book.places);
+          even = l.book.places ∙ t.book.even ∙ sym l.book.reasons;
+          fits = λ nz. let g = fair-first (FairErr (length (toks_of p₀.offs.now p₀.words.now))) many z errs_before nz failing.well.errs in record { place = omega (arith, g.place, tokens); first = first_fits g.first; second = g.second };
+        }
 
-        counts : length (with_err many z said.errs) ≡ y.errors
-        counts = length-with many z said.errs (listed-most z.why) ∙ sym broke-of.errors
+        -- the parser without its nodes
+        abbrev back : Parser
+        back = record q { nodes = p.nodes }
 
-        back-ready : Ready I M' (back_to y x.nodes)
-        back-ready = record {
+        back-kept : Kept p back
+        back-kept = record { inp = l.kept.inp; symbols_name = l.kept.symbols_name; head_name = l.kept.head_name; load_name = l.kept.load_name; symbols = l.kept.symbols; head = l.kept.head; load = l.kept.load }
+
+        pub back-ready : Ready back
+        back-ready = subst (λ (J : Inp). ReadyOf J (mem_of q) (walk_of back)) (sym l.kept.inp) (record {
           stands = record { toks = t.is.stands.toks; here = broke-of.here; calm = broke-of.calm };
-          even = kp.head ∙ t.is.even ∙ sym kp.load;
-          used = omega (arith, t.is.used, kp.head);
+          even = l.kept.head ∙ t.is.even ∙ sym l.kept.load;
+          used = omega (arith, t.is.used, l.kept.head);
           holds = broke-of.holds;
           level = broke-of.level;
           room = broke-of.room;
-        }
-
-        pub fail-ahead : x.at < w.at
-        fail-ahead = rw ew after-fail.on
-
-        -- what note_failure leaves can be pushed to
-        pub back-used : w.nodes ≤ length M'.head
-        back-used = rw ew back-ready.used
-
-        pub back-even : length M'.head ≡ length M'.load
-        back-even = back-ready.even
-
-        turned : walk c₀ depth_limit ≡ (if continuable c₀ z.why then program c₀ (t.f - 1) (declare c₀) n true otherwise end_read c₀ n true (some z)) (abs I (with_err many z said.errs) (back_to y x.nodes) M')
-        turned = left-suc ∙ turn-fail c₀ (declare c₀) here (t.f - 1) n flag not-eof fail-is ∙ ap (λ (q : St). (if continuable c₀ z.why then program c₀ (t.f - 1) (declare c₀) n true otherwise end_read c₀ n true (some z)) q) back_is
-
-        -- it is continuable
-        pub gone-on : does_go_on z.why ≡ true → Parsing s os ks l M₀ ps₀ rs₀ M' ps'' rs'' w n true
-        unfolding FarOf if◌then◌otherwise◌
-        gone-on g = rw ew (record {
-          lexed = t.lexed;
-          f = t.f - 1;
-          enough = omega (arith, t.enough, some_left, after-fail.on);
-          kept = kept-all;
-          places = ep'' ∙ ep ∙ t.places;
-          reasons = er'' ∙ er ∙ t.reasons;
-          is = back-ready;
-          book = record { errs = with_err many z said.errs; notes = noted; count = counts; even = ep'' ∙ ep ∙ t.book.even ∙ sym er ∙ sym er''; room = t.book.room ∙ sym ep ∙ sym ep'' };
-          few = omega (arith, t.few, after-fail.on);
-          far = subst (λ (q : St). Far c₀ (worth (lex s)) (lexed-toks c₀ s t.lexed) n q) back_is after-fail.far;
-          left = turned ∙ ap (λ (b : Bool). (if b then program c₀ (t.f - 1) (declare c₀) n true otherwise end_read c₀ n true (some z)) (abs I (with_err many z said.errs) (back_to y x.nodes) M')) (goes-on-is c₀ z.why ∙ g);
         })
 
-        -- it is not
-        pub given-up : does_go_on z.why ≡ false → {v : Walked} {hs ls : List ℕ} → EndsRead M'.head M'.load w n true (By z) v hs ls → length hs ≡ length M'.head → length ls ≡ length M'.load
-            → Walks I M₀ v (mem M'.symbols hs ls) ps'' rs''
-        unfolding if◌then◌otherwise◌
-        given-up g {v} {hs} {ls} dw eh el =
-            let d' : EndsRead M'.head M'.load (back_to y x.nodes) n true (By z) v hs ls = subst (λ (u : Walk). EndsRead M'.head M'.load u n true (By z) v hs ls) ew dw in
-            let o = d'.does I M'.symbols back-ready eh el (with_err many z said.errs) counts in
-            let q = subst (λ (c : Ctx). ClosedOf I (end_read c n true (some z) (abs I (with_err many z said.errs) (back_to y x.nodes) M')) (with_err many z said.errs) y.errors v (mem M'.symbols hs ls)) (ap (λ (m : Rooms). ctx I m) (rooms-kept kept-all)) o in
-            ended (with_err many z said.errs) v (mem M'.symbols hs ls) ps'' rs'' y.errors (turned ∙ ap (λ (b : Bool). (if b then program c₀ (t.f - 1) (declare c₀) n true otherwise end_read c₀ n true (some z)) (abs I (with_err many z said.errs) (back_to y x.nodes) M')) (goes-on-is c₀ z.why ∙ g)) q noted counts (omega (arith, broke-of.room, t.book.room, ep, ep''))
+        pub back-all : Kept p₀ back
+        back-all = kept-on t.kept back-kept
 
--- ── the symbol words before the walk ──
+        turned : walk c₀ depth_limit ≡ (if continuable c₀ z.why then program c₀ (t.f - 1) (declare c₀) n true otherwise end_read c₀ n true (some z)) (abs I errs_failed (walk_of back) (mem_of q))
+        turned = left-suc ∙ turn-fail c₀ (declare c₀) now_is (t.f - 1) n flag not-eof fail-is ∙ ap (λ (s : St). (if continuable c₀ z.why then program c₀ (t.f - 1) (declare c₀) n true otherwise end_read c₀ n true (some z)) s) back_is
 
--- only how many they are counts
-pub walks-room : (I : Inp) (ys ys' hs ls : List ℕ) (M : Mem) (ps rs : List ℕ) (r : Walked) → length ys' ≡ length ys → Walks I (mem ys' hs ls) r M ps rs → Walks I (mem ys hs ls) r M ps rs
-walks-room I ys ys' hs ls M ps rs (Finished x flag last) e w =
-    record {
-      listed = w.listed;
-      notes = w.notes;
-      errors = w.errors;
-      is = subst (λ (n : ℕ). walk (ctx I (record { nodes = length hs; words = n })) depth_limit ≡ done (end flag (last_of last)) (abs I w.listed x M)) e w.is;
-      fine = w.fine;
-      room = w.room;
-    }
-walks-room I ys ys' hs ls M ps rs (NoWalk f) e w = subst (λ (n : ℕ). walk (ctx I (record { nodes = length hs; words = n })) depth_limit ≡ refuse f) e w
+        module _ {d' : Book} (nt : Noted d q.errors z d') where
+          noted : Holding d' errs_failed
+          noted = nt.notes errs_before listed-so (l.tells t.is t.book.errs t.book.count t.book.notes).notes
 
--- ── the Program node ──
+          counts : length errs_failed ≡ q.errors
+          counts = length-with many z errs_before (listed-most z.why) ∙ listed-so
 
-module _ {hs ls : List ℕ} {w : Walk} {n h : ℕ} {r : Parsed} {hs' ls' : List ℕ} (flag : Bool) (last : Last) (hw : HeadWord 1 false n h) (d : Pushes hs ls w h 0 r hs' ls') where
-  made-is : (I : Inp) (ys : List ℕ) → Ready I (mem ys hs ls) w → (E : List Err) → length E ≡ w.errors
-      → end_read (ctx_of I (mem ys hs ls)) n flag (last_of last) (abs I E w (mem ys hs ls)) ≡ go_on (outcome_of void I E r (mem ys hs' ls')) (λ a q. done (end flag (last_of last)) q)
-  unfolding end_read
-  made-is I ys p E e = ap (λ (o : Out (Unit {0})). go_on o (λ a q. done (end flag (last_of last)) q)) (sym ((pushed-as {I = I} {M = mem ys hs ls} p hw d).same E e))
+          room_of : q.lim.errors ≡ length d'.places.now
+          room_of = ap (λ (J : Inp). J.lim.errors) l.kept.inp ∙ t.book.room ∙ sym l.book.places ∙ sym nt.kept.places
 
-  pub read-ends : {x : Walk} → r ≡ Done x → EndsRead hs ls w n flag last (Finished x flag last) hs' ls'
-  unfolding go_on
-  read-ends {x} ex = record {
-    does = λ I ys p eh el E e.
-        let fine : Fine I (mem ys hs' ls') (0 + w.at) w.errors x = fine-at (pushed-as {I = I} {M = mem ys hs ls} p hw d).fine ex in
-        record {
-          same = made-is I ys p E e ∙ ap (λ (q : Parsed). go_on (outcome_of void I E q (mem ys hs' ls')) (λ a q. done (end flag (last_of last)) q)) ex;
-          is = record {
-            stands = record { toks = p.stands.toks; here = fine.here; calm = fine.calm };
-            even = eh ∙ p.even ∙ sym el;
-            used = fine.used;
-            holds = fine.holds;
-            level = fine.level;
-            room = fine.room;
-          };
-          listed = fine.errors;
-        };
-  }
+          pub back-book : KeptBook b₀ d'
+          back-book = book-on t.kept-book (book-on l.book nt.kept)
 
-  pub read-full : {f : Refusal} → r ≡ Refused f → EndsRead hs ls w n flag last (NoWalk f) hs' ls'
-  unfolding go_on
-  read-full {f} ex = record { does = λ I ys p eh el E e. made-is I ys p E e ∙ ap (λ (q : Parsed). go_on (outcome_of void I E q (mem ys hs' ls')) (λ a q. done (end flag (last_of last)) q)) ex }
+          -- it is continuable
+          pub gone-on : does_go_on z.why ≡ true → Parsing p₀ b₀ back d' n true
+          unfolding FarOf if◌then◌otherwise◌
+          gone-on g = record {
+            lexed = t.lexed;
+            f = t.f - 1;
+            enough = omega (arith, t.enough, some_left, after-fail.on);
+            kept = back-all;
+            kept-book = back-book;
+            is = back-ready;
+            book = record { errs = errs_failed; notes = noted; count = counts; even = nt.kept.places ∙ l.book.places ∙ t.book.even ∙ sym l.book.reasons ∙ sym nt.kept.reasons; room = room_of };
+            few = omega (arith, t.few, after-fail.on);
+            far = subst (λ (s : St). Far c₀ (worth (lex s₀)) (lexed-toks c₀ s₀ t.lexed) n s) back_is after-fail.far;
+            left = turned ∙ ap (λ (x : Bool). (if x then program c₀ (t.f - 1) (declare c₀) n true otherwise end_read c₀ n true (some z)) (abs I errs_failed (walk_of back) (mem_of q))) (goes-on-is c₀ z.why ∙ g);
+          }
 
-  -- a push does not fail
-  pub read-never : {x : Walk} {z : Err} {f : Refusal} → r ≡ Failed x z → EndsRead hs ls w n flag last (NoWalk f) hs' ls'
-  read-never {x} {z} ex = absurd (subst (λ (q : Parsed). Sure q) ex d.sure)
+          -- it is not
+          pub given-up : does_go_on z.why ≡ false → (r : Result Walked Refusal) {x : Parser} → Does 0 (λ c. end_read c n true (some z)) back (lifted (ended r)) x → IfOk r (λ w. (w.nodes ≡ x.nodes) × (w.errors ≡ x.errors))
+              → Walks (inp_of p₀) (mem_of p₀) r (mem_of x) d'.places.now d'.reasons.now
+          unfolding if◌then◌otherwise◌
+          given-up g r {x} e h =
+              closes back-all d' n true (Some z) errs_failed r back-ready noted counts room_of
+              (turned ∙ ap (λ (y : Bool). (if y then program c₀ (t.f - 1) (declare c₀) n true otherwise end_read c₀ n true (some z)) (abs I errs_failed (walk_of back) (mem_of q))) (goes-on-is c₀ z.why ∙ g)) e h
+
+-- why a call has no value, by its case
+pub stopped-by : {j : ℕ} {f : Ctx → St → Out (Unit {0})} {p q : Parser} {b d : Book} {s x : Stop} → Lists j f p b (Stopped s) q d → s ≡ x → Lists j f p b (Stopped x) q d
+stopped-by {j} {f} {p} {q} {b} {d} l e = subst (λ (y : Stop). Lists j f p b (Stopped y) q d) e l
+
+-- ── the Program node that doesn't fit ──
+
+pub ended-stops : {f : Ctx → St → Out End} {p q : Parser} {g : Refusal} (x : Result Walked Refusal) (P : Walked → Type 0) → Does 0 f p (Stopped (Refused g)) q → IsErr x × IsErrAnd x (λ h. h ≡ g) → Does 0 f p (lifted (ended x)) q × IfOk x P
+ended-stops (Ok a) P d h = absurd h.1
+ended-stops (Stopped s) P d h = (rw h.1 d, tt)

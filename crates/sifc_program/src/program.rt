@@ -1,16 +1,16 @@
 // Parser::new and parse: the declarations of a script one after another, and the Program node.
-ghost use Rattle.std.specs.Prelude.{◌≡◌, length, ◌≤◌};
-ghost use Rattle.sifc_symtab.specs.Table.{Holds};
-ghost use Rattle.sifc_step.specs.Abs.{inp, mem, kind_at};
-ghost use Rattle.sifc_step.specs.Book.{Walks};
-ghost use Rattle.sifc_block.specs.Lists.{Noting, Noted};
-ghost use Rattle.sifc_program.specs.Program.{Starts, EndsRead, does_go_on, start_walk, back_to};
+ghost use Rattle.std.specs.Prelude.{◌≡◌, ◌≤◌, IfOk};
+ghost use Rattle.sifc_def.specs.Walk.{end_read};
+ghost use Rattle.sifc_step.specs.Abs.{inp, mem, inp_of, mem_of, Ready, Kept, Does, lifted};
+ghost use Rattle.sifc_step.specs.Book.{Walks, last_of};
+ghost use Rattle.sifc_block.specs.Lists.{KeptBook};
+ghost use Rattle.sifc_program.specs.Program.{Starts, Started, does_go_on, ended};
 
-use sifc_block::note_failure;
-use sifc_def::{Err, Why};
+use sifc_block::Book;
+use sifc_def::{Err as Error, Why};
 use sifc_err::Refusal;
 use sifc_parse::decl;
-use sifc_step::{Last, Limits, Parsed, Walk, Walked, head_word, kind_at, push_node, wide};
+use sifc_step::{Limits, Parser, Stop, Walked, head_word};
 use sifc_symtab::open;
 
 const EOF: u32 = 47;
@@ -27,120 +27,51 @@ const DEPTH_LIMIT: usize = 768;
 fn goes_on(why: Why) -> bool
     ensures { result ≡ does_go_on why }
 {
-    match why {
-        Why::InvalidIdent(_) => true,
-        Why::InvalidTkn(_) => true,
-        Why::InvalidTknMsg(_) => true,
-        Why::InvalidAssign(_) => true,
-        Why::InvalidForStmt => true,
-        Why::InvalidIfStmt => true,
-        Why::TknMismatch(_, _) => false,
-        Why::FnParmCntExceeded(_) => false,
-        Why::WrongFnParmCnt(_, _) => true,
-        Why::UndeclSym(_) => true,
-        Why::UnassignedVar(_) => true,
-        Why::ExpectedIdent(_) => true,
-    }
-}
-
-// Nothing read yet.
-fn start() -> Walk
-    ensures { result ≡ start_walk }
-{
-    Walk {
-        at: 0,
-        nodes: 0,
-        symbols: 0,
-        level: 0,
-        errors: 0,
-        check: true,
-        count: 0,
-    }
-}
-
-// The walk with n nodes: a failed declaration leaves none.
-fn back_to(w: Walk, n: usize) -> Walk
-    ensures { result ≡ back_to w n }
-{
-    Walk {
-        at: w.at,
-        nodes: n,
-        symbols: w.symbols,
-        level: w.level,
-        errors: w.errors,
-        check: w.check,
-        count: w.count,
-    }
+    !matches!(why, Why::TknMismatch(_, _) | Why::FnParmCntExceeded(_))
 }
 
 // The Program node, over n declarations.
-fn end_read(head: &mut [u32], load: &mut [u32], w: Walk, n: usize, flag: bool, last: Last) -> Walked
-    requires { (length head.old ≡ length load.old) × (w.nodes ≤ length head.old) × (n ≤ 65536) }
-    ensures { EndsRead head.old load.old w n flag last result head.new load.new }
+fn end_read(
+    p: &mut Parser<'_>,
+    n: usize,
+    flag: bool,
+    last: Option<Error>,
+) -> Result<Walked, Refusal>
+    requires { Ready p.old × (n ≤ 65536) }
+    ensures { Does 0 (λ c. end_read c n flag (last_of last)) p.old (lifted (ended result)) p.new × IfOk result (λ w. (w.nodes ≡ p.new.nodes) × (w.errors ≡ p.new.errors)) }
 {
-    let made = push_node(head, load, w, head_word(PROGRAM, false, n), 0);
-    match made {
-        Parsed::Done(x) => Walked::Finished(x, flag, last),
-        Parsed::Failed(_, _) => Walked::Refused(Refusal::NodesFull),
-        Parsed::Refused(refusal) => Walked::Refused(refusal),
-    }
+    p.push_node(head_word(PROGRAM, false, n), 0)?;
+    Ok(Walked {
+        nodes: p.nodes,
+        errors: p.errors,
+        flag,
+        last,
+    })
 }
 
 // The declarations, until Eof or an error that ends the reading.
-fn program(
-    script: &[u8],
-    offs: &[u32],
-    words: &[u32],
-    symbols: &mut [u32],
-    head: &mut [u32],
-    load: &mut [u32],
-    places: &mut [u32],
-    reasons: &mut [u32],
-    lim: Limits,
-) -> Walked
-    requires { Starts script.now offs.now words.now head.old load.old places.old reasons.old lim × (kind_at words.now 0 ≡ 48 → ⊥) × Holds script.now offs.now words.now symbols.old 0 }
-    ensures { Walks (inp script.now offs.now words.now lim) (mem symbols.old head.old load.old) result (mem symbols.new head.new load.new) places.new reasons.new }
+fn program(p: &mut Parser<'_>, book: &mut Book<'_>) -> Result<Walked, Refusal>
+    requires { Started p.old book.old }
+    ensures { Walks (inp_of p.old) (mem_of p.old) result (mem_of p.new) book.new.places.now book.new.reasons.now × Kept p.old p.new × KeptBook book.old book.new }
 {
-    let mut x = start();
-    let mut n: usize = 0;
+    let mut n = 0;
     let mut flag = false;
-    loop {
-        if kind_at(words, x.at) == EOF {
-            return end_read(head, load, x, n, flag, Last::Never);
-        }
-        let before = x.nodes;
-        let one = decl(
-            script,
-            offs,
-            words,
-            symbols,
-            head,
-            load,
-            places,
-            reasons,
-            lim,
-            x,
-            DEPTH_LIMIT,
-        );
-        match one {
-            Parsed::Done(y) => {
-                x = y;
-                n = n + 1;
-            }
-            Parsed::Failed(y, e) => {
-                let noted = note_failure(places, reasons, y, e);
-                let why = e.why;
-                x = back_to(y, before);
+    while p.kind() != EOF {
+        let before = p.nodes;
+        match decl(p, book, DEPTH_LIMIT) {
+            Ok(()) => n += 1,
+            Err(Stop::Failed(e)) => {
+                book.note_failure(p.errors, e);
+                p.nodes = before;
                 flag = true;
-                if !goes_on(why) {
-                    return end_read(head, load, x, n, flag, Last::By(e));
+                if !goes_on(e.why) {
+                    return end_read(p, n, flag, Some(e));
                 }
             }
-            Parsed::Refused(refusal) => {
-                return Walked::Refused(refusal);
-            }
+            Err(Stop::Refused(refusal)) => return Err(refusal),
         }
     }
+    end_read(p, n, flag, None)
 }
 
 // All declarations of the tokens, from an empty symbol table on: a lexing panic in front is met at once.
@@ -154,16 +85,29 @@ pub fn parse(
     places: &mut [u32],
     reasons: &mut [u32],
     lim: Limits,
-) -> Walked
+) -> Result<Walked, Refusal>
     requires { Starts script.now offs.now words.now head.old load.old places.old reasons.old lim }
     ensures { Walks (inp script.now offs.now words.now lim) (mem symbols.old head.old load.old) result (mem symbols.new head.new load.new) places.new reasons.new }
 {
-    if kind_at(words, 0) == LEX_PANIC {
-        let off = wide(offs[0]);
-        return Walked::Refused(Refusal::SourceFault(lim.fault, off));
+    if words[0] % 64 == LEX_PANIC {
+        return Err(Refusal::SourceFault(lim.fault, offs[0] as usize));
     }
     open(words, symbols);
-    program(
-        script, offs, words, symbols, head, load, places, reasons, lim,
-    )
+    let mut p = Parser {
+        script,
+        offs,
+        words,
+        symbols,
+        head,
+        load,
+        lim,
+        at: 0,
+        nodes: 0,
+        stored: 0,
+        level: 0,
+        errors: 0,
+        check: true,
+    };
+    let mut book = Book { places, reasons };
+    program(&mut p, &mut book)
 }

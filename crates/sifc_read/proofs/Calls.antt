@@ -105,7 +105,7 @@ module _ (s : List ℕ) (o w h l y p r : List ℕ) (a : Entered s (arrays o w h 
   fault-is : (k : ℕ) → k ≡ fault_of e → k ≡ fault_of (ending s)
   fault-is k f = f ∙ ap fault_of d.ends
 
-  module _ (k : ℕ) (f : k ≡ fault_of e) (h' l' y' p' r' : List ℕ) (z : Walked) (eh : length h' ≡ length h) (el : length l' ≡ length l) (ey : length y' ≡ length y) (ep : length p' ≡ length p) (er : length r' ≡ length r)
+  module _ (k : ℕ) (f : k ≡ fault_of e) (h' l' y' p' r' : List ℕ) (z : Result Walked Refusal) (eh : length h' ≡ length h) (el : length l' ≡ length l) (ey : length y' ≡ length y) (ep : length p' ≡ length p) (er : length r' ≡ length r)
       (v : Walks (inp s (take n o') (take n w') (record { errors = length p; fault = k })) (mem y h l) z (mem y' h' l') p' r') where
     pub fits : Fits s (arrays o' w' h' l' y' p' r') n z
     fits = fits-is s (arrays o w h l y p r) (arrays o' w' h' l' y' p' r') (held eh el ey ep er) n d.count (record { errors = length p; fault = k }) refl (fault-is k f) z a.short a.errors v

@@ -6,25 +6,18 @@ ghost use Rattle.sifc_lent.specs.Parts.{arrays, Within, Fits, summary_of, settle
 use sifc_def::Summary;
 use sifc_err::Refusal;
 use sifc_lent::{clear_all, clear_array, early_of, keep, set_places};
-use sifc_step::{Last, Walk, Walked};
+use sifc_step::Walked;
 
 // The answer: how many tokens, nodes and errors, has_err, and the error that ended the reading.
-fn summary_of(
-    script: &[u8],
-    offs: &[u32],
-    words: &[u32],
-    w: Walk,
-    flag: bool,
-    last: Last,
-) -> Summary
-    ensures { result ≡ summary_of script.now offs.now words.now w flag last }
+fn summary_of(script: &[u8], offs: &[u32], words: &[u32], w: Walked) -> Summary
+    ensures { result ≡ summary_of script.now offs.now words.now w }
 {
     Summary {
         tokens: offs.len(),
         nodes: w.nodes,
         errors: w.errors,
-        flag,
-        early: early_of(script, offs, words, last),
+        flag: w.flag,
+        early: early_of(script, offs, words, w.last),
     }
 }
 
@@ -38,7 +31,7 @@ fn settle(
     symbols: &mut [u32],
     places: &mut [u32],
     reasons: &mut [u32],
-    w: Walk,
+    w: Walked,
 )
     requires { (length script.now < 65536) × Within w.nodes w.errors heads.old loads.old places.old reasons.old }
     ensures { arrays [] [] heads.new loads.new symbols.new places.new reasons.new ≡ settled_of script.now offs.now w (arrays [] [] heads.old loads.old symbols.old places.old reasons.old) }
@@ -62,19 +55,19 @@ pub fn finish(
     places: &mut [u32],
     reasons: &mut [u32],
     n: usize,
-    walked: Walked,
+    walked: Result<Walked, Refusal>,
 ) -> Result<Summary, Refusal>
     requires { Fits script.now (arrays offs.old words.old heads.old loads.old symbols.old places.old reasons.old) n walked }
     ensures { called result (arrays offs.new words.new heads.new loads.new symbols.new places.new reasons.new) ≡ finish_of script.now n walked (arrays offs.old words.old heads.old loads.old symbols.old places.old reasons.old) }
 {
     match walked {
-        Walked::Finished(w, flag, last) => {
+        Ok(w) => {
             let os = &offs[..n];
             let ws = &words[..n];
             settle(script, os, heads, loads, symbols, places, reasons, w);
-            Ok(summary_of(script, os, ws, w, flag, last))
+            Ok(summary_of(script, os, ws, w))
         }
-        Walked::Refused(refusal) => {
+        Err(refusal) => {
             clear_all(offs, words, heads, loads, symbols, places, reasons, n);
             Err(refusal)
         }

@@ -1,2 +1,6 @@
-pub mod Tags
-pub mod Checks
+pub mod Steps
+pub mod Loops
+pub mod Small
+pub mod Tests
+pub mod Told
+pub mod Book

@@ -1,16 +1,17 @@
--- What the lent arrays and the walk of the code stand for, in the words of the definition, and what a function of the walk promises.
-use Rattle.std.specs.Prelude.{ℕ, zero, suc, ◌+◌, ◌-◌, ◌/◌, ◌%◌, ◌≤◌, ◌<◌, ◌≡◌, ◌⊎◌, List, [], ◌∷◌, Bool, true, false, ◌||◌, length, get_or, T, eqb}
+-- What the parser of the code stands for, in the words of the definition, and what a function of the walk promises.
+use Rattle.std.specs.Prelude.{ℕ, zero, suc, ◌+◌, ◌-◌, ◌/◌, ◌%◌, ◌≤◌, ◌<◌, ◌≡◌, ◌⊎◌, List, [], ◌∷◌, Bool, true, false, ◌||◌, length, get_or, T, eqb, Result, Ok, Err as Stopped}
 use Rattle.sifc_word.specs.Kind.{Eof, LexPanic}
 use Rattle.sifc_def.specs.declared.Err.{Err}
 use Rattle.sifc_def.specs.declared.Why.{Why}
 use Rattle.sifc_def.specs.declared.Why.TheVariants.{InvalidIdent, InvalidTkn, InvalidTknMsg, InvalidAssign, InvalidForStmt, InvalidIfStmt, TknMismatch, FnParmCntExceeded, WrongFnParmCnt, UndeclSym, UnassignedVar, ExpectedIdent}
-use Rattle.sifc_def.specs.State.{Node, node, err, Ctx, St, Out, done, fail, refuse, M, Void}
+use Rattle.sifc_def.specs.State.{Node, node, err, Ctx, St, Out, done, fail, refuse, M}
 use Rattle.sifc_symtab.specs.Toks.{toks_of}
 use Rattle.sifc_symtab.specs.Table.{syms_of, Holds}
+use Rattle.sifc_err.specs.declared.Refusal.{Refusal}
 use Rattle.sifc_step.specs.declared.walk.Limits.{Limits}
-use Rattle.sifc_step.specs.declared.walk.Walk.{Walk}
-use Rattle.sifc_step.specs.declared.walk.Parsed.{Parsed}
-use Rattle.sifc_step.specs.declared.walk.Parsed.TheVariants.{Done, Failed, Refused}
+use Rattle.sifc_step.specs.declared.walk.Parser.{Parser}
+use Rattle.sifc_step.specs.declared.walk.Stop.{Stop}
+use Rattle.sifc_step.specs.declared.walk.Stop.TheVariants.{Failed, Refused}
 
 -- what is read and never written
 pub record Inp : Type 0 where
@@ -30,6 +31,26 @@ pub record Mem : Type 0 where
 
 abbrev pub mem : List ℕ → List ℕ → List ℕ → Mem
 mem y h l = record { symbols = y; head = h; load = l }
+
+-- where the walk stands
+pub record Walk : Type 0 where
+  pub at : ℕ
+  pub nodes : ℕ
+  pub symbols : ℕ
+  pub level : ℕ
+  pub errors : ℕ
+  pub check : Bool
+
+-- ── the three parts of a parser ──
+
+abbrev pub inp_of : Parser → Inp
+inp_of p = inp p.script.now p.offs.now p.words.now p.lim
+
+abbrev pub mem_of : Parser → Mem
+mem_of p = mem p.symbols.now p.head.now p.load.now
+
+abbrev pub walk_of : Parser → Walk
+walk_of p = record { at = p.at; nodes = p.nodes; symbols = p.stored; level = p.level; errors = p.errors; check = p.check }
 
 -- ── nodes: "kind + 32 × flag + 64 × children", and the payload; newest first ──
 
@@ -100,17 +121,10 @@ with_err zero e E = E
 with_err (suc zero) e E = e ∷ E
 with_err (suc (suc n)) e E = e ∷ err e.place (InvalidIdent e.place) ∷ E
 
--- what a call gives beside the state: nothing, or the count that its walk carries
-abbrev pub void : Walk → Unit {0}
-void w = tt
-
-abbrev pub many : Walk → ℕ
-many w = w.count
-
-abbrev pub outcome_of : {A : Type 0} → (Walk → A) → Inp → List Err → Parsed → Mem → Out A
-outcome_of v I E (Done w) M = done (v w) (abs I E w M)
-outcome_of v I E (Failed w e) M = fail e (abs I (with_err (listed_by e.why) e E) w M)
-outcome_of v I E (Refused f) M = refuse f
+abbrev pub outcome_of : {A : Type 0} → Inp → List Err → Result A Stop → Mem → Walk → Out A
+outcome_of I E (Ok a) M w = done a (abs I E w M)
+outcome_of I E (Stopped (Failed e)) M w = fail e (abs I (with_err (listed_by e.why) e E) w M)
+outcome_of I E (Stopped (Refused f)) M w = refuse f
 
 -- the kind of a token
 abbrev pub kind_at : List ℕ → ℕ → ℕ
@@ -129,7 +143,7 @@ pub record Stands (os ks : List ℕ) (w : Walk) : Type 0 where
   pub calm : kind_at ks w.at ≡ LexPanic → ⊥
 
 -- what every function of the walk may assume of what it is lent
-pub record Ready (I : Inp) (M : Mem) (w : Walk) : Type 0 where
+pub record ReadyOf (I : Inp) (M : Mem) (w : Walk) : Type 0 where
   pub stands : Stands I.offs I.words w
   pub even : length M.head ≡ length M.load
   pub used : w.nodes ≤ length M.head
@@ -159,70 +173,55 @@ pub record Broke (I : Inp) (M : Mem) (lo n : ℕ) (w : Walk) : Type 0 where
   pub errors : w.errors ≡ n
   pub on : (lo ≤ w.at) ⊎ (kind_at I.words w.at ≡ Eof)
 
-abbrev pub FineOf : Inp → Mem → ℕ → ℕ → Parsed → Type 0
-FineOf I M lo n (Done w) = Fine I M lo n w
-FineOf I M lo n (Failed w e) = Broke I M lo (n + listed_by e.why) w
-FineOf I M lo n (Refused f) = Unit {0}
+abbrev pub FineOf : {A : Type 0} → Inp → Mem → ℕ → ℕ → Result A Stop → Walk → Type 0
+FineOf I M lo n (Ok a) w = Fine I M lo n w
+FineOf I M lo n (Stopped (Failed e)) w = Broke I M lo (n + listed_by e.why) w
+FineOf I M lo n (Stopped (Refused f)) w = Unit {0}
 
--- r, with what the arrays hold at the end, is the outcome o, whatever was listed before
-pub record Gives {A : Type 0} (v : Walk → A) (o : List Err → Out A) (I : Inp) (lo n : ℕ) (r : Parsed) (M : Mem) : Type 0 where
-  pub same : (E : List Err) → length E ≡ n → outcome_of v I E r M ≡ o E
-  pub fine : FineOf I M lo n r
+-- ── of a parser ──
 
--- from the walk w and the arrays M, f gives r and leaves the arrays at M', j tokens farther at least
-abbrev pub DoesAs : {A : Type 0} → (Walk → A) → ℕ → (Ctx → St → Out A) → Inp → Mem → Walk → Parsed → Mem → Type 0
-DoesAs v j f I M w r M' = Gives v (λ E. f (ctx_of I M) (abs I E w M)) I (j + w.at) w.errors r M'
+-- the context and the state of the definition, where E is what was listed so far
+abbrev pub ctx_at : Parser → Ctx
+ctx_at p = ctx_of (inp_of p) (mem_of p)
 
-abbrev pub Does : ℕ → (Ctx → Void) → Inp → Mem → Walk → Parsed → Mem → Type 0
-Does j f I M w r M' = DoesAs void j f I M w r M'
+abbrev pub abs_at : List Err → Parser → St
+abs_at E p = abs (inp_of p) E (walk_of p) (mem_of p)
 
-abbrev pub Counts : ℕ → (Ctx → St → Out ℕ) → Inp → Mem → Walk → Parsed → Mem → Type 0
-Counts j f I M w r M' = DoesAs many j f I M w r M'
+abbrev pub here : Parser → ℕ
+here p = kind_at p.words.now p.at
 
-abbrev pub count_of : Parsed → ℕ
-count_of (Done w) = w.count
-count_of (Failed w e) = 0
-count_of (Refused f) = 0
+abbrev pub Ready : Parser → Type 0
+Ready p = ReadyOf (inp_of p) (mem_of p) (walk_of p)
 
--- never a failure
-abbrev pub Sure : Parsed → Type 0
-Sure (Done w) = Unit {0}
-Sure (Failed w e) = ⊥
-Sure (Refused f) = Unit {0}
+-- what is read is as it was, and what is lent is the same memory and as long
+pub record Kept (p q : Parser) : Type 0 where
+  pub inp : inp_of q ≡ inp_of p
+  pub symbols_name : q.symbols.ghost_name ≡ p.symbols.ghost_name
+  pub head_name : q.head.ghost_name ≡ p.head.ghost_name
+  pub load_name : q.load.ghost_name ≡ p.load.ghost_name
+  pub symbols : length q.symbols.now ≡ length p.symbols.now
+  pub head : length q.head.now ≡ length p.head.now
+  pub load : length q.load.now ≡ length p.load.now
 
--- never done
-abbrev pub Lost : Parsed → Type 0
-Lost (Done w) = ⊥
-Lost (Failed w e) = Unit {0}
-Lost (Refused f) = Unit {0}
+-- from the parser p, where it is ready, f gives r and leaves the parser q, j tokens farther at least, whatever was listed before
+pub record Does {A : Type 0} (j : ℕ) (f : Ctx → St → Out A) (p : Parser) (r : Result A Stop) (q : Parser) : Type 0 where
+  pub kept : Kept p q
+  pub same : Ready p → (E : List Err) → length E ≡ p.errors → outcome_of (inp_of p) E r (mem_of q) (walk_of q) ≡ f (ctx_at p) (abs_at E p)
+  pub fine : Ready p → FineOf (inp_of p) (mem_of q) (j + p.at) p.errors r (walk_of q)
 
--- the walk stands where it stood
-abbrev pub ThereOf : ℕ → Parsed → Type 0
-ThereOf a (Done w) = w.at ≡ a
-ThereOf a (Failed w e) = Unit {0}
-ThereOf a (Refused f) = Unit {0}
+-- an answer that is a refusal or a value
+abbrev pub lifted : {A : Type 0} → Result A Refusal → Result A Stop
+lifted (Ok a) = Ok a
+lifted (Stopped f) = Stopped (Refused f)
 
-abbrev pub used_by : Parsed → ℕ
-used_by (Done w) = w.nodes
-used_by (Failed w e) = w.nodes
-used_by (Refused f) = 0
+-- the token in front is there, and no panic
+abbrev pub StandsAt : Parser → Type 0
+StandsAt p = Stands p.offs.now p.words.now (walk_of p)
 
--- one error more is listed
-abbrev pub more : Walk → Walk
-more w = record { at = w.at; nodes = w.nodes; symbols = w.symbols; level = w.level; errors = w.errors + 1; check = w.check; count = w.count }
+-- the nodes' words are as many as each other, and hold the nodes
+abbrev pub Paired : Parser → Type 0
+Paired p = (length p.head.now ≡ length p.load.now) × (p.nodes ≤ length p.head.now)
 
--- name checking on or off
-abbrev pub checked_by : Walk → Bool → Walk
-checked_by w b = record { at = w.at; nodes = w.nodes; symbols = w.symbols; level = w.level; errors = w.errors; check = b; count = w.count }
-
--- the count, with the walk
-abbrev pub counted_by : Walk → ℕ → Walk
-counted_by w n = record { at = w.at; nodes = w.nodes; symbols = w.symbols; level = w.level; errors = w.errors; check = w.check; count = n }
-
--- another level
-abbrev pub leveled_by : Walk → ℕ → Walk
-leveled_by w l = record { at = w.at; nodes = w.nodes; symbols = w.symbols; level = l; errors = w.errors; check = w.check; count = w.count }
-
--- so many symbols
-abbrev pub stored_by : Walk → ℕ → Walk
-stored_by w n = record { at = w.at; nodes = w.nodes; symbols = n; level = w.level; errors = w.errors; check = w.check; count = w.count }
+-- how far a token is passed: not at all where it is Eof
+abbrev pub passes : Parser → ℕ
+passes p = elim (eqb (here p) Eof) [ true ↦ 0 | false ↦ 1 ]

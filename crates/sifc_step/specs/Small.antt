@@ -1,77 +1,129 @@
--- What the small functions of the walk promise, whatever else is lent.
-use Rattle.std.specs.Prelude.{ℕ, ◌≤◌, ◌<◌, ◌≡◌, List, Bool, false, length, get_or}
+-- What the small functions of the walk promise.
+use Rattle.std.specs.Prelude.{ℕ, ◌+◌, ◌-◌, ◌<◌, ◌≡◌, List, ◌∷◌, Bool, true, false, length, get_or, eqb, Result, Ok, Err as Stopped}
+use Rattle.sifc_err.specs.declared.Refusal.{Refusal}
 use Rattle.sifc_word.specs.Kind.{Eof, Ident}
+use Rattle.sifc_def.specs.declared.Err.{Err}
 use Rattle.sifc_def.specs.declared.Why.{Why}
 use Rattle.sifc_def.specs.declared.What.{What}
-use Rattle.sifc_def.specs.State.{Node, node, Ctx, St, Out, go_on, consume, raise, add_error_w_pos, throw, throw_past, expect, ident, push}
-use Rattle.sifc_def.specs.Symbols.{store}
+use Rattle.sifc_def.specs.State.{Node, node, Ctx, done, refuse, M, Void, go_on, consume, raise, add_error_w_pos, add_error, throw, throw_past, expect, ident, push}
+use Rattle.sifc_def.specs.Symbols.{store, init_scope, close_scope}
 use Rattle.sifc_def.specs.Expr.{separator, literal, single}
-use Rattle.sifc_step.specs.declared.walk.Limits.{Limits}
-use Rattle.sifc_step.specs.declared.walk.Walk.{Walk}
+use Rattle.sifc_step.specs.declared.walk.Parser.{Parser}
+use Rattle.sifc_step.specs.declared.walk.Stop.{Stop}
+use Rattle.sifc_step.specs.declared.walk.Stop.TheVariants.{Failed, Refused}
 use Rattle.sifc_step.specs.declared.walk.Target.{Target}
-use Rattle.sifc_step.specs.declared.walk.Parsed.{Parsed}
-use Rattle.sifc_step.specs.declared.walk.Parsed.TheVariants.{Done}
-use Rattle.sifc_step.specs.Abs.{Inp, Mem, inp, mem, kind_in, flag_in, kids_in, node_in, nodes_of, kind_at, Ready, DoesAs, Does, Counts, count_of, Sure, Lost, ThereOf}
+use Rattle.sifc_step.specs.Abs.{kind_in, flag_in, kids_in, node_in, nodes_of, ctx_at, abs_at, here, Paired, passes, Does, lifted}
 
--- a node appended
-pub record Pushes (hs ls : List ℕ) (w : Walk) (h tok : ℕ) (r : Parsed) (hs' ls' : List ℕ) : Type 0 where
-  pub sure : Sure r
-  pub there : ThereOf w.at r
-  pub does : (I : Inp) (ys : List ℕ) → Ready I (mem ys hs ls) w → Does 0 (λ c. push c (kind_in h) (flag_in h) (kids_in h) tok) I (mem ys hs ls) w r (mem ys hs' ls')
+-- ── what is left as it was, whatever else is lent ──
+
+-- all but the token in front
+abbrev pub Moves : Parser → Parser → Type 0
+Moves p q = q ≡ record p { at = q.at }
+
+-- all but how many errors are listed
+abbrev pub Counts : Parser → Parser → Type 0
+Counts p q = q ≡ record p { errors = q.errors }
+
+-- all but these two
+abbrev pub Passes : Parser → Parser → Type 0
+Passes p q = q ≡ record p { at = q.at; errors = q.errors }
+
+-- all but the nodes
+abbrev pub Grows : Parser → Parser → Type 0
+Grows p q = q ≡ record p { head = q.head; load = q.load; nodes = q.nodes }
+
+-- all but the token in front and the nodes
+abbrev pub GrowsPast : Parser → Parser → Type 0
+GrowsPast p q = q ≡ record p { at = q.at; head = q.head; load = q.load; nodes = q.nodes }
+
+-- all but the names
+abbrev pub Declares : Parser → Parser → Type 0
+Declares p q = q ≡ record p { symbols = q.symbols; stored = q.stored }
+
+-- ── the steps ──
 
 -- a token passed: by one where it is not Eof
-pub record Consumes (os ks : List ℕ) (l : Limits) (w : Walk) (r : Parsed) : Type 0 where
-  pub sure : Sure r
-  pub stays : kind_at ks w.at ≡ Eof → r ≡ Done w
-  pub does : (j : ℕ) (s : List ℕ) (M : Mem) → j ≤ 1 → (kind_at ks w.at ≡ Eof → j ≡ 0) → Ready (inp s os ks l) M w → Does j (λ c. consume c) (inp s os ks l) M w r M
+pub record Consumes (p : Parser) (r : Result (Unit {0}) Refusal) (q : Parser) : Type 0 where
+  pub does : Does (passes p) (λ c. consume c) p (lifted r) q
+  pub alone : Moves p q
+  pub stays : here p ≡ Eof → (r ≡ Ok tt) × (q ≡ p)
+
+-- how far a token is passed that is asked for
+abbrev pub passes_if : ℕ → Parser → ℕ
+passes_if ty p = elim (eqb (here p) ty) [ true ↦ passes p | false ↦ 0 ]
 
 -- the same of a given kind: by one where it is there and not Eof
-pub record Expects (os ks : List ℕ) (l : Limits) (w : Walk) (ty : ℕ) (r : Parsed) : Type 0 where
-  pub does : (j : ℕ) (s : List ℕ) (M : Mem) → j ≤ 1 → ((kind_at ks w.at ≡ ty → ⊥) → j ≡ 0) → (ty ≡ Eof → j ≡ 0) → Ready (inp s os ks l) M w → Does j (λ c. expect c ty) (inp s os ks l) M w r M
+pub record Expects (p : Parser) (ty : ℕ) (r : Result (Unit {0}) Stop) (q : Parser) : Type 0 where
+  pub does : Does (passes_if ty p) (λ c. expect c ty) p r q
+  pub alone : Moves p q
 
-pub record Separates (os ks : List ℕ) (l : Limits) (w : Walk) (r : Parsed) : Type 0 where
-  pub does : (s : List ℕ) (M : Mem) → Ready (inp s os ks l) M w → Does 0 (λ c. separator c) (inp s os ks l) M w r M
+pub record Separates (p : Parser) (r : Result (Unit {0}) Stop) (q : Parser) : Type 0 where
+  pub does : Does 0 (λ c. separator c) p r q
+  pub alone : Moves p q
 
 -- `Err(self.add_error_w_pos(..))`
-abbrev pub throw_at : {A : Type 0} → ℕ → Why → Ctx → St → Out A
+abbrev pub throw_at : {A : Type 0} → ℕ → Why → Ctx → M A
 throw_at i why c s = go_on (add_error_w_pos c i why s) (λ e. raise c e)
 
--- an error that is listed, in a function that gives nothing else, and in one that counts
-pub record ThrowsAt (l : Limits) (w : Walk) (i : ℕ) (why : Why) (r : Parsed) : Type 0 where
-  pub does : (s os ks : List ℕ) (M : Mem) → Ready (inp s os ks l) M w → Does 0 (throw_at i why) (inp s os ks l) M w r M
-  pub counts : (s os ks : List ℕ) (M : Mem) → Ready (inp s os ks l) M w → Counts 0 (throw_at i why) (inp s os ks l) M w r M
-  pub none : count_of r ≡ 0
+-- the error that is listed, and the parser with one error more, where it was; or the refusal
+pub record Added (m : Ctx → M Err) (why : Why) (p : Parser) (e : Err) (q : Parser) : Type 0 where
+  pub says : (E : List Err) → length E ≡ p.errors → m (ctx_at p) (abs_at E p) ≡ done e (abs_at (e ∷ E) q)
+  pub which : e.why ≡ why
+  pub there : q.at ≡ p.at
+  pub more : q.errors ≡ p.errors + 1
 
-pub record Throws (l : Limits) (w : Walk) (why : Why) (r : Parsed) : Type 0 where
-  pub does : (s os ks : List ℕ) (M : Mem) → Ready (inp s os ks l) M w → Does 0 (λ c. throw c why) (inp s os ks l) M w r M
-  pub counts : (s os ks : List ℕ) (M : Mem) → Ready (inp s os ks l) M w → Counts 0 (λ c. throw c why) (inp s os ks l) M w r M
-  pub none : count_of r ≡ 0
+abbrev pub Adds : (Ctx → M Err) → Why → Parser → Stop → Parser → Type 0
+Adds m why p (Failed e) q = Added m why p e q
+Adds m why p (Refused g) q = (E : List Err) → length E ≡ p.errors → m (ctx_at p) (abs_at E p) ≡ refuse g
 
--- an error whose token is passed
-pub record Pasts (os ks : List ℕ) (l : Limits) (w : Walk) (why : Why) (r : Parsed) : Type 0 where
-  pub lost : Lost r
-  pub does : (s : List ℕ) (M : Mem) → Ready (inp s os ks l) M w → Does 1 (λ c. throw_past c why) (inp s os ks l) M w r M
+-- an error that is listed, whatever the function gives
+pub record ThrowsAt (p : Parser) (i : ℕ) (why : Why) (stop : Stop) (q : Parser) : Type 0 where
+  pub does : Does {A = Unit {0}} 0 (throw_at i why) p (Stopped stop) q
+  pub counts : Does {A = ℕ} 0 (throw_at i why) p (Stopped stop) q
+  pub adds : Adds (λ c. add_error_w_pos c i why) why p stop q
+  pub alone : Counts p q
+
+pub record Throws (p : Parser) (why : Why) (stop : Stop) (q : Parser) : Type 0 where
+  pub does : Does {A = Unit {0}} 0 (λ c. throw c why) p (Stopped stop) q
+  pub counts : Does {A = ℕ} 0 (λ c. throw c why) p (Stopped stop) q
+  pub adds : Adds (λ c. add_error c why) why p stop q
+  pub alone : Counts p q
+
+-- an error that is listed, and whose token is passed
+pub record Pasts (p : Parser) (why : Why) (stop : Stop) (q : Parser) : Type 0 where
+  pub does : Does {A = Unit {0}} 1 (λ c. throw_past c why) p (Stopped stop) q
+  pub alone : Passes p q
+
+-- a node appended
+pub record Pushes (p : Parser) (word pay : ℕ) (r : Result (Unit {0}) Refusal) (q : Parser) : Type 0 where
+  pub does : Does 0 (λ c. push c (kind_in word) (flag_in word) (kids_in word) pay) p (lifted r) q
+  pub alone : Grows p q
+  pub holds : Paired p → Paired q
 
 -- a node for the token in front, and the token passed
-pub record Literals (os ks hs ls : List ℕ) (l : Limits) (w : Walk) (r : Parsed) (hs' ls' : List ℕ) : Type 0 where
-  pub does : (s ys : List ℕ) → Ready (inp s os ks l) (mem ys hs ls) w → (kind_at ks w.at ≡ Eof → ⊥) → Does 1 (λ c. literal c w.at) (inp s os ks l) (mem ys hs ls) w r (mem ys hs' ls')
+pub record Literals (p : Parser) (r : Result (Unit {0}) Refusal) (q : Parser) : Type 0 where
+  pub does : Does (passes p) (λ c. literal c p.at) p (lifted r) q
+  pub alone : GrowsPast p q
 
 -- the node that a target stands for, and the newest node
 abbrev pub node_of : Target → Node
 node_of t = node_in t.head t.load
 
-abbrev pub newest : ℕ → List ℕ → List ℕ → Node
-newest n hs ls = get_or (nodes_of n hs ls) 0 (node 0 false 0 0)
+abbrev pub newest : Parser → Node
+newest p = get_or (nodes_of p.nodes p.head.now p.load.now) 0 (node 0 false 0 0)
 
--- the end of a table access and of an array access, by their node's kind, panic and opening sign
-pub record Accesses (os hs ls : List ℕ) (w : Walk) (t : Target) (h fault i : ℕ) (r : Parsed) (hs' ls' : List ℕ) : Type 0 where
-  pub does : (s ks ys : List ℕ) (l : Limits) → Ready (inp s os ks l) (mem ys hs ls) w → i < length ks
-      → Does 0 (λ c s. go_on (single c (node_of t) fault i s) (λ a. push c (kind_in h) (flag_in h) (kids_in h) 0)) (inp s os ks l) (mem ys hs ls) w r (mem ys hs' ls')
+-- the end of a table access and of an array access, by their node's first word, panic and opening sign
+abbrev pub accesses : Target → ℕ → ℕ → ℕ → Ctx → Void
+accesses t h fault i c s = go_on (single c (node_of t) fault i s) (λ a. push c (kind_in h) (flag_in h) (kids_in h) 0)
+
+pub record Accesses (p : Parser) (t : Target) (h fault i : ℕ) (r : Result (Unit {0}) Refusal) (q : Parser) : Type 0 where
+  pub does : Does 0 (accesses t h fault i) p (lifted r) q
+  pub alone : Grows p q
 
 -- a name, whose token is the one in front; or two errors
-pub record Idents (os ks : List ℕ) (l : Limits) (w : Walk) (why : Why) (r : Parsed) : Type 0 where
-  pub does : (y : ℕ → Why) (j : ℕ) (s : List ℕ) (M : Mem) → y w.at ≡ why → j ≤ 1 → ((kind_at ks w.at ≡ Ident → ⊥) → j ≡ 0) → Ready (inp s os ks l) M w
-      → DoesAs (λ x. w.at) j (λ c. ident c y) (inp s os ks l) M w r M
+pub record Idents (p : Parser) (why : Why) (r : Result ℕ Stop) (q : Parser) : Type 0 where
+  pub does : (y : ℕ → Why) → y p.at ≡ why → Does (elim (eqb (here p) Ident) [ true ↦ 1 | false ↦ 0 ]) (λ c. ident c y) p r q
+  pub alone : Passes p q
 
 -- a node's first word
 pub record HeadWord (k : ℕ) (f : Bool) (n r : ℕ) : Type 0 where
@@ -80,7 +132,22 @@ pub record HeadWord (k : ℕ) (f : Bool) (n r : ℕ) : Type 0 where
   pub kids : kids_in r ≡ n
 
 -- a symbol stored
-pub record Puts (s os ks ys : List ℕ) (w : Walk) (i : ℕ) (what : What) (r : Parsed) (ys' : List ℕ) : Type 0 where
-  pub sure : Sure r
-  pub there : ThereOf w.at r
-  pub does : (l : Limits) (hs ls : List ℕ) → Ready (inp s os ks l) (mem ys hs ls) w → Does 0 (λ c. store c i what) (inp s os ks l) (mem ys hs ls) w r (mem ys' hs ls)
+pub record Puts (p : Parser) (i : ℕ) (what : What) (r : Result (Unit {0}) Refusal) (q : Parser) : Type 0 where
+  pub does : Does 0 (λ c. store c i what) p (lifted r) q
+  pub alone : Declares p q
+
+-- the words of the nodes, which a name that is stored leaves as they are
+abbrev pub SameNodes : Parser → Parser → Type 0
+SameNodes p q = (q.head ≡ p.head) × (q.load ≡ p.load)
+
+-- another level
+abbrev pub leveled_by : Parser → ℕ → Parser
+leveled_by p n = record p { level = n }
+
+pub record Opens (p q : Parser) : Type 0 where
+  pub does : p.level < p.at → Does 0 (λ c. init_scope c) p (Ok tt) q
+  pub alone : q ≡ leveled_by p (p.level + 1)
+
+pub record Closes (p q : Parser) : Type 0 where
+  pub does : Does 0 (λ c. close_scope c) p (Ok tt) q
+  pub alone : q ≡ leveled_by p (p.level - 1)

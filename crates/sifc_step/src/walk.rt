@@ -1,5 +1,4 @@
-// The state of a reading, by value: what of Parser is no lent array.
-use sifc_def::Err;
+// The parser: what of Parser of parser.rs a reading has.
 use sifc_err::Refusal;
 
 // What stays as it is through a reading: how many errors there is room for, and the kind of the
@@ -10,26 +9,43 @@ pub struct Limits {
     pub fault: u32,
 }
 
-// The index of the current token, how many nodes and symbols are in use, curr_lvl, how many errors
-// are listed, should_check_sym_tab, and where a call counts, its count.
-#[derive(Clone, Copy)]
-pub struct Walk {
+// The script and the two words of each of its tokens; the symbol words and the two words of each node,
+// lent to be written; and the walk: the index of the current token, how many nodes and symbols are in
+// use, curr_lvl, how many errors are listed, and should_check_sym_tab.
+#[derive(Drop)]
+pub struct Parser<'a> {
+    pub script: &'a [u8],
+    pub offs: &'a [u32],
+    pub words: &'a [u32],
+    pub symbols: &'a mut [u32],
+    pub head: &'a mut [u32],
+    pub load: &'a mut [u32],
+    pub lim: Limits,
     pub at: usize,
     pub nodes: usize,
-    pub symbols: usize,
+    pub stored: usize,
     pub level: usize,
     pub errors: usize,
     pub check: bool,
-    pub count: usize,
 }
 
-// What a call comes to. A failed walk has counted its error, unless that is a TknMismatch of
-// `expect`, which lists nothing.
+// Why a call has no value: the declaration failed, or the reading is refused. A failure has counted
+// its error, unless that is a TknMismatch of `expect`, which lists nothing.
 #[derive(Clone, Copy)]
-pub enum Parsed {
-    Done(Walk),
-    Failed(Walk, Err),
+pub enum Stop {
+    Failed(sifc_def::Err),
     Refused(Refusal),
+}
+
+impl From<Refusal> for Stop {
+    ghost use Rattle.std.specs.Prelude.{◌≡◌};
+    ghost use Rattle.sifc_step.specs.declared.walk.Stop.TheVariants.{Refused};
+
+    ghost from_gives = { λ refusal stop. stop ≡ Refused refusal };
+
+    fn from(refusal: Refusal) -> Stop {
+        Stop::Refused(refusal)
+    }
 }
 
 // The two words of a node: that of the expression that was read last.
@@ -39,16 +55,12 @@ pub struct Target {
     pub load: u32,
 }
 
-// The error that ended a walk before Eof.
+// What a walk over all declarations comes to: how many nodes and errors there are, has_err, and the
+// error that ended it before Eof.
 #[derive(Clone, Copy)]
-pub enum Last {
-    Never,
-    By(Err),
-}
-
-// What a walk over all declarations comes to: has_err, and the error that ended it.
-#[derive(Clone, Copy)]
-pub enum Walked {
-    Finished(Walk, bool, Last),
-    Refused(Refusal),
+pub struct Walked {
+    pub nodes: usize,
+    pub errors: usize,
+    pub flag: bool,
+    pub last: Option<sifc_def::Err>,
 }

@@ -10,7 +10,8 @@ use lib.ListN.{length, length-append}
 use Rattle.sifc_def.specs.declared.What.{What}
 use Rattle.sifc_def.specs.State.{Sym}
 use Rattle.sifc_def.specs.Symbols.{put_at}
-use Rattle.sifc_symtab.specs.declared.symtab.Stored.TheVariants.{At, Full}
+use Rattle.std.specs.Prelude.{Ok, Err}
+use Rattle.sifc_err.specs.declared.Refusal.TheVariants.{SymbolsFull}
 use Rattle.sifc_symtab.specs.declared.symtab.Spot.{Spot}
 use Rattle.sifc_symtab.specs.Chains.{In, Behind, Chains}
 use Rattle.sifc_symtab.specs.Table.{name_in, level_at, token_in, hash_at, next_at, head_at, hash_of, sym_at, listed, syms_of, room_of, entered, with_next, with_head, buckets_of, bucket_at, linked, Holds, Fits, new_table, Stores}
@@ -108,12 +109,12 @@ module _ (script offs words symbols : List ℕ) (n level i k : ℕ) (w : What) (
         }
 
     -- an entry that is there is overwritten
-    pub stored-old : (symbols' : List ℕ) → symbols' ≡ entered symbols k level i w h → Stores script offs words symbols n level i w (At n) symbols'
+    pub stored-old : (symbols' : List ℕ) → symbols' ≡ entered symbols k level i w h → Stores script offs words symbols n level i w (Ok n) symbols'
     unfolding syms_of new
     stored-old symbols' c =
         let q = ap length (table_is ∙ old-table) in
         let m = length-listed (sym_at script offs words new) n 0 in
-        subst (Stores script offs words symbols n level i w (At n)) (sym c)
+        subst (Stores script offs words symbols n level i w (Ok n)) (sym c)
         (record { room = le-leb _ (room_of symbols) (omega (arith, p.holds.room)); table = sym (table_is ∙ old-table); holds = old-holds })
 
   -- ── a new one ──
@@ -134,8 +135,8 @@ module _ (script offs words symbols : List ℕ) (n level i k : ℕ) (w : What) (
     long = ap length new-key ∙ length-append (listed (sym_at script offs words symbols) 0 n) _ ∙ ap (λ (m : ℕ). m + 1) (length-listed (sym_at script offs words symbols) n 0)
 
     -- no room
-    pub stored-full : room_of symbols ≤ n → Stores script offs words symbols n level i w Full symbols
-    stored-full f = let z = long in record { room = lt-leb _ (room_of symbols) (omega arith); kept = refl }
+    pub stored-full : room_of symbols ≤ n → Stores script offs words symbols n level i w (Err SymbolsFull) symbols
+    stored-full f = let z = long in record { is = refl; room = lt-leb _ (room_of symbols) (omega arith); kept = refl }
 
     module _ (f : n < room_of symbols) where
       -- it has its words
@@ -190,7 +191,7 @@ module _ (script offs words symbols : List ℕ) (n level i k : ℕ) (w : What) (
 
         -- with chains, that is what store answers
         finished : Chains (buckets_of words symbols) (min (n + 1) linked) (level_at symbols') (bucket_at words symbols') (next_at symbols') (head_at symbols')
-            → Stores script offs words symbols n level i w (At (n + 1)) symbols'
+            → Stores script offs words symbols n level i w (Ok (n + 1)) symbols'
         finished c =
             let z = long in
             record {
@@ -223,7 +224,7 @@ module _ (script offs words symbols : List ℕ) (n level i k : ℕ) (w : What) (
             }
 
       -- past the linked ones
-      pub stored_past : linked ≤ n → Stores script offs words symbols n level i w (At (n + 1)) (entered symbols n level i w h)
+      pub stored_past : linked ≤ n → Stores script offs words symbols n level i w (Ok (n + 1)) (entered symbols n level i w h)
       unfolding one
       stored_past z =
           let kept : (j : ℕ) → Kept one one j = λ j. record { first = refl; second = refl; third = refl } in
@@ -291,7 +292,7 @@ module _ (script offs words symbols : List ℕ) (n level i k : ℕ) (w : What) (
         more = omega arith
 
         -- where it is the first of its bucket
-        front : t.prev ≡ 0 → Stores script offs words symbols n level i w (At (n + 1)) (with_head two (h % buckets_of words symbols) (n + 1))
+        front : t.prev ≡ 0 → Stores script offs words symbols n level i w (Ok (n + 1)) (with_head two (h % buckets_of words symbols) (n + 1))
         unfolding one two
         front e =
             let bk = h % buckets_of words symbols in
@@ -311,7 +312,7 @@ module _ (script offs words symbols : List ℕ) (n level i k : ℕ) (w : What) (
             (λ j q. head-next two bk (n + 1) room j ∙ next-other one n t.at j (λ r. omega arith) ∙ entered-next symbols n level i w h j)))
 
         -- where it stands behind m
-        behind : (m : ℕ) → t.prev ≡ suc m → Stores script offs words symbols n level i w (At (n + 1)) (with_next two m (n + 1))
+        behind : (m : ℕ) → t.prev ≡ suc m → Stores script offs words symbols n level i w (Ok (n + 1)) (with_next two m (n + 1))
         unfolding one two
         behind m e =
             let bk = h % buckets_of words symbols in
@@ -333,9 +334,9 @@ module _ (script offs words symbols : List ℕ) (n level i k : ℕ) (w : What) (
             (λ j q r. next-other two m (n + 1) j r ∙ next-other one n t.at j (λ y. omega arith) ∙ entered-next symbols n level i w h j)))
 
         -- a new symbol in its chain
-        pub stored-linked : (symbols' : List ℕ) → Inserts words (entered symbols n level i w h) n h t.prev t.at symbols' → Stores script offs words symbols n level i w (At (n + 1)) symbols'
+        pub stored-linked : (symbols' : List ℕ) → Inserts words (entered symbols n level i w h) n h t.prev t.at symbols' → Stores script offs words symbols n level i w (Ok (n + 1)) symbols'
         unfolding one two
         stored-linked symbols' q =
             by-eq t.prev 0
-            (λ e. subst (Stores script offs words symbols n level i w (At (n + 1))) (sym (q.front e ∙ ap (λ (x : ℕ). with_head two (h % x) (n + 1)) same-buckets)) (front e))
-            (λ e. let m : t.prev ≡ suc (t.prev - 1) = omega arith in subst (Stores script offs words symbols n level i w (At (n + 1))) (sym (q.behind (t.prev - 1) m)) (behind (t.prev - 1) m))
+            (λ e. subst (Stores script offs words symbols n level i w (Ok (n + 1))) (sym (q.front e ∙ ap (λ (x : ℕ). with_head two (h % x) (n + 1)) same-buckets)) (front e))
+            (λ e. let m : t.prev ≡ suc (t.prev - 1) = omega arith in subst (Stores script offs words symbols n level i w (Ok (n + 1))) (sym (q.behind (t.prev - 1) m)) (behind (t.prev - 1) m))

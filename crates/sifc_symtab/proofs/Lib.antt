@@ -7,3 +7,4 @@ pub mod Words
 pub mod Walk
 pub mod Entries
 pub mod Names
+pub mod Values

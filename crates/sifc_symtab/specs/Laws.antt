@@ -4,13 +4,13 @@ use Rattle.std.proofs.Math.Path.{refl, ap, ap₂}
 use Rattle.std.proofs.Common.{sym, ◌∙◌, arith, add-zero}
 use Rattle.std.proofs.Math.Option.{Option}
 use Rattle.sifc_err.specs.declared.Token.{Token}
+use Rattle.std.specs.Prelude.{Option as Found, Ok, Err}
+use Rattle.sifc_err.specs.declared.Refusal.{Refusal}
 use Rattle.sifc_err.specs.declared.Refusal.TheVariants.{SymbolsFull}
 use Rattle.sifc_word.specs.Base.{if◌then◌otherwise◌}
 use Rattle.sifc_def.specs.declared.What.{What}
 use Rattle.sifc_def.specs.State.{Sym, Ctx, St, done, refuse, name_of, word_in, token_at, name_at}
 use Rattle.sifc_def.specs.Symbols.{find, put_at, retrieve, store}
-use Rattle.sifc_symtab.specs.declared.symtab.Found.{Found}
-use Rattle.sifc_symtab.specs.declared.symtab.Stored.TheVariants.{At, Full}
 use Rattle.sifc_symtab.specs.Toks.{toks_of}
 use Rattle.sifc_symtab.specs.Table.{name_in, sym_at, listed, syms_of, room_of, found_of, Retrieves, new_table, room_for, Stores}
 
@@ -56,10 +56,10 @@ module _ (c : Ctx) (offs words : List ℕ) where
     pub name : name_in c.script offs words i ≡ name_at c i
     pub table : syms_of c.script offs words symbols n ≡ s.syms
 
-  pub retrieve-is : (s : St) (symbols : List ℕ) (n i : ℕ) → Stands s symbols n i → (r : Found) (symbols' : List ℕ)
-      → Retrieves c.script offs words symbols n s.level i r symbols' → retrieve c (name_at c i) s ≡ done (found_of r) s
+  pub retrieve-is : (s : St) (symbols : List ℕ) (n i : ℕ) → Stands s symbols n i → (r : Found What)
+      → Retrieves c.script offs words symbols n s.level i r → retrieve c (name_at c i) s ≡ done (found_of r) s
   unfolding retrieve
-  retrieve-is s symbols n i t r symbols' e = ap (λ (o : Option What). done o s) (sym (e.found ∙ ap₂ (find s.level) t.name t.table))
+  retrieve-is s symbols n i t r e = ap (λ (o : Option What). done o s) (sym (e ∙ ap₂ (find s.level) t.name t.table))
 
   module _ (s : St) (symbols : List ℕ) (n i : ℕ) (t : Stands s symbols n i) (room : c.sym_room ≡ room_of symbols) (w : What) (symbols' : List ℕ) where
     new_is : new_table c.script offs words symbols n s.level i w ≡ put_at s.level (name_at c i) w s.syms
@@ -68,11 +68,11 @@ module _ (c : Ctx) (offs words : List ℕ) where
     fits-is : leb (length (put_at s.level (name_at c i) w s.syms)) c.sym_room ≡ room_for c.script offs words symbols n s.level i w
     fits-is = ap₂ (λ (x : List Sym) (y : ℕ). leb (length x) y) (sym new_is) room
 
-    pub store_at : (m : ℕ) → Stores c.script offs words symbols n s.level i w (At m) symbols'
+    pub store_at : (m : ℕ) → Stores c.script offs words symbols n s.level i w (Ok m) symbols'
         → store c i w s ≡ done tt (record { at = s.at; nodes = s.nodes; syms = syms_of c.script offs words symbols' m; level = s.level; check = s.check; errs = s.errs })
     unfolding store if◌then◌otherwise◌
     store_at m p = rw (fits-is ∙ p.room, p.table ∙ new_is) refl
 
-    pub store-full : Stores c.script offs words symbols n s.level i w Full symbols' → store c i w s ≡ refuse SymbolsFull
+    pub store-full : {f : Refusal} → Stores c.script offs words symbols n s.level i w (Err f) symbols' → store c i w s ≡ refuse SymbolsFull
     unfolding store if◌then◌otherwise◌
-    store-full p = rw (fits-is ∙ p.room) refl
+    store-full {f} p = rw (fits-is ∙ p.room) refl

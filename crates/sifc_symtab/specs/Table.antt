@@ -1,6 +1,6 @@
 -- The symbol table in its lent words, four to a symbol: its level and what it was declared with; its name's token; what it was declared as and its name's
 -- hash; and two links of the chains by which it is found. Nothing outside this crate knows more of them than syms_of says.
-use Rattle.std.specs.Prelude.{ℕ, zero, suc, ◌+◌, ◌*◌, ◌/◌, ◌%◌, ◌≤◌, ◌<◌, min, ◌≡◌, List, [], ◌∷◌, Bool, true, false, eqb, leb, length, get_or, set}
+use Rattle.std.specs.Prelude.{Option as Found, Some, None, Result, Ok, Err, ℕ, zero, suc, ◌+◌, ◌*◌, ◌/◌, ◌%◌, ◌≤◌, ◌<◌, min, ◌≡◌, List, [], ◌∷◌, Bool, true, false, eqb, leb, length, get_or, set}
 use Rattle.std.proofs.Math.Option.{Option, none, some}
 use Rattle.sifc_word.specs.Base.{if◌then◌otherwise◌}
 use Rattle.sifc_def.specs.declared.What.{What}
@@ -8,10 +8,8 @@ use Rattle.sifc_def.specs.declared.What.TheVariants.{Placeholder, Function, Vari
 use Rattle.sifc_def.specs.Read.{words_per_symbol}
 use Rattle.sifc_def.specs.State.{Sym, name_of, word_in, token_at}
 use Rattle.sifc_def.specs.Symbols.{find, put_at}
-use Rattle.sifc_symtab.specs.declared.symtab.Found.{Found}
-use Rattle.sifc_symtab.specs.declared.symtab.Found.TheVariants.{Nothing, Declared}
-use Rattle.sifc_symtab.specs.declared.symtab.Stored.{Stored}
-use Rattle.sifc_symtab.specs.declared.symtab.Stored.TheVariants.{At, Full}
+use Rattle.sifc_err.specs.declared.Refusal.{Refusal}
+use Rattle.sifc_err.specs.declared.Refusal.TheVariants.{SymbolsFull}
 use Rattle.sifc_symtab.specs.Toks.{toks_of}
 use Rattle.sifc_symtab.specs.Chains.{Chains}
 
@@ -159,15 +157,19 @@ pub record Fits (script offs words symbols : List ℕ) (n level i : ℕ) (w : Wh
   pub value-fits : value_of w < 65536
 
 -- what retrieve answers, as the definition has it
-abbrev pub found_of : Found → Option What
-found_of Nothing = none
-found_of (Declared w) = some w
+abbrev pub found_of : Found What → Option What
+found_of None = none
+found_of (Some w) = some w
+
+-- the number that comes with what was found: a count or a token
+abbrev pub value_in : Found What → ℕ
+value_in None = 0
+value_in (Some w) = value_of w
 
 module _ (script offs words symbols : List ℕ) (n level i : ℕ) where
-  -- retrieve: what the definition finds, and the words are as they were.
-  pub record Retrieves (r : Found) (symbols' : List ℕ) : Type 0 where
-    pub found : found_of r ≡ find level (name_in script offs words i) (syms_of script offs words symbols n)
-    pub kept : symbols' ≡ symbols
+  -- retrieve: what the definition finds
+  abbrev pub Retrieves : Found What → Type 0
+  Retrieves r = found_of r ≡ find level (name_in script offs words i) (syms_of script offs words symbols n)
 
   -- the definition's table after a store
   abbrev pub new_table : What → List Sym
@@ -182,12 +184,13 @@ module _ (script offs words symbols : List ℕ) (n level i : ℕ) where
     pub table : syms_of script offs words symbols' m ≡ new_table w
     pub holds : Holds script offs words symbols' m
 
-  pub record NoRoom (w : What) (symbols' : List ℕ) : Type 0 where
+  pub record NoRoom (w : What) (refusal : Refusal) (symbols' : List ℕ) : Type 0 where
+    pub is : refusal ≡ SymbolsFull
     pub room : room_for w ≡ false
     pub kept : symbols' ≡ symbols
 
-  -- store: the number of symbols that there are now, and the words stand for the definition's table; or Full, exactly when that has no room, and the words
-  -- are as they were.
-  abbrev pub Stores : What → Stored → List ℕ → Type 0
-  Stores w (At m) symbols' = Put w m symbols'
-  Stores w Full symbols' = NoRoom w symbols'
+  -- store: the number of symbols that there are now, and the words stand for the definition's table; or refusal 8, exactly when that has no room, and the
+  -- words are as they were.
+  abbrev pub Stores : What → Result ℕ Refusal → List ℕ → Type 0
+  Stores w (Ok m) symbols' = Put w m symbols'
+  Stores w (Err refusal) symbols' = NoRoom w refusal symbols'

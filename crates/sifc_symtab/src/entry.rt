@@ -69,7 +69,8 @@ pub fn head_at(symbols: &[u32], b: usize) -> usize
 // What symbol k was declared as.
 pub fn what_at(symbols: &[u32], k: usize) -> What
     requires { k * 4 + 4 ≤ length symbols.now }
-    ensures { result ≡ what_at symbols.now k }
+    ensures is { result ≡ what_at symbols.now k }
+    ensures fits { value_of result < 65536 }
 {
     what_of(symbols[4 * k + 2] % 8, symbols[4 * k] / 65536)
 }

@@ -6,5 +6,5 @@ mod entry;
 mod symtab;
 mod token;
 
-pub use symtab::{Found, Stored, open, retrieve, store};
+pub use symtab::{open, retrieve, store};
 pub use token::name;

@@ -1,7 +1,7 @@
 // store and retrieve of symtab.rs: the table is a map from (level, name). Symbols whose names have one
 // hash, or hashes of one bucket, are in one chain, the highest level first.
 ghost use Rattle.std.specs.Prelude.{◌≡◌, ◌+◌, ◌*◌, ◌≤◌, ◌<◌, length};
-ghost use Rattle.sifc_symtab.specs.Table.{hash_of, sym_at, Holds, Opens, Fits, Retrieves, Stores};
+ghost use Rattle.sifc_symtab.specs.Table.{hash_of, sym_at, Holds, Opens, Fits, Retrieves, value_in, Stores};
 ghost use Rattle.sifc_symtab.specs.Seek.{Stops, Hashed, Sought, FoundAt, Nearer, Best, InsertAt, Inserts};
 
 use crate::entry::{
@@ -9,24 +9,11 @@ use crate::entry::{
 };
 use crate::token::{hash_of, name};
 use sifc_def::What;
+use sifc_err::Refusal;
 use sifc_word::same;
 
 // A link has 16 bits: symbols from this number on are in no chain and are searched one by one.
 const LINKED: usize = 65535;
-
-// What retrieve answers.
-#[derive(Clone, Copy)]
-pub enum Found {
-    Nothing,
-    Declared(What),
-}
-
-// What store answers: how many symbols there are now, or that a new one has no room.
-#[derive(Clone, Copy)]
-pub enum Stored {
-    At(usize),
-    Full,
-}
 
 // Where a walk along a chain has ended: the link to the symbol there, and the link before it. 0 is the
 // chain's end, and what stands before its first symbol.
@@ -41,10 +28,8 @@ pub fn open(words: &[u32], symbols: &mut [u32])
     ensures { Opens words.now symbols.new }
 {
     let count = buckets(words, symbols);
-    let mut b = 0;
-    while b < count {
+    for b in 0..count {
         symbols[4 * b + 3] = 0;
-        b += 1;
     }
 }
 
@@ -182,31 +167,30 @@ fn look(
     ensures { Best (sym_at script.now offs.now words.now symbols.now) low high sought.now n n result }
 {
     let mut best = found_at(symbols, n, low, spot.at);
-    let mut k = LINKED;
-    while k < n {
+    for k in LINKED..n {
         if nearer(
             script, offs, words, symbols, n, low, high, hash, sought, best, k,
         ) {
             best = k;
         }
-        k += 1;
     }
     best
 }
 
 // What token i's name was declared as: the entry of the highest level that is not above the current
-// one. The symbols are lent to be written, as a table that marks what is read would want.
+// one.
 pub fn retrieve(
     script: &[u8],
     offs: &[u32],
     words: &[u32],
-    symbols: &mut [u32],
+    symbols: &[u32],
     n: usize,
     level: usize,
     i: usize,
-) -> Found
-    requires { Holds script.now offs.now words.now symbols.old n }
-    ensures { Retrieves script.now offs.now words.now symbols.old n level i result symbols.new }
+) -> Option<What>
+    requires { Holds script.now offs.now words.now symbols.now n }
+    ensures found { Retrieves script.now offs.now words.now symbols.now n level i result }
+    ensures fits { value_in result < 65536 }
 {
     let sought = name(script, offs, words, i);
     let hash = hash_of(sought);
@@ -215,9 +199,9 @@ pub fn retrieve(
         script, offs, words, symbols, n, 0, level, hash, sought, spot,
     );
     if k < n {
-        return Found::Declared(what_at(symbols, k));
+        return Some(what_at(symbols, k));
     }
-    Found::Nothing
+    None
 }
 
 // Puts symbol n into the chain of its bucket, between the links prev and at.
@@ -234,7 +218,8 @@ fn insert(words: &[u32], symbols: &mut [u32], n: usize, hash: usize, prev: usize
     }
 }
 
-// Declares token i's name at a level: an entry of that level and name is overwritten and needs no room.
+// Declares token i's name at a level, and answers how many symbols there are now: an entry of that level
+// and name is overwritten and needs no room.
 pub fn store(
     script: &[u8],
     offs: &[u32],
@@ -244,7 +229,7 @@ pub fn store(
     level: usize,
     i: usize,
     what: What,
-) -> Stored
+) -> Result<usize, Refusal>
     requires { Fits script.now offs.now words.now symbols.old n level i what }
     ensures { Stores script.now offs.now words.now symbols.old n level i what result symbols.new }
 {
@@ -256,14 +241,14 @@ pub fn store(
     );
     if k < n {
         put(symbols, k, level, i, what, hash);
-        return Stored::At(n);
+        return Ok(n);
     }
     if room(symbols) <= n {
-        return Stored::Full;
+        return Err(Refusal::SymbolsFull);
     }
     put(symbols, n, level, i, what, hash);
     if n < LINKED {
         insert(words, symbols, n, hash, spot.prev, spot.at);
     }
-    Stored::At(n + 1)
+    Ok(n + 1)
 }

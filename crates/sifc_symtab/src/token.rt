@@ -41,10 +41,8 @@ pub fn hash_of(s: &[u8]) -> usize
     ensures { result ≡ hash_of s.now }
 {
     let mut hash: usize = 0;
-    let mut i = 0;
-    while i < s.len() {
-        hash = (hash * 16777619 + s[i] as usize) % 536870912;
-        i += 1;
+    for b in s {
+        hash = (hash * 16777619 + *b as usize) % 536870912;
     }
     hash
 }

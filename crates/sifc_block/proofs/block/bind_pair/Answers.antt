@@ -1,36 +1,36 @@
-use native.Mathlib.Omega.{arith}
-use mathlib.Core.Path.{refl}
-use mathlib.Core.List.{[], ◌∷◌}
+use Rattle.std.specs.Prelude.{[], ◌∷◌, refl}
+use Rattle.std.proofs.Common.{arith}
 use Rattle.sifc_def.specs.declared.What.TheVariants.{Other}
 use Rattle.sifc_def.specs.Symbols.{store}
 use Rattle.sifc_def.specs.Stmt.{bind as bind_all}
-use Rattle.sifc_step.specs.Steps.{begin, gives, go, halt, last, by, blank, blanks}
-use Rattle.sifc_step.specs.SmallLaws.{put}
-use Rattle.sifc_block.proofs.Tags.{not_done}
-use Rattle.sifc_block.proofs.Blocks.{fits-other, kept-symbols, and_ok}
+use Rattle.sifc_symtab.specs.Table.{value_of}
+use Rattle.sifc_step.proofs.Steps.{begin, go, refused, last, by}
+use Rattle.sifc_step.proofs.Small.{handed, fits}
+use Rattle.sifc_block.proofs.Blocks.{and_ok, nodes-still, nodes-on}
 use Rattle.sifc_block.proofs.block.bind_pair.Goals as goal
 
-pub store_name-one-requires : goal.store_name-one-requires
-store_name-one-requires c = fits-other c.requires.0 (omega (arith, c.requires.1))
-
-pub returns-in_default : goal.returns-in_default
-unfolding bind_all
-returns-in_default c =
-    gives (λ E e. let p0 = begin 0 (λ x. bind_all x (c.args.i ∷ c.args.j ∷ [])) E e c.requires.0 in
-    halt 0 (λ x. store x c.args.i Other) _ p0 refl (put p0.is c.store_name-one.ensures) c.store_name-one.ensures.sure (not_done _ c.in_default.not-Done))
-
 pub store_name-requires : goal.store_name-requires
+unfolding value_of
+store_name-requires c = fits c.requires.0 (omega (arith, c.requires.1)) (omega arith)
+
+pub returns-in_err-store_name : goal.returns-in_err-store_name
 unfolding bind_all
-store_name-requires c =
-    let E = blank c.args.w.errors in
-    let e = blanks c.args.w.errors in
-    let p0 = begin 0 (λ x. bind_all x (c.args.i ∷ c.args.j ∷ [])) E e c.requires.0 in
-    let p1 = go 0 (λ x. store x c.args.i Other) _ p0 refl (put p0.is c.store_name-one.ensures) (kept-symbols c.store_name-one.auto.symbols) c.in-Done.is in
-    fits-other p1.is (omega (arith, c.requires.2))
+returns-in_err-store_name c =
+    let p0 = begin 0 (λ x. bind_all x (c.args.i ∷ c.args.j ∷ [])) c.requires.0 in (
+      handed c.from_residual.result (refused (λ x. store x c.args.i Other) _ (λ x. bind_all x (c.args.i ∷ c.args.j ∷ [])) p0 c.in_err-store_name.ensures.does refl) c.from_residual.ensures,
+      nodes-still c.args.p.now c.store_name.new.self c.in_err-store_name.ensures.alone,
+    )
+
+pub store_name-requires-2 : goal.store_name-requires-2
+unfolding bind_all value_of
+store_name-requires-2 c =
+    let p1 = go (λ x. store x c.args.i Other) _ (begin 0 (λ x. bind_all x (c.args.i ∷ c.args.j ∷ [])) c.requires.0) c.in_ok-store_name.ensures.does in
+    fits p1.is (omega (arith, c.requires.2)) (omega arith)
 
 pub returns : goal.returns
 unfolding bind_all
 returns c =
-    gives (λ E e. let p0 = begin 0 (λ x. bind_all x (c.args.i ∷ c.args.j ∷ [])) E e c.requires.0 in
-    let p1 = go 0 (λ x. store x c.args.i Other) _ p0 refl (put p0.is c.store_name-one.ensures) (kept-symbols c.store_name-one.auto.symbols) c.in-Done.is in
-    last 0 (λ x. store x c.args.j Other) (by p1 (and_ok _)) refl (omega arith) (put p1.is c.store_name.ensures))
+    let p1 = go (λ x. store x c.args.i Other) _ (begin 0 (λ x. bind_all x (c.args.i ∷ c.args.j ∷ [])) c.requires.0) c.in_ok-store_name.ensures.does in (
+      last (λ x. store x c.args.j Other) (λ x. bind_all x (c.args.i ∷ c.args.j ∷ [])) (by p1 (λ s. and_ok _)) (omega arith) c.store_name-2.ensures.does,
+      nodes-on c.args.p.now c.store_name.new.self c.store_name-2.new.self (nodes-still c.args.p.now c.store_name.new.self c.in_ok-store_name.ensures.alone) (nodes-still c.store_name.new.self c.store_name-2.new.self c.store_name-2.ensures.alone),
+    )

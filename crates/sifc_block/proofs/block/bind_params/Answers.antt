@@ -1,57 +1,34 @@
-use native.Mathlib.Omega.{arith}
-use Prim.Native.Nat.{◌+◌, ◌-◌}
-use mathlib.Core.Path.{refl, ◌∙◌}
-use lib.ListN.{get_or}
+use Rattle.std.specs.Prelude.{ℕ, ◌+◌, List, get_or, refl}
+use Rattle.std.proofs.Common.{arith, ap, MutBor}
 use Rattle.sifc_def.specs.declared.What.TheVariants.{Other}
 use Rattle.sifc_def.specs.Symbols.{store}
-use Rattle.sifc_step.specs.Steps.{gives, go, halt, fin}
-use Rattle.sifc_step.specs.SmallLaws.{put}
+use Rattle.sifc_def.specs.Stmt.{bind as bind_all}
+use Rattle.sifc_symtab.specs.Table.{value_of}
+use Rattle.sifc_step.proofs.Steps.{go, refused, fin}
+use Rattle.sifc_step.proofs.Small.{handed, fits}
 use Rattle.sifc_block.specs.Bound.{between}
-use Rattle.sifc_block.proofs.Tags.{not_done}
-use Rattle.sifc_block.proofs.Blocks.{fits-other, kept-symbols, binding-from, bound-ready, between_more, between_none, bind-first, bind-end}
+use Rattle.sifc_block.proofs.Blocks.{stored-as, bind-first, bind-end, nodes-still, nodes-on}
 use Rattle.sifc_block.proofs.block.bind_params.Goals as goal
 
-pub loop-k-init : goal.loop-k-init
-loop-k-init c = (binding-from c.args.load.now c.args.first c.args.count _ refl, omega arith, refl, refl)
+pub store_name-requires : goal.store_name-requires
+unfolding value_of
+store_name-requires c = fits c.loop-k.invariant.0.is (search) (omega arith)
 
-pub offset_bounds-load-k : goal.offset_bounds-load-k
-offset_bounds-load-k c = omega (arith, c.loop-k-test, c.loop-k.invariant.2, c.requires.1)
-
-pub bounds-load-k : goal.bounds-load-k
-bounds-load-k c = omega (arith, c.loop-k-test, c.loop-k.invariant.2, c.requires.1)
-
-pub store_name-one-requires : goal.store_name-one-requires
-store_name-one-requires c = fits-other (bound-ready (between c.args.load.now c.args.first c.args.count) (between c.args.load.now c.loop-k.k ((c.args.first + c.args.count) - c.loop-k.k)) c.loop-k.invariant.0 c.requires.0) (omega (arith, c.type_inv.load c.loop-k.k))
-
-pub shape_of-symbols-in_default : goal.shape_of-symbols-in_default
-shape_of-symbols-in_default c = c.store_name-one.auto.symbols ∙ c.loop-k.invariant.3
-
-pub returns-in_default : goal.returns-in_default
-returns-in_default c =
-    gives (λ E e. let a0 = c.loop-k.invariant.0 c.args.lim c.requires.0 E e in
-    let a1 = bind-first (between c.args.load.now c.loop-k.k ((c.args.first + c.args.count) - c.loop-k.k)) _ a0 (between_more c.args.load.now c.loop-k.k ((c.args.first + c.args.count)) c.loop-k-test.true) in
-    halt 0 (λ x. store x (get_or c.args.load.now c.loop-k.k 0) Other) _ a1 refl (put a1.is c.store_name-one.ensures) c.store_name-one.ensures.sure (not_done _ c.in_default.not-Done))
-
-pub overflow_add-k : goal.overflow_add-k
-overflow_add-k c = omega (arith, c.loop-k-test, c.loop-k.invariant.2, c.requires.1)
-
-pub loop-k-smaller : goal.loop-k-smaller
-loop-k-smaller c = omega (arith, c.loop-k-test)
+pub returns-in_err-store_name : goal.returns-in_err-store_name
+returns-in_err-store_name c =
+    let a1 = bind-first (between c.args.p.now.load.now c.args.first c.args.count) c.args.p.now.load.now c.loop-k.k (c.args.first + c.args.count) c.loop-k.invariant.0 c.loop-k-test.true in (
+      handed c.from_residual.result (refused (λ x. store x (get_or c.args.p.now.load.now c.loop-k.k 0) Other) _ (λ x. bind_all x (between c.args.p.now.load.now c.args.first c.args.count)) a1 (stored-as (ap (λ (m : MutBor (List ℕ)). get_or m.now c.loop-k.k 0) c.loop-k.invariant.1.1) c.in_err-store_name.ensures.does) refl) c.from_residual.ensures,
+      nodes-on c.args.p.now c.loop-k.p c.store_name.new.self c.loop-k.invariant.1 (nodes-still c.loop-k.p c.store_name.new.self c.in_err-store_name.ensures.alone),
+    )
 
 pub loop-k-preserved : goal.loop-k-preserved
-loop-k-preserved c = (
-  (λ l p E e. let a0 = c.loop-k.invariant.0 l p E e in
-      let a1 = bind-first (between c.args.load.now c.loop-k.k ((c.args.first + c.args.count) - c.loop-k.k)) _ a0 (between_more c.args.load.now c.loop-k.k ((c.args.first + c.args.count)) c.loop-k-test.true) in
-      go 0 (λ x. store x (get_or c.args.load.now c.loop-k.k 0) Other) _ a1 refl (put a1.is c.store_name-one.ensures) (kept-symbols c.store_name-one.auto.symbols) c.in-Done.is),
-  omega (arith, c.loop-k-test),
-  c.loop-k.invariant.2,
-  c.store_name-one.auto.symbols ∙ c.loop-k.invariant.3,
-)
-
-pub shape_of-symbols : goal.shape_of-symbols
-shape_of-symbols c = c.loop-k.invariant.3
+loop-k-preserved c =
+    let a1 = bind-first (between c.args.p.now.load.now c.args.first c.args.count) c.args.p.now.load.now c.loop-k.k (c.args.first + c.args.count) c.loop-k.invariant.0 c.loop-k-test.true in (
+      go (λ x. store x (get_or c.args.p.now.load.now c.loop-k.k 0) Other) _ a1 (stored-as (ap (λ (m : MutBor (List ℕ)). get_or m.now c.loop-k.k 0) c.loop-k.invariant.1.1) c.in_ok-store_name.ensures.does),
+      nodes-on c.args.p.now c.loop-k.p c.store_name.new.self c.loop-k.invariant.1 (nodes-still c.loop-k.p c.store_name.new.self c.in_ok-store_name.ensures.alone),
+      omega (arith, c.loop-k-test.true),
+      c.loop-k.invariant.3,
+    )
 
 pub returns : goal.returns
-returns c =
-    gives (λ E e. let a0 = c.loop-k.invariant.0 c.args.lim c.requires.0 E e in
-    fin (bind-end (between c.args.load.now c.loop-k.k ((c.args.first + c.args.count) - c.loop-k.k)) _ a0 (between_none c.args.load.now c.loop-k.k ((c.args.first + c.args.count)) (omega (arith, c.loop-k-test)))))
+returns c = (fin (λ x. bind_all x (between c.args.p.now.load.now c.args.first c.args.count)) (bind-end (between c.args.p.now.load.now c.args.first c.args.count) c.args.p.now.load.now c.loop-k.k (c.args.first + c.args.count) c.loop-k.invariant.0 (omega (arith, c.loop-k-test.false))), c.loop-k.invariant.1)

@@ -1,123 +1,55 @@
-use native.Mathlib.Omega.{arith}
-use mathlib.Core.Path.{refl, ap, ◌∙◌}
-use mathlib.Core.Bool.{false}
+use Rattle.std.proofs.Common.{arith, refl, false}
 use Rattle.sifc_def.specs.State.{expect, push}
 use Rattle.sifc_def.specs.Stmt.{ident_node, ident_pair}
-use Rattle.sifc_step.specs.declared.walk.Walk.{Walk}
-use Rattle.sifc_step.specs.Steps.{kept-nodes, same, begin, blank, blanks, gives, go, stop, none_is}
-use Rattle.sifc_step.specs.SmallLaws.{expected, pushed}
-use Rattle.sifc_declare.proofs.Tags.{not_done}
-use Rattle.sifc_declare.proofs.Ends.{paired}
+use Rattle.sifc_step.proofs.Steps.{begin, go, stop, refused, fin}
+use Rattle.sifc_step.proofs.Small.{least}
+use Rattle.sifc_declare.proofs.Ends.{pair-stops, node-next}
 use Rattle.sifc_declare.proofs.ident.ident_pair.Goals as goal
 
-pub returns-in_default : goal.returns-in_default
+pub returns-in_err-first : goal.returns-in_err-first
 unfolding ident_pair
-returns-in_default c = (
-  gives (λ E e. let p0 = begin 0 (λ x. ident_pair x) E e c.requires in
-      stop 0 (λ x. ident_node x) _ p0 refl (omega arith) c.ident_node-first.ensures (not_done _ c.in_default.not-Done)),
-  omega (arith, none_is c.ident_node-first.result (not_done _ c.in_default.not-Done)),
-)
+returns-in_err-first c =
+    let p0 = begin 0 (λ x. ident_pair x) c.requires in
+    pair-stops c.from_residual.result (stop (λ x. ident_node x) _ (λ x. ident_pair x) p0 (omega arith) c.in_err-first.ensures) c.from_residual.ensures
 
-pub expect-comma-requires : goal.expect-comma-requires
+pub returns-in_err-expect : goal.returns-in_err-expect
 unfolding ident_pair
-expect-comma-requires c =
-    let E = blank c.args.w.errors in
-    let e = blanks c.args.w.errors in
-    let p0 = begin 0 (λ x. ident_pair x) E e c.requires in
-    let p1 = go 0 (λ x. ident_node x) _ p0 refl c.ident_node-first.ensures (record { symbols = c.ident_node-first.auto.symbols; head = c.ident_node-first.auto.head; load = c.ident_node-first.auto.load }) c.in-Done.is in
-    p1.is.stands
+returns-in_err-expect c =
+    let p1 = go (λ x. ident_node x) _ (begin 0 (λ x. ident_pair x) c.requires) c.in_ok-first.ensures in
+    pair-stops c.from_residual-in_err-expect.result (stop (λ x. expect x 12) _ (λ x. ident_pair x) p1 (omega arith) c.in_err-expect.ensures.does) c.from_residual-in_err-expect.ensures
 
-pub returns-in_default-comma : goal.returns-in_default-comma
+pub ident_node-requires-2 : goal.ident_node-requires-2
 unfolding ident_pair
-returns-in_default-comma c = (
-  gives (λ E e. let p0 = begin 0 (λ x. ident_pair x) E e c.requires in
-      let p1 = go 0 (λ x. ident_node x) _ p0 refl c.ident_node-first.ensures (record { symbols = c.ident_node-first.auto.symbols; head = c.ident_node-first.auto.head; load = c.ident_node-first.auto.load }) c.in-Done.is in
-      stop 0 (λ x. expect x 12) _ p1 refl (omega arith) (expected p1.is c.expect-comma.ensures) (not_done _ c.in_default-comma.not-Done)),
-  omega (arith, none_is c.expect-comma.result (not_done _ c.in_default-comma.not-Done)),
-)
-
-pub ident_node-second-requires : goal.ident_node-second-requires
-unfolding ident_pair
-ident_node-second-requires c =
-    let E = blank c.args.w.errors in
-    let e = blanks c.args.w.errors in
-    let p0 = begin 0 (λ x. ident_pair x) E e c.requires in
-    let p1 = go 0 (λ x. ident_node x) _ p0 refl c.ident_node-first.ensures (record { symbols = c.ident_node-first.auto.symbols; head = c.ident_node-first.auto.head; load = c.ident_node-first.auto.load }) c.in-Done.is in
-    let p2 = go 0 (λ x. expect x 12) _ p1 refl (expected p1.is c.expect-comma.ensures) same c.in-Done-comma.is in
+ident_node-requires-2 c =
+    let p1 = go (λ x. ident_node x) _ (begin 0 (λ x. ident_pair x) c.requires) c.in_ok-first.ensures in
+    let p2 = go (λ x. expect x 12) _ p1 (least c.in_ok-expect.ensures.does) in
     p2.is
 
-pub shape_of-symbols-in_default-second : goal.shape_of-symbols-in_default-second
-shape_of-symbols-in_default-second c = c.ident_node-second.auto.symbols ∙ c.ident_node-first.auto.symbols
-
-pub shape_of-head-in_default-second : goal.shape_of-head-in_default-second
-shape_of-head-in_default-second c = c.ident_node-second.auto.head ∙ c.ident_node-first.auto.head
-
-pub shape_of-load-in_default-second : goal.shape_of-load-in_default-second
-shape_of-load-in_default-second c = c.ident_node-second.auto.load ∙ c.ident_node-first.auto.load
-
-pub returns-in_default-second : goal.returns-in_default-second
+pub returns-in_err-second : goal.returns-in_err-second
 unfolding ident_pair
-returns-in_default-second c = (
-  gives (λ E e. let p0 = begin 0 (λ x. ident_pair x) E e c.requires in
-      let p1 = go 0 (λ x. ident_node x) _ p0 refl c.ident_node-first.ensures (record { symbols = c.ident_node-first.auto.symbols; head = c.ident_node-first.auto.head; load = c.ident_node-first.auto.load }) c.in-Done.is in
-      let p2 = go 0 (λ x. expect x 12) _ p1 refl (expected p1.is c.expect-comma.ensures) same c.in-Done-comma.is in
-      stop 0 (λ x. ident_node x) _ p2 refl (omega arith) c.ident_node-second.ensures (not_done _ c.in_default-second.not-Done)),
-  omega (arith, none_is c.ident_node-second.result (not_done _ c.in_default-second.not-Done)),
-)
+returns-in_err-second c =
+    let p1 = go (λ x. ident_node x) _ (begin 0 (λ x. ident_pair x) c.requires) c.in_ok-first.ensures in
+    let p2 = go (λ x. expect x 12) _ p1 (least c.in_ok-expect.ensures.does) in
+    pair-stops c.from_residual-in_err-second.result (stop (λ x. ident_node x) _ (λ x. ident_pair x) p2 (omega arith) c.in_err-second.ensures) c.from_residual-in_err-second.ensures
 
-pub push_node-made-requires : goal.push_node-made-requires
+pub returns-in_err-push_node : goal.returns-in_err-push_node
 unfolding ident_pair
-push_node-made-requires c =
-    let E = blank c.args.w.errors in
-    let e = blanks c.args.w.errors in
-    let p0 = begin 0 (λ x. ident_pair x) E e c.requires in
-    let p1 = go 0 (λ x. ident_node x) _ p0 refl c.ident_node-first.ensures (record { symbols = c.ident_node-first.auto.symbols; head = c.ident_node-first.auto.head; load = c.ident_node-first.auto.load }) c.in-Done.is in
-    let p2 = go 0 (λ x. expect x 12) _ p1 refl (expected p1.is c.expect-comma.ensures) same c.in-Done-comma.is in
-    let p3 = go 0 (λ x. ident_node x) _ p2 refl c.ident_node-second.ensures (record { symbols = c.ident_node-second.auto.symbols; head = c.ident_node-second.auto.head; load = c.ident_node-second.auto.load }) c.in-Done-second.is in
-    (p3.is.even, p3.is.used)
-
-pub shape_of-symbols-in_default-made : goal.shape_of-symbols-in_default-made
-shape_of-symbols-in_default-made c = c.ident_node-second.auto.symbols ∙ c.ident_node-first.auto.symbols
-
-pub shape_of-head-in_default-made : goal.shape_of-head-in_default-made
-shape_of-head-in_default-made c = c.push_node-made.auto.head ∙ c.ident_node-second.auto.head ∙ c.ident_node-first.auto.head
-
-pub shape_of-load-in_default-made : goal.shape_of-load-in_default-made
-shape_of-load-in_default-made c = c.push_node-made.auto.load ∙ c.ident_node-second.auto.load ∙ c.ident_node-first.auto.load
-
-pub returns-in_default-made : goal.returns-in_default-made
-unfolding ident_pair
-returns-in_default-made c = (
-  gives (λ E e. let p0 = begin 0 (λ x. ident_pair x) E e c.requires in
-      let p1 = go 0 (λ x. ident_node x) _ p0 refl c.ident_node-first.ensures (record { symbols = c.ident_node-first.auto.symbols; head = c.ident_node-first.auto.head; load = c.ident_node-first.auto.load }) c.in-Done.is in
-      let p2 = go 0 (λ x. expect x 12) _ p1 refl (expected p1.is c.expect-comma.ensures) same c.in-Done-comma.is in
-      let p3 = go 0 (λ x. ident_node x) _ p2 refl c.ident_node-second.ensures (record { symbols = c.ident_node-second.auto.symbols; head = c.ident_node-second.auto.head; load = c.ident_node-second.auto.load }) c.in-Done-second.is in
-      stop 0 (λ x. push x 11 false 2 0) _ p3 refl (omega arith) (pushed p3.is c.push_node-made.ensures) (not_done _ c.in_default-made.not-Done)),
-  omega (arith, none_is c.push_node-made.result (not_done _ c.in_default-made.not-Done)),
-)
-
-pub shape_of-symbols : goal.shape_of-symbols
-shape_of-symbols c = c.ident_node-second.auto.symbols ∙ c.ident_node-first.auto.symbols
-
-pub shape_of-head : goal.shape_of-head
-shape_of-head c = c.push_node-made.auto.head ∙ c.ident_node-second.auto.head ∙ c.ident_node-first.auto.head
-
-pub shape_of-load : goal.shape_of-load
-shape_of-load c = c.push_node-made.auto.load ∙ c.ident_node-second.auto.load ∙ c.ident_node-first.auto.load
+returns-in_err-push_node c =
+    let p1 = go (λ x. ident_node x) _ (begin 0 (λ x. ident_pair x) c.requires) c.in_ok-first.ensures in
+    let p2 = go (λ x. expect x 12) _ p1 (least c.in_ok-expect.ensures.does) in
+    let p3 = go (λ x. ident_node x) _ p2 c.in_ok-second.ensures in
+    pair-stops c.from_residual-in_err-push_node.result (refused (λ x. push x 11 false 2 0) _ (λ x. ident_pair x) p3 c.in_err-push_node.ensures.does refl) c.from_residual-in_err-push_node.ensures
 
 pub returns : goal.returns
 unfolding ident_pair
-returns c = (
-  gives (λ E e. let p0 = begin 0 (λ x. ident_pair x) E e c.requires in
-      let p1 = go 0 (λ x. ident_node x) _ p0 refl c.ident_node-first.ensures (record { symbols = c.ident_node-first.auto.symbols; head = c.ident_node-first.auto.head; load = c.ident_node-first.auto.load }) c.in-Done.is in
-      let p2 = go 0 (λ x. expect x 12) _ p1 refl (expected p1.is c.expect-comma.ensures) same c.in-Done-comma.is in
-      let p3 = go 0 (λ x. ident_node x) _ p2 refl c.ident_node-second.ensures (record { symbols = c.ident_node-second.auto.symbols; head = c.ident_node-second.auto.head; load = c.ident_node-second.auto.load }) c.in-Done-second.is in
-      let p4 = go 0 (λ x. push x 11 false 2 0) _ p3 refl (pushed p3.is c.push_node-made.ensures) (kept-nodes c.push_node-made.auto.head c.push_node-made.auto.load) c.in-Done-made.is in
-      paired p4 c.with_count.ensures),
-  let E = blank c.args.w.errors in
-      let e = blanks c.args.w.errors in
-      let p0 = begin 0 (λ x. ident_pair x) E e c.requires in
-      let p1 = go 0 (λ x. ident_node x) _ p0 refl c.ident_node-first.ensures (record { symbols = c.ident_node-first.auto.symbols; head = c.ident_node-first.auto.head; load = c.ident_node-first.auto.load }) c.in-Done.is in
-      let p2 = go 0 (λ x. expect x 12) _ p1 refl (expected p1.is c.expect-comma.ensures) same c.in-Done-comma.is in
-      omega (arith, ap (λ (y : Walk). y.count) c.with_count.ensures, p2.is.stands.here, c.requires.stands.toks.few),
-)
+returns c =
+    let p1 = go (λ x. ident_node x) _ (begin 0 (λ x. ident_pair x) c.requires) c.in_ok-first.ensures in
+    let p2 = go (λ x. expect x 12) _ p1 (least c.in_ok-expect.ensures.does) in
+    let p3 = go (λ x. ident_node x) _ p2 c.in_ok-second.ensures in
+    let p4 = go (λ x. push x 11 false 2 0) _ p3 c.in_ok-push_node.ensures.does in (
+      fin (λ x. ident_pair x) p4,
+      (
+        omega (arith, (node-next c.requires c.in_ok-first.ensures).value, c.requires.stands.here, c.requires.stands.toks.few),
+        omega (arith, (node-next p2.is c.in_ok-second.ensures).value, p2.is.stands.here, p2.is.stands.toks.few),
+      ),
+    )

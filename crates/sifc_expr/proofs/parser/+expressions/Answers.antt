@@ -1,1305 +1,399 @@
-use Prim.Native.Nat.{ℕ, ◌*◌, ◌+◌, ◌-◌, ◌≤◌, suc}
-use borrow.Author.Rules.{rules}
-use borrow.Author.Tests.{eq-eqb, ne_eqb, le-leb, lt-leb, not-true, not-false}
-use native.Mathlib.Omega.{arith}
-use mathlib.Core.Path.{◌≡◌, refl, sym, ap, ◌∙◌}
-use mathlib.Core.Bool.{true, false}
-use lib.Dec.{eqb}
-use lib.ListN.{length, get_or}
+use Rattle.std.proofs.Common.{suc, ◌-◌, false, true, arith, refl, sym, ap, ◌∙◌, eq-eqb, ne_eqb}
 use Rattle.sifc_def.specs.declared.Why.TheVariants.{InvalidTkn, InvalidTknMsg, FnParmCntExceeded}
-use Rattle.sifc_def.specs.State.{tok_at, consume, expect, push, throw, throw_past, go_on}
-use Rattle.sifc_def.specs.Expr.{fuel, looseness, is_unary, is_literal, assign_to, separator, param_list, single, call_named, literal, ident_expr, assign_expr, unary_expr, group_expr, at_expr, primary_expr, call_part, dot, index, postfix, fn_call_expr}
+use Rattle.sifc_def.specs.State.{consume, expect, push, throw, throw_past}
+use Rattle.sifc_def.specs.Expr.{fuel, looseness, is_unary, is_literal, assign_to, separator, param_list, call_named, literal, ident_expr, assign_expr, unary_expr, group_expr, primary_expr, call_part, dot, index, fn_call_expr}
 use Rattle.sifc_def.specs.Walk.{walkers}
-use Rattle.sifc_step.specs.declared.walk.Walk.{Walk}
-use Rattle.sifc_step.specs.Abs.{inp, mem, kind_at}
-use Rattle.sifc_step.specs.Small.{node_of}
-use Rattle.sifc_step.specs.Steps.{kept, kept-nodes, same, begin, blank, blanks, gives, go, stop, halt, last, by, read, yes, no, test, aimed, numbered, switched, fin, refused, not-eof, ahead_of, there-at, count_at, none-counted, counted}
-use Rattle.sifc_step.specs.SmallLaws.{literal-eof, unary-eof, loose-eof, pass, pass-any, expected, separated, none-separated, pushed, accessed, thrown-counting, passed_over, literally}
-use Rattle.sifc_step.specs.Loops.{Looping, looping, turn, turn-own, onward, recount}
-use Rattle.sifc_expr.proofs.Depth.{assign-step, unary-step, call_step, assign-none, unary-none, call_none}
+use Rattle.sifc_step.specs.Small.{node_of, accesses}
+use Rattle.sifc_step.proofs.Steps.{begin, by, go, stop, refused, last, fin, kinded, stood, aimed, numbered, yes, no, not-eof}
+use Rattle.sifc_step.proofs.Small.{conveyed, passes-one}
+use Rattle.sifc_step.proofs.Loops.{looping, turn-own, onward, recount, listed-all, listed-many, listed-eof, listed-item}
+use Rattle.sifc_step.proofs.Tests.{literal-eof}
 use Rattle.sifc_expr.specs.Rest.{rest}
-use Rattle.sifc_expr.proofs.Levels.{levels-then, at_stage, ready, goes, stops, Operand, Below, Turns, Node, Rest, ends-at-once, begins, begins-not, turns-end, signs, signs-not, ends, again, idle}
-use Rattle.sifc_expr.proofs.Tags.{not_done}
+use Rattle.sifc_expr.proofs.Depth.{nearer, assign-step, unary-step, call_step, assign-none, unary-none, call_none, unasked, switched}
+use Rattle.sifc_expr.proofs.Levels.{levels-then, some-level, Operand, Below, Whole, free, starts, enters, ends, sign, signed, idle}
+use Rattle.sifc_expr.proofs.Parts.{of-literal, of-name, of-group, of-at, of-other, then-call, then-dot, then-index, then-nothing}
 use Rattle.sifc_expr.proofs.parser.+expressions.Goals as goal
 
-pub add_or_sub_expr-binds-requires : goal.add_or_sub_expr-binds-requires
-add_or_sub_expr-binds-requires t c = c.requires.stands.here
-
-pub add_or_sub_expr-returns-then-not-binds : goal.add_or_sub_expr-returns-then-not-binds
-add_or_sub_expr-returns-then-not-binds t c = ends-at-once 2 c.args.depth c.requires (sym c.binds.ensures ∙ c.if-not-binds.true)
-
-pub add_or_sub_expr-mul_or_div_expr-lhs-requires : goal.add_or_sub_expr-mul_or_div_expr-lhs-requires
-add_or_sub_expr-mul_or_div_expr-lhs-requires t c = (omega (arith, c.decreases), c.requires)
-
-pub add_or_sub_expr-returns-in_default : goal.add_or_sub_expr-returns-in_default
-add_or_sub_expr-returns-in_default t c = begins-not 2 c.args.depth c.requires c.mul_or_div_expr-lhs.ensures (not_done _ c.in_default.not-Done)
-
-pub add_or_sub_expr-loop-lim-init : goal.add_or_sub_expr-loop-lim-init
-add_or_sub_expr-loop-lim-init t c = looping (Turns 2 c.args.depth) (ready (begins 2 c.args.depth c.requires c.mul_or_div_expr-lhs.ensures (record { symbols = c.mul_or_div_expr-lhs.auto.symbols; head = c.mul_or_div_expr-lhs.auto.head; load = c.mul_or_div_expr-lhs.auto.load }) c.in-Done.is))
-
-pub add_or_sub_expr-kind_at-requires : goal.add_or_sub_expr-kind_at-requires
-add_or_sub_expr-kind_at-requires t c = c.loop-lim.invariant.is.stands.here
-
-pub add_or_sub_expr-returns-then-looseness-ne3 : goal.add_or_sub_expr-returns-then-looseness-ne3
-add_or_sub_expr-returns-then-looseness-ne3 t c = ends 2 c.args.depth c.loop-lim.invariant (begins 2 c.args.depth c.requires c.mul_or_div_expr-lhs.ensures (record { symbols = c.mul_or_div_expr-lhs.auto.symbols; head = c.mul_or_div_expr-lhs.auto.head; load = c.mul_or_div_expr-lhs.auto.load }) c.in-Done.is) 0 (turns-end 2 c.args.depth c.loop-lim.invariant.is (c.loop-lim.invariant.f - 1) (λ z. c.if-looseness-ne3.true (c.looseness.ensures ∙ ap looseness c.kind_at.ensures ∙ z)))
-
-pub add_or_sub_expr-consume-passed-requires : goal.add_or_sub_expr-consume-passed-requires
-add_or_sub_expr-consume-passed-requires t c = c.loop-lim.invariant.is.stands
-
-pub add_or_sub_expr-returns-in_default-passed : goal.add_or_sub_expr-returns-in_default-passed
-add_or_sub_expr-returns-in_default-passed t c = ends 2 c.args.depth c.loop-lim.invariant (begins 2 c.args.depth c.requires c.mul_or_div_expr-lhs.ensures (record { symbols = c.mul_or_div_expr-lhs.auto.symbols; head = c.mul_or_div_expr-lhs.auto.head; load = c.mul_or_div_expr-lhs.auto.load }) c.in-Done.is) 1 (signs-not 2 c.args.depth c.loop-lim.invariant.is (c.loop-lim.invariant.f - 1) (ap looseness (sym c.kind_at.ensures) ∙ sym c.looseness.ensures ∙ c.if-looseness-ne3.false) c.consume-passed.ensures (not_done _ c.in_default-passed.not-Done))
-
-pub add_or_sub_expr-unary_expr-operand-requires : goal.add_or_sub_expr-unary_expr-operand-requires
-add_or_sub_expr-unary_expr-operand-requires t c =
-    let s1 = signs 2 c.args.depth c.loop-lim.invariant.is (c.loop-lim.invariant.f - 1) (ap looseness (sym c.kind_at.ensures) ∙ sym c.looseness.ensures ∙ c.if-looseness-ne3.false) c.consume-passed.ensures c.in-Done-passed.is in
-    (omega (arith, c.decreases), ready s1)
-
-pub add_or_sub_expr-returns-in_default-operand : goal.add_or_sub_expr-returns-in_default-operand
-add_or_sub_expr-returns-in_default-operand t c =
-    let s1 = signs 2 c.args.depth c.loop-lim.invariant.is (c.loop-lim.invariant.f - 1) (ap looseness (sym c.kind_at.ensures) ∙ sym c.looseness.ensures ∙ c.if-looseness-ne3.false) c.consume-passed.ensures c.in-Done-passed.is in
-    ends 2 c.args.depth c.loop-lim.invariant (begins 2 c.args.depth c.requires c.mul_or_div_expr-lhs.ensures (record { symbols = c.mul_or_div_expr-lhs.auto.symbols; head = c.mul_or_div_expr-lhs.auto.head; load = c.mul_or_div_expr-lhs.auto.load }) c.in-Done.is) 1 (stops 1 (Operand 2 c.args.depth) (Rest 2 c.args.depth c.loop-lim.x.at (c.loop-lim.invariant.f - 1)) s1 c.unary_expr-operand.ensures (not_done _ c.in_default-operand.not-Done))
-
-pub add_or_sub_expr-mul_or_div_expr-rhs-requires : goal.add_or_sub_expr-mul_or_div_expr-rhs-requires
-add_or_sub_expr-mul_or_div_expr-rhs-requires t c =
-    let s1 = signs 2 c.args.depth c.loop-lim.invariant.is (c.loop-lim.invariant.f - 1) (ap looseness (sym c.kind_at.ensures) ∙ sym c.looseness.ensures ∙ c.if-looseness-ne3.false) c.consume-passed.ensures c.in-Done-passed.is in
-    let s2 = goes 1 (Operand 2 c.args.depth) (Rest 2 c.args.depth c.loop-lim.x.at (c.loop-lim.invariant.f - 1)) s1 c.unary_expr-operand.ensures (record { symbols = c.unary_expr-operand.auto.symbols; head = c.unary_expr-operand.auto.head; load = c.unary_expr-operand.auto.load }) c.in-Done-operand.is in
-    (omega (arith, c.decreases), ready s2)
-
-pub add_or_sub_expr-returns-in_default-rhs : goal.add_or_sub_expr-returns-in_default-rhs
-add_or_sub_expr-returns-in_default-rhs t c =
-    let s1 = signs 2 c.args.depth c.loop-lim.invariant.is (c.loop-lim.invariant.f - 1) (ap looseness (sym c.kind_at.ensures) ∙ sym c.looseness.ensures ∙ c.if-looseness-ne3.false) c.consume-passed.ensures c.in-Done-passed.is in
-    let s2 = goes 1 (Operand 2 c.args.depth) (Rest 2 c.args.depth c.loop-lim.x.at (c.loop-lim.invariant.f - 1)) s1 c.unary_expr-operand.ensures (record { symbols = c.unary_expr-operand.auto.symbols; head = c.unary_expr-operand.auto.head; load = c.unary_expr-operand.auto.load }) c.in-Done-operand.is in
-    ends 2 c.args.depth c.loop-lim.invariant (begins 2 c.args.depth c.requires c.mul_or_div_expr-lhs.ensures (record { symbols = c.mul_or_div_expr-lhs.auto.symbols; head = c.mul_or_div_expr-lhs.auto.head; load = c.mul_or_div_expr-lhs.auto.load }) c.in-Done.is) 1 (stops 0 (Below 2 c.args.depth) (Node 2 c.args.depth c.loop-lim.x.at (c.loop-lim.invariant.f - 1)) s2 c.mul_or_div_expr-rhs.ensures (not_done _ c.in_default-rhs.not-Done))
-
-pub add_or_sub_expr-overflow_cast-op : goal.add_or_sub_expr-overflow_cast-op
-add_or_sub_expr-overflow_cast-op t c = omega (arith, c.loop-lim.invariant.is.stands.here, c.loop-lim.invariant.is.stands.toks.few)
-
-pub add_or_sub_expr-push_node-made-requires : goal.add_or_sub_expr-push_node-made-requires
-add_or_sub_expr-push_node-made-requires t c =
-    let s1 = signs 2 c.args.depth c.loop-lim.invariant.is (c.loop-lim.invariant.f - 1) (ap looseness (sym c.kind_at.ensures) ∙ sym c.looseness.ensures ∙ c.if-looseness-ne3.false) c.consume-passed.ensures c.in-Done-passed.is in
-    let s2 = goes 1 (Operand 2 c.args.depth) (Rest 2 c.args.depth c.loop-lim.x.at (c.loop-lim.invariant.f - 1)) s1 c.unary_expr-operand.ensures (record { symbols = c.unary_expr-operand.auto.symbols; head = c.unary_expr-operand.auto.head; load = c.unary_expr-operand.auto.load }) c.in-Done-operand.is in
-    let s3 = goes 0 (Below 2 c.args.depth) (Node 2 c.args.depth c.loop-lim.x.at (c.loop-lim.invariant.f - 1)) s2 c.mul_or_div_expr-rhs.ensures (record { symbols = c.mul_or_div_expr-rhs.auto.symbols; head = c.mul_or_div_expr-rhs.auto.head; load = c.mul_or_div_expr-rhs.auto.load }) c.in-Done-rhs.is in
-    ((ready s3).even, (ready s3).used)
-
-pub add_or_sub_expr-returns-in_default-made : goal.add_or_sub_expr-returns-in_default-made
-add_or_sub_expr-returns-in_default-made t c =
-    let s1 = signs 2 c.args.depth c.loop-lim.invariant.is (c.loop-lim.invariant.f - 1) (ap looseness (sym c.kind_at.ensures) ∙ sym c.looseness.ensures ∙ c.if-looseness-ne3.false) c.consume-passed.ensures c.in-Done-passed.is in
-    let s2 = goes 1 (Operand 2 c.args.depth) (Rest 2 c.args.depth c.loop-lim.x.at (c.loop-lim.invariant.f - 1)) s1 c.unary_expr-operand.ensures (record { symbols = c.unary_expr-operand.auto.symbols; head = c.unary_expr-operand.auto.head; load = c.unary_expr-operand.auto.load }) c.in-Done-operand.is in
-    let s3 = goes 0 (Below 2 c.args.depth) (Node 2 c.args.depth c.loop-lim.x.at (c.loop-lim.invariant.f - 1)) s2 c.mul_or_div_expr-rhs.ensures (record { symbols = c.mul_or_div_expr-rhs.auto.symbols; head = c.mul_or_div_expr-rhs.auto.head; load = c.mul_or_div_expr-rhs.auto.load }) c.in-Done-rhs.is in
-    ends 2 c.args.depth c.loop-lim.invariant (begins 2 c.args.depth c.requires c.mul_or_div_expr-lhs.ensures (record { symbols = c.mul_or_div_expr-lhs.auto.symbols; head = c.mul_or_div_expr-lhs.auto.head; load = c.mul_or_div_expr-lhs.auto.load }) c.in-Done.is) 1 (stops 0 (λ x. push x 22 false 2 c.loop-lim.x.at) (λ x. Turns 2 c.args.depth x (c.loop-lim.invariant.f - 1)) s3 (pushed (ready s3) c.push_node-made.ensures) (not_done _ c.in_default-made.not-Done))
-
-pub add_or_sub_expr-loop-lim-smaller : goal.add_or_sub_expr-loop-lim-smaller
-add_or_sub_expr-loop-lim-smaller t c =
-    let s1 = signs 2 c.args.depth c.loop-lim.invariant.is (c.loop-lim.invariant.f - 1) (ap looseness (sym c.kind_at.ensures) ∙ sym c.looseness.ensures ∙ c.if-looseness-ne3.false) c.consume-passed.ensures c.in-Done-passed.is in
-    let s2 = goes 1 (Operand 2 c.args.depth) (Rest 2 c.args.depth c.loop-lim.x.at (c.loop-lim.invariant.f - 1)) s1 c.unary_expr-operand.ensures (record { symbols = c.unary_expr-operand.auto.symbols; head = c.unary_expr-operand.auto.head; load = c.unary_expr-operand.auto.load }) c.in-Done-operand.is in
-    let s3 = goes 0 (Below 2 c.args.depth) (Node 2 c.args.depth c.loop-lim.x.at (c.loop-lim.invariant.f - 1)) s2 c.mul_or_div_expr-rhs.ensures (record { symbols = c.mul_or_div_expr-rhs.auto.symbols; head = c.mul_or_div_expr-rhs.auto.head; load = c.mul_or_div_expr-rhs.auto.load }) c.in-Done-rhs.is in
-    let s4 = goes 0 (λ x. push x 22 false 2 c.loop-lim.x.at) (λ x. Turns 2 c.args.depth x (c.loop-lim.invariant.f - 1)) s3 (pushed (ready s3) c.push_node-made.ensures) (kept-nodes c.push_node-made.auto.head c.push_node-made.auto.load) c.in-Done-made.is in
-    omega (arith, (at_stage s4).on, (ready s4).stands.here)
-
-pub add_or_sub_expr-loop-lim-preserved : goal.add_or_sub_expr-loop-lim-preserved
-add_or_sub_expr-loop-lim-preserved t c =
-    let s1 = signs 2 c.args.depth c.loop-lim.invariant.is (c.loop-lim.invariant.f - 1) (ap looseness (sym c.kind_at.ensures) ∙ sym c.looseness.ensures ∙ c.if-looseness-ne3.false) c.consume-passed.ensures c.in-Done-passed.is in
-    let s2 = goes 1 (Operand 2 c.args.depth) (Rest 2 c.args.depth c.loop-lim.x.at (c.loop-lim.invariant.f - 1)) s1 c.unary_expr-operand.ensures (record { symbols = c.unary_expr-operand.auto.symbols; head = c.unary_expr-operand.auto.head; load = c.unary_expr-operand.auto.load }) c.in-Done-operand.is in
-    let s3 = goes 0 (Below 2 c.args.depth) (Node 2 c.args.depth c.loop-lim.x.at (c.loop-lim.invariant.f - 1)) s2 c.mul_or_div_expr-rhs.ensures (record { symbols = c.mul_or_div_expr-rhs.auto.symbols; head = c.mul_or_div_expr-rhs.auto.head; load = c.mul_or_div_expr-rhs.auto.load }) c.in-Done-rhs.is in
-    let s4 = goes 0 (λ x. push x 22 false 2 c.loop-lim.x.at) (λ x. Turns 2 c.args.depth x (c.loop-lim.invariant.f - 1)) s3 (pushed (ready s3) c.push_node-made.ensures) (kept-nodes c.push_node-made.auto.head c.push_node-made.auto.load) c.in-Done-made.is in
-    again 2 c.args.depth c.loop-lim.invariant s4
-
-pub and_expr-binds-requires : goal.and_expr-binds-requires
-and_expr-binds-requires t c = c.requires.stands.here
-
-pub and_expr-returns-then-not-binds : goal.and_expr-returns-then-not-binds
-and_expr-returns-then-not-binds t c = ends-at-once 5 c.args.depth c.requires (sym c.binds.ensures ∙ c.if-not-binds.true)
-
-pub and_expr-equality_expr-lhs-requires : goal.and_expr-equality_expr-lhs-requires
-and_expr-equality_expr-lhs-requires t c = (omega (arith, c.decreases), c.requires)
-
-pub and_expr-returns-in_default : goal.and_expr-returns-in_default
-and_expr-returns-in_default t c = begins-not 5 c.args.depth c.requires c.equality_expr-lhs.ensures (not_done _ c.in_default.not-Done)
-
-pub and_expr-loop-lim-init : goal.and_expr-loop-lim-init
-and_expr-loop-lim-init t c = looping (Turns 5 c.args.depth) (ready (begins 5 c.args.depth c.requires c.equality_expr-lhs.ensures (record { symbols = c.equality_expr-lhs.auto.symbols; head = c.equality_expr-lhs.auto.head; load = c.equality_expr-lhs.auto.load }) c.in-Done.is))
-
-pub and_expr-kind_at-requires : goal.and_expr-kind_at-requires
-and_expr-kind_at-requires t c = c.loop-lim.invariant.is.stands.here
-
-pub and_expr-returns-then-looseness-ne6 : goal.and_expr-returns-then-looseness-ne6
-and_expr-returns-then-looseness-ne6 t c = ends 5 c.args.depth c.loop-lim.invariant (begins 5 c.args.depth c.requires c.equality_expr-lhs.ensures (record { symbols = c.equality_expr-lhs.auto.symbols; head = c.equality_expr-lhs.auto.head; load = c.equality_expr-lhs.auto.load }) c.in-Done.is) 0 (turns-end 5 c.args.depth c.loop-lim.invariant.is (c.loop-lim.invariant.f - 1) (λ z. c.if-looseness-ne6.true (c.looseness.ensures ∙ ap looseness c.kind_at.ensures ∙ z)))
-
-pub and_expr-consume-passed-requires : goal.and_expr-consume-passed-requires
-and_expr-consume-passed-requires t c = c.loop-lim.invariant.is.stands
-
-pub and_expr-returns-in_default-passed : goal.and_expr-returns-in_default-passed
-and_expr-returns-in_default-passed t c = ends 5 c.args.depth c.loop-lim.invariant (begins 5 c.args.depth c.requires c.equality_expr-lhs.ensures (record { symbols = c.equality_expr-lhs.auto.symbols; head = c.equality_expr-lhs.auto.head; load = c.equality_expr-lhs.auto.load }) c.in-Done.is) 1 (signs-not 5 c.args.depth c.loop-lim.invariant.is (c.loop-lim.invariant.f - 1) (ap looseness (sym c.kind_at.ensures) ∙ sym c.looseness.ensures ∙ c.if-looseness-ne6.false) c.consume-passed.ensures (not_done _ c.in_default-passed.not-Done))
-
-pub and_expr-unary_expr-operand-requires : goal.and_expr-unary_expr-operand-requires
-and_expr-unary_expr-operand-requires t c =
-    let s1 = signs 5 c.args.depth c.loop-lim.invariant.is (c.loop-lim.invariant.f - 1) (ap looseness (sym c.kind_at.ensures) ∙ sym c.looseness.ensures ∙ c.if-looseness-ne6.false) c.consume-passed.ensures c.in-Done-passed.is in
-    (omega (arith, c.decreases), ready s1)
-
-pub and_expr-returns-in_default-operand : goal.and_expr-returns-in_default-operand
-and_expr-returns-in_default-operand t c =
-    let s1 = signs 5 c.args.depth c.loop-lim.invariant.is (c.loop-lim.invariant.f - 1) (ap looseness (sym c.kind_at.ensures) ∙ sym c.looseness.ensures ∙ c.if-looseness-ne6.false) c.consume-passed.ensures c.in-Done-passed.is in
-    ends 5 c.args.depth c.loop-lim.invariant (begins 5 c.args.depth c.requires c.equality_expr-lhs.ensures (record { symbols = c.equality_expr-lhs.auto.symbols; head = c.equality_expr-lhs.auto.head; load = c.equality_expr-lhs.auto.load }) c.in-Done.is) 1 (stops 1 (Operand 5 c.args.depth) (Rest 5 c.args.depth c.loop-lim.x.at (c.loop-lim.invariant.f - 1)) s1 c.unary_expr-operand.ensures (not_done _ c.in_default-operand.not-Done))
-
-pub and_expr-equality_expr-rhs-requires : goal.and_expr-equality_expr-rhs-requires
-and_expr-equality_expr-rhs-requires t c =
-    let s1 = signs 5 c.args.depth c.loop-lim.invariant.is (c.loop-lim.invariant.f - 1) (ap looseness (sym c.kind_at.ensures) ∙ sym c.looseness.ensures ∙ c.if-looseness-ne6.false) c.consume-passed.ensures c.in-Done-passed.is in
-    let s2 = goes 1 (Operand 5 c.args.depth) (Rest 5 c.args.depth c.loop-lim.x.at (c.loop-lim.invariant.f - 1)) s1 c.unary_expr-operand.ensures (record { symbols = c.unary_expr-operand.auto.symbols; head = c.unary_expr-operand.auto.head; load = c.unary_expr-operand.auto.load }) c.in-Done-operand.is in
-    (omega (arith, c.decreases), ready s2)
-
-pub and_expr-returns-in_default-rhs : goal.and_expr-returns-in_default-rhs
-and_expr-returns-in_default-rhs t c =
-    let s1 = signs 5 c.args.depth c.loop-lim.invariant.is (c.loop-lim.invariant.f - 1) (ap looseness (sym c.kind_at.ensures) ∙ sym c.looseness.ensures ∙ c.if-looseness-ne6.false) c.consume-passed.ensures c.in-Done-passed.is in
-    let s2 = goes 1 (Operand 5 c.args.depth) (Rest 5 c.args.depth c.loop-lim.x.at (c.loop-lim.invariant.f - 1)) s1 c.unary_expr-operand.ensures (record { symbols = c.unary_expr-operand.auto.symbols; head = c.unary_expr-operand.auto.head; load = c.unary_expr-operand.auto.load }) c.in-Done-operand.is in
-    ends 5 c.args.depth c.loop-lim.invariant (begins 5 c.args.depth c.requires c.equality_expr-lhs.ensures (record { symbols = c.equality_expr-lhs.auto.symbols; head = c.equality_expr-lhs.auto.head; load = c.equality_expr-lhs.auto.load }) c.in-Done.is) 1 (stops 0 (Below 5 c.args.depth) (Node 5 c.args.depth c.loop-lim.x.at (c.loop-lim.invariant.f - 1)) s2 c.equality_expr-rhs.ensures (not_done _ c.in_default-rhs.not-Done))
-
-pub and_expr-overflow_cast-op : goal.and_expr-overflow_cast-op
-and_expr-overflow_cast-op t c = omega (arith, c.loop-lim.invariant.is.stands.here, c.loop-lim.invariant.is.stands.toks.few)
-
-pub and_expr-push_node-made-requires : goal.and_expr-push_node-made-requires
-and_expr-push_node-made-requires t c =
-    let s1 = signs 5 c.args.depth c.loop-lim.invariant.is (c.loop-lim.invariant.f - 1) (ap looseness (sym c.kind_at.ensures) ∙ sym c.looseness.ensures ∙ c.if-looseness-ne6.false) c.consume-passed.ensures c.in-Done-passed.is in
-    let s2 = goes 1 (Operand 5 c.args.depth) (Rest 5 c.args.depth c.loop-lim.x.at (c.loop-lim.invariant.f - 1)) s1 c.unary_expr-operand.ensures (record { symbols = c.unary_expr-operand.auto.symbols; head = c.unary_expr-operand.auto.head; load = c.unary_expr-operand.auto.load }) c.in-Done-operand.is in
-    let s3 = goes 0 (Below 5 c.args.depth) (Node 5 c.args.depth c.loop-lim.x.at (c.loop-lim.invariant.f - 1)) s2 c.equality_expr-rhs.ensures (record { symbols = c.equality_expr-rhs.auto.symbols; head = c.equality_expr-rhs.auto.head; load = c.equality_expr-rhs.auto.load }) c.in-Done-rhs.is in
-    ((ready s3).even, (ready s3).used)
-
-pub and_expr-returns-in_default-made : goal.and_expr-returns-in_default-made
-and_expr-returns-in_default-made t c =
-    let s1 = signs 5 c.args.depth c.loop-lim.invariant.is (c.loop-lim.invariant.f - 1) (ap looseness (sym c.kind_at.ensures) ∙ sym c.looseness.ensures ∙ c.if-looseness-ne6.false) c.consume-passed.ensures c.in-Done-passed.is in
-    let s2 = goes 1 (Operand 5 c.args.depth) (Rest 5 c.args.depth c.loop-lim.x.at (c.loop-lim.invariant.f - 1)) s1 c.unary_expr-operand.ensures (record { symbols = c.unary_expr-operand.auto.symbols; head = c.unary_expr-operand.auto.head; load = c.unary_expr-operand.auto.load }) c.in-Done-operand.is in
-    let s3 = goes 0 (Below 5 c.args.depth) (Node 5 c.args.depth c.loop-lim.x.at (c.loop-lim.invariant.f - 1)) s2 c.equality_expr-rhs.ensures (record { symbols = c.equality_expr-rhs.auto.symbols; head = c.equality_expr-rhs.auto.head; load = c.equality_expr-rhs.auto.load }) c.in-Done-rhs.is in
-    ends 5 c.args.depth c.loop-lim.invariant (begins 5 c.args.depth c.requires c.equality_expr-lhs.ensures (record { symbols = c.equality_expr-lhs.auto.symbols; head = c.equality_expr-lhs.auto.head; load = c.equality_expr-lhs.auto.load }) c.in-Done.is) 1 (stops 0 (λ x. push x 22 false 2 c.loop-lim.x.at) (λ x. Turns 5 c.args.depth x (c.loop-lim.invariant.f - 1)) s3 (pushed (ready s3) c.push_node-made.ensures) (not_done _ c.in_default-made.not-Done))
-
-pub and_expr-loop-lim-smaller : goal.and_expr-loop-lim-smaller
-and_expr-loop-lim-smaller t c =
-    let s1 = signs 5 c.args.depth c.loop-lim.invariant.is (c.loop-lim.invariant.f - 1) (ap looseness (sym c.kind_at.ensures) ∙ sym c.looseness.ensures ∙ c.if-looseness-ne6.false) c.consume-passed.ensures c.in-Done-passed.is in
-    let s2 = goes 1 (Operand 5 c.args.depth) (Rest 5 c.args.depth c.loop-lim.x.at (c.loop-lim.invariant.f - 1)) s1 c.unary_expr-operand.ensures (record { symbols = c.unary_expr-operand.auto.symbols; head = c.unary_expr-operand.auto.head; load = c.unary_expr-operand.auto.load }) c.in-Done-operand.is in
-    let s3 = goes 0 (Below 5 c.args.depth) (Node 5 c.args.depth c.loop-lim.x.at (c.loop-lim.invariant.f - 1)) s2 c.equality_expr-rhs.ensures (record { symbols = c.equality_expr-rhs.auto.symbols; head = c.equality_expr-rhs.auto.head; load = c.equality_expr-rhs.auto.load }) c.in-Done-rhs.is in
-    let s4 = goes 0 (λ x. push x 22 false 2 c.loop-lim.x.at) (λ x. Turns 5 c.args.depth x (c.loop-lim.invariant.f - 1)) s3 (pushed (ready s3) c.push_node-made.ensures) (kept-nodes c.push_node-made.auto.head c.push_node-made.auto.load) c.in-Done-made.is in
-    omega (arith, (at_stage s4).on, (ready s4).stands.here)
-
-pub and_expr-loop-lim-preserved : goal.and_expr-loop-lim-preserved
-and_expr-loop-lim-preserved t c =
-    let s1 = signs 5 c.args.depth c.loop-lim.invariant.is (c.loop-lim.invariant.f - 1) (ap looseness (sym c.kind_at.ensures) ∙ sym c.looseness.ensures ∙ c.if-looseness-ne6.false) c.consume-passed.ensures c.in-Done-passed.is in
-    let s2 = goes 1 (Operand 5 c.args.depth) (Rest 5 c.args.depth c.loop-lim.x.at (c.loop-lim.invariant.f - 1)) s1 c.unary_expr-operand.ensures (record { symbols = c.unary_expr-operand.auto.symbols; head = c.unary_expr-operand.auto.head; load = c.unary_expr-operand.auto.load }) c.in-Done-operand.is in
-    let s3 = goes 0 (Below 5 c.args.depth) (Node 5 c.args.depth c.loop-lim.x.at (c.loop-lim.invariant.f - 1)) s2 c.equality_expr-rhs.ensures (record { symbols = c.equality_expr-rhs.auto.symbols; head = c.equality_expr-rhs.auto.head; load = c.equality_expr-rhs.auto.load }) c.in-Done-rhs.is in
-    let s4 = goes 0 (λ x. push x 22 false 2 c.loop-lim.x.at) (λ x. Turns 5 c.args.depth x (c.loop-lim.invariant.f - 1)) s3 (pushed (ready s3) c.push_node-made.ensures) (kept-nodes c.push_node-made.auto.head c.push_node-made.auto.load) c.in-Done-made.is in
-    again 5 c.args.depth c.loop-lim.invariant s4
-
 pub assign_expr-returns-then-depth-eq0 : goal.assign_expr-returns-then-depth-eq0
-assign_expr-returns-then-depth-eq0 t c = gives (λ E e. refused (assign-none _ _ c.if-depth-eq0.true))
+assign_expr-returns-then-depth-eq0 t c =
+    assign-none _ c.if-depth-eq0.true
 
-pub assign_expr-overflow_sub-below : goal.assign_expr-overflow_sub-below
-assign_expr-overflow_sub-below t c = omega (arith, c.if-depth-eq0.false)
-
-pub assign_expr-unary_expr-operand-requires : goal.assign_expr-unary_expr-operand-requires
-assign_expr-unary_expr-operand-requires t c = (omega (arith, c.decreases, c.if-depth-eq0.false), c.requires)
-
-pub assign_expr-returns-in_default : goal.assign_expr-returns-in_default
+pub assign_expr-returns-in_err-unary_expr : goal.assign_expr-returns-in_err-unary_expr
 unfolding assign_expr
-assign_expr-returns-in_default t c =
-    gives (λ E e. let p0 = by (by (begin 1 (λ x. (walkers x c.args.depth).assign) E e c.requires) (assign-step _ _ _ c.if-depth-eq0.false)) (levels-then _ 7 _ _ _) in
-    stop 1 (λ x. (walkers x (c.args.depth - 1)).unary) _ p0 refl (omega arith) c.unary_expr-operand.ensures (not_done _ c.in_default.not-Done))
+assign_expr-returns-in_err-unary_expr t c =
+    let p0 = by (assign-step c.requires c.args.depth c.if-depth-eq0.false) (λ s. levels-then _ 7 _ _ s) in
+    conveyed (stop (λ x. (walkers x (c.args.depth - 1)).unary) _ (λ x. (walkers x c.args.depth).assign) p0 (omega arith) c.in_err-unary_expr.ensures) c.from_residual.ensures
 
-pub assign_expr-or_expr-lhs-requires : goal.assign_expr-or_expr-lhs-requires
+pub assign_expr-returns-in_err-or_expr : goal.assign_expr-returns-in_err-or_expr
 unfolding assign_expr
-assign_expr-or_expr-lhs-requires t c =
-    let E = blank c.args.w.errors in
-    let e = blanks c.args.w.errors in
-    let p0 = by (by (begin 1 (λ x. (walkers x c.args.depth).assign) E e c.requires) (assign-step _ _ _ c.if-depth-eq0.false)) (levels-then _ 7 _ _ _) in
-    let p1 = go 1 (λ x. (walkers x (c.args.depth - 1)).unary) _ p0 refl c.unary_expr-operand.ensures (record { symbols = c.unary_expr-operand.auto.symbols; head = c.unary_expr-operand.auto.head; load = c.unary_expr-operand.auto.load }) c.in-Done.is in
-    (omega (arith, c.decreases, c.if-depth-eq0.false), p1.is)
+assign_expr-returns-in_err-or_expr t c =
+    let p0 = by (assign-step c.requires c.args.depth c.if-depth-eq0.false) (λ s. levels-then _ 7 _ _ s) in
+    let p1 = go (λ x. (walkers x (c.args.depth - 1)).unary) _ p0 c.in_ok-unary_expr.ensures in
+    conveyed (stop (λ x. rest x 7 (walkers x (c.args.depth - 1)).unary) _ (λ x. (walkers x c.args.depth).assign) p1 (omega arith) c.in_err-or_expr.ensures) c.from_residual-in_err-or_expr.ensures
 
-pub assign_expr-returns-in_default-lhs : goal.assign_expr-returns-in_default-lhs
+pub assign_expr-returns-then-kind-ne-EQ : goal.assign_expr-returns-then-kind-ne-EQ
 unfolding assign_expr
-assign_expr-returns-in_default-lhs t c =
-    gives (λ E e. let p0 = by (by (begin 1 (λ x. (walkers x c.args.depth).assign) E e c.requires) (assign-step _ _ _ c.if-depth-eq0.false)) (levels-then _ 7 _ _ _) in
-    let p1 = go 1 (λ x. (walkers x (c.args.depth - 1)).unary) _ p0 refl c.unary_expr-operand.ensures (record { symbols = c.unary_expr-operand.auto.symbols; head = c.unary_expr-operand.auto.head; load = c.unary_expr-operand.auto.load }) c.in-Done.is in
-    stop 0 (λ x. rest x 7 (walkers x (c.args.depth - 1)).unary) _ p1 refl (omega arith) c.or_expr-lhs.ensures (not_done _ c.in_default-lhs.not-Done))
+assign_expr-returns-then-kind-ne-EQ t c =
+    let p0 = by (assign-step c.requires c.args.depth c.if-depth-eq0.false) (λ s. levels-then _ 7 _ _ s) in
+    let p1 = go (λ x. (walkers x (c.args.depth - 1)).unary) _ p0 c.in_ok-unary_expr.ensures in
+    let p2 = go (λ x. rest x 7 (walkers x (c.args.depth - 1)).unary) _ p1 c.in_ok-or_expr.ensures in
+    let p3 = stood _ (kinded _ (numbered _ (unasked _ p2))) in
+    fin (λ x. (walkers x c.args.depth).assign) (no _ _ p3 (ne_eqb _ _ (λ z. c.if-kind-ne-EQ.true (c.kind.ensures ∙ z))))
 
-pub assign_expr-kind_at-requires : goal.assign_expr-kind_at-requires
+pub assign_expr-returns-in_err-consume : goal.assign_expr-returns-in_err-consume
 unfolding assign_expr
-assign_expr-kind_at-requires t c =
-    let E = blank c.args.w.errors in
-    let e = blanks c.args.w.errors in
-    let p0 = by (by (begin 1 (λ x. (walkers x c.args.depth).assign) E e c.requires) (assign-step _ _ _ c.if-depth-eq0.false)) (levels-then _ 7 _ _ _) in
-    let p1 = go 1 (λ x. (walkers x (c.args.depth - 1)).unary) _ p0 refl c.unary_expr-operand.ensures (record { symbols = c.unary_expr-operand.auto.symbols; head = c.unary_expr-operand.auto.head; load = c.unary_expr-operand.auto.load }) c.in-Done.is in
-    let p2 = go 0 (λ x. rest x 7 (walkers x (c.args.depth - 1)).unary) _ p1 refl c.or_expr-lhs.ensures (record { symbols = c.or_expr-lhs.auto.symbols; head = c.or_expr-lhs.auto.head; load = c.or_expr-lhs.auto.load }) c.in-Done-lhs.is in
-    p2.is.stands.here
+assign_expr-returns-in_err-consume t c =
+    let p0 = by (assign-step c.requires c.args.depth c.if-depth-eq0.false) (λ s. levels-then _ 7 _ _ s) in
+    let p1 = go (λ x. (walkers x (c.args.depth - 1)).unary) _ p0 c.in_ok-unary_expr.ensures in
+    let p2 = go (λ x. rest x 7 (walkers x (c.args.depth - 1)).unary) _ p1 c.in_ok-or_expr.ensures in
+    let p3 = yes _ _ (stood _ (kinded _ (numbered _ (aimed c.top-target.result _ p2 c.top-target.ensures)))) (eq-eqb _ _ (sym c.kind.ensures ∙ c.if-kind-ne-EQ.false)) in
+    conveyed (refused (λ x. consume x) _ (λ x. (walkers x c.args.depth).assign) p3 c.in_err-consume.ensures.does refl) c.from_residual-in_err-consume.ensures
 
-pub assign_expr-returns-then-kind_at-ne-EQ : goal.assign_expr-returns-then-kind_at-ne-EQ
+pub assign_expr-returns-in_err-assign_expr : goal.assign_expr-returns-in_err-assign_expr
 unfolding assign_expr
-assign_expr-returns-then-kind_at-ne-EQ t c =
-    gives (λ E e. let p0 = by (by (begin 1 (λ x. (walkers x c.args.depth).assign) E e c.requires) (assign-step _ _ _ c.if-depth-eq0.false)) (levels-then _ 7 _ _ _) in
-    let p1 = go 1 (λ x. (walkers x (c.args.depth - 1)).unary) _ p0 refl c.unary_expr-operand.ensures (record { symbols = c.unary_expr-operand.auto.symbols; head = c.unary_expr-operand.auto.head; load = c.unary_expr-operand.auto.load }) c.in-Done.is in
-    let p2 = go 0 (λ x. rest x 7 (walkers x (c.args.depth - 1)).unary) _ p1 refl c.or_expr-lhs.ensures (record { symbols = c.or_expr-lhs.auto.symbols; head = c.or_expr-lhs.auto.head; load = c.or_expr-lhs.auto.load }) c.in-Done-lhs.is in
-    let p3 = read _ (read _ (numbered _ (read _ p2))) in
-    fin (no _ _ p3 (test (λ k. eqb k 8) p3 (ne_eqb _ _ (λ z. c.if-kind_at-ne-EQ.true (c.kind_at.ensures ∙ z))))))
-
-pub assign_expr-top-to-requires : goal.assign_expr-top-to-requires
-unfolding assign_expr
-assign_expr-top-to-requires t c =
-    let E = blank c.args.w.errors in
-    let e = blanks c.args.w.errors in
-    let p0 = by (by (begin 1 (λ x. (walkers x c.args.depth).assign) E e c.requires) (assign-step _ _ _ c.if-depth-eq0.false)) (levels-then _ 7 _ _ _) in
-    let p1 = go 1 (λ x. (walkers x (c.args.depth - 1)).unary) _ p0 refl c.unary_expr-operand.ensures (record { symbols = c.unary_expr-operand.auto.symbols; head = c.unary_expr-operand.auto.head; load = c.unary_expr-operand.auto.load }) c.in-Done.is in
-    let p2 = go 0 (λ x. rest x 7 (walkers x (c.args.depth - 1)).unary) _ p1 refl c.or_expr-lhs.ensures (record { symbols = c.or_expr-lhs.auto.symbols; head = c.or_expr-lhs.auto.head; load = c.or_expr-lhs.auto.load }) c.in-Done-lhs.is in
-    (p2.is.even, p2.is.used)
-
-pub assign_expr-consume-passed-requires : goal.assign_expr-consume-passed-requires
-unfolding assign_expr
-assign_expr-consume-passed-requires t c =
-    let E = blank c.args.w.errors in
-    let e = blanks c.args.w.errors in
-    let p0 = by (by (begin 1 (λ x. (walkers x c.args.depth).assign) E e c.requires) (assign-step _ _ _ c.if-depth-eq0.false)) (levels-then _ 7 _ _ _) in
-    let p1 = go 1 (λ x. (walkers x (c.args.depth - 1)).unary) _ p0 refl c.unary_expr-operand.ensures (record { symbols = c.unary_expr-operand.auto.symbols; head = c.unary_expr-operand.auto.head; load = c.unary_expr-operand.auto.load }) c.in-Done.is in
-    let p2 = go 0 (λ x. rest x 7 (walkers x (c.args.depth - 1)).unary) _ p1 refl c.or_expr-lhs.ensures (record { symbols = c.or_expr-lhs.auto.symbols; head = c.or_expr-lhs.auto.head; load = c.or_expr-lhs.auto.load }) c.in-Done-lhs.is in
-    p2.is.stands
-
-pub assign_expr-returns-in_default-passed : goal.assign_expr-returns-in_default-passed
-unfolding assign_expr
-assign_expr-returns-in_default-passed t c =
-    gives (λ E e. let p0 = by (by (begin 1 (λ x. (walkers x c.args.depth).assign) E e c.requires) (assign-step _ _ _ c.if-depth-eq0.false)) (levels-then _ 7 _ _ _) in
-    let p1 = go 1 (λ x. (walkers x (c.args.depth - 1)).unary) _ p0 refl c.unary_expr-operand.ensures (record { symbols = c.unary_expr-operand.auto.symbols; head = c.unary_expr-operand.auto.head; load = c.unary_expr-operand.auto.load }) c.in-Done.is in
-    let p2 = go 0 (λ x. rest x 7 (walkers x (c.args.depth - 1)).unary) _ p1 refl c.or_expr-lhs.ensures (record { symbols = c.or_expr-lhs.auto.symbols; head = c.or_expr-lhs.auto.head; load = c.or_expr-lhs.auto.load }) c.in-Done-lhs.is in
-    let p3 = read _ (read _ (numbered _ (aimed _ _ p2 c.top-to.ensures))) in
-    let p4 = yes _ _ p3 (test (λ k. eqb k 8) p3 (eq-eqb _ _ (sym c.kind_at.ensures ∙ c.if-kind_at-ne-EQ.false))) in
-    stop 0 (λ x. consume x) _ p4 refl (omega arith) (pass-any p4.is c.consume-passed.ensures) (not_done _ c.in_default-passed.not-Done))
-
-pub assign_expr-assign_expr-rhs-requires : goal.assign_expr-assign_expr-rhs-requires
-unfolding assign_expr
-assign_expr-assign_expr-rhs-requires t c =
-    let E = blank c.args.w.errors in
-    let e = blanks c.args.w.errors in
-    let p0 = by (by (begin 1 (λ x. (walkers x c.args.depth).assign) E e c.requires) (assign-step _ _ _ c.if-depth-eq0.false)) (levels-then _ 7 _ _ _) in
-    let p1 = go 1 (λ x. (walkers x (c.args.depth - 1)).unary) _ p0 refl c.unary_expr-operand.ensures (record { symbols = c.unary_expr-operand.auto.symbols; head = c.unary_expr-operand.auto.head; load = c.unary_expr-operand.auto.load }) c.in-Done.is in
-    let p2 = go 0 (λ x. rest x 7 (walkers x (c.args.depth - 1)).unary) _ p1 refl c.or_expr-lhs.ensures (record { symbols = c.or_expr-lhs.auto.symbols; head = c.or_expr-lhs.auto.head; load = c.or_expr-lhs.auto.load }) c.in-Done-lhs.is in
-    let p3 = read _ (read _ (numbered _ (aimed _ _ p2 c.top-to.ensures))) in
-    let p4 = yes _ _ p3 (test (λ k. eqb k 8) p3 (eq-eqb _ _ (sym c.kind_at.ensures ∙ c.if-kind_at-ne-EQ.false))) in
-    let p5 = go 0 (λ x. consume x) _ p4 refl (pass-any p4.is c.consume-passed.ensures) same c.in-Done-passed.is in
-    (omega (arith, c.decreases, c.if-depth-eq0.false), p5.is)
-
-pub assign_expr-returns-in_default-rhs : goal.assign_expr-returns-in_default-rhs
-unfolding assign_expr
-assign_expr-returns-in_default-rhs t c =
-    gives (λ E e. let p0 = by (by (begin 1 (λ x. (walkers x c.args.depth).assign) E e c.requires) (assign-step _ _ _ c.if-depth-eq0.false)) (levels-then _ 7 _ _ _) in
-    let p1 = go 1 (λ x. (walkers x (c.args.depth - 1)).unary) _ p0 refl c.unary_expr-operand.ensures (record { symbols = c.unary_expr-operand.auto.symbols; head = c.unary_expr-operand.auto.head; load = c.unary_expr-operand.auto.load }) c.in-Done.is in
-    let p2 = go 0 (λ x. rest x 7 (walkers x (c.args.depth - 1)).unary) _ p1 refl c.or_expr-lhs.ensures (record { symbols = c.or_expr-lhs.auto.symbols; head = c.or_expr-lhs.auto.head; load = c.or_expr-lhs.auto.load }) c.in-Done-lhs.is in
-    let p3 = read _ (read _ (numbered _ (aimed _ _ p2 c.top-to.ensures))) in
-    let p4 = yes _ _ p3 (test (λ k. eqb k 8) p3 (eq-eqb _ _ (sym c.kind_at.ensures ∙ c.if-kind_at-ne-EQ.false))) in
-    let p5 = go 0 (λ x. consume x) _ p4 refl (pass-any p4.is c.consume-passed.ensures) same c.in-Done-passed.is in
-    stop 1 (λ x. (walkers x (c.args.depth - 1)).assign) _ p5 refl (omega arith) c.assign_expr-rhs.ensures (not_done _ c.in_default-rhs.not-Done))
-
-pub assign_expr-assign_to-requires : goal.assign_expr-assign_to-requires
-unfolding assign_expr
-assign_expr-assign_to-requires t c =
-    let E = blank c.args.w.errors in
-    let e = blanks c.args.w.errors in
-    let p0 = by (by (begin 1 (λ x. (walkers x c.args.depth).assign) E e c.requires) (assign-step _ _ _ c.if-depth-eq0.false)) (levels-then _ 7 _ _ _) in
-    let p1 = go 1 (λ x. (walkers x (c.args.depth - 1)).unary) _ p0 refl c.unary_expr-operand.ensures (record { symbols = c.unary_expr-operand.auto.symbols; head = c.unary_expr-operand.auto.head; load = c.unary_expr-operand.auto.load }) c.in-Done.is in
-    let p2 = go 0 (λ x. rest x 7 (walkers x (c.args.depth - 1)).unary) _ p1 refl c.or_expr-lhs.ensures (record { symbols = c.or_expr-lhs.auto.symbols; head = c.or_expr-lhs.auto.head; load = c.or_expr-lhs.auto.load }) c.in-Done-lhs.is in
-    let p3 = read _ (read _ (numbered _ (aimed _ _ p2 c.top-to.ensures))) in
-    let p4 = yes _ _ p3 (test (λ k. eqb k 8) p3 (eq-eqb _ _ (sym c.kind_at.ensures ∙ c.if-kind_at-ne-EQ.false))) in
-    let p5 = go 0 (λ x. consume x) _ p4 refl (pass-any p4.is c.consume-passed.ensures) same c.in-Done-passed.is in
-    let p6 = go 1 (λ x. (walkers x (c.args.depth - 1)).assign) _ p5 refl c.assign_expr-rhs.ensures (record { symbols = c.assign_expr-rhs.auto.symbols; head = c.assign_expr-rhs.auto.head; load = c.assign_expr-rhs.auto.load }) c.in-Done-rhs.is in
-    p6.is
+assign_expr-returns-in_err-assign_expr t c =
+    let p0 = by (assign-step c.requires c.args.depth c.if-depth-eq0.false) (λ s. levels-then _ 7 _ _ s) in
+    let p1 = go (λ x. (walkers x (c.args.depth - 1)).unary) _ p0 c.in_ok-unary_expr.ensures in
+    let p2 = go (λ x. rest x 7 (walkers x (c.args.depth - 1)).unary) _ p1 c.in_ok-or_expr.ensures in
+    let p3 = yes _ _ (stood _ (kinded _ (numbered _ (aimed c.top-target.result _ p2 c.top-target.ensures)))) (eq-eqb _ _ (sym c.kind.ensures ∙ c.if-kind-ne-EQ.false)) in
+    let p4 = go (λ x. consume x) _ p3 c.in_ok-consume.ensures.does in
+    conveyed (stop (λ x. (walkers x (c.args.depth - 1)).assign) _ (λ x. (walkers x c.args.depth).assign) p4 (omega arith) c.in_err-assign_expr.ensures) c.from_residual-in_err-assign_expr.ensures
 
 pub assign_expr-returns : goal.assign_expr-returns
 unfolding assign_expr
 assign_expr-returns t c =
-    gives (λ E e. let p0 = by (by (begin 1 (λ x. (walkers x c.args.depth).assign) E e c.requires) (assign-step _ _ _ c.if-depth-eq0.false)) (levels-then _ 7 _ _ _) in
-    let p1 = go 1 (λ x. (walkers x (c.args.depth - 1)).unary) _ p0 refl c.unary_expr-operand.ensures (record { symbols = c.unary_expr-operand.auto.symbols; head = c.unary_expr-operand.auto.head; load = c.unary_expr-operand.auto.load }) c.in-Done.is in
-    let p2 = go 0 (λ x. rest x 7 (walkers x (c.args.depth - 1)).unary) _ p1 refl c.or_expr-lhs.ensures (record { symbols = c.or_expr-lhs.auto.symbols; head = c.or_expr-lhs.auto.head; load = c.or_expr-lhs.auto.load }) c.in-Done-lhs.is in
-    let p3 = read _ (read _ (numbered _ (aimed _ _ p2 c.top-to.ensures))) in
-    let p4 = yes _ _ p3 (test (λ k. eqb k 8) p3 (eq-eqb _ _ (sym c.kind_at.ensures ∙ c.if-kind_at-ne-EQ.false))) in
-    let p5 = go 0 (λ x. consume x) _ p4 refl (pass-any p4.is c.consume-passed.ensures) same c.in-Done-passed.is in
-    let p6 = go 1 (λ x. (walkers x (c.args.depth - 1)).assign) _ p5 refl c.assign_expr-rhs.ensures (record { symbols = c.assign_expr-rhs.auto.symbols; head = c.assign_expr-rhs.auto.head; load = c.assign_expr-rhs.auto.load }) c.in-Done-rhs.is in
-    last 0 (λ x. assign_to x (node_of c.top-to.result) (c.in-Done-lhs.x.nodes - 1) c.in-Done-lhs.x.at) p6 refl (omega arith) c.assign_to.ensures)
+    let p0 = by (assign-step c.requires c.args.depth c.if-depth-eq0.false) (λ s. levels-then _ 7 _ _ s) in
+    let p1 = go (λ x. (walkers x (c.args.depth - 1)).unary) _ p0 c.in_ok-unary_expr.ensures in
+    let p2 = go (λ x. rest x 7 (walkers x (c.args.depth - 1)).unary) _ p1 c.in_ok-or_expr.ensures in
+    let p3 = yes _ _ (stood _ (kinded _ (numbered _ (aimed c.top-target.result _ p2 c.top-target.ensures)))) (eq-eqb _ _ (sym c.kind.ensures ∙ c.if-kind-ne-EQ.false)) in
+    let p4 = go (λ x. consume x) _ p3 c.in_ok-consume.ensures.does in
+    let p5 = go (λ x. (walkers x (c.args.depth - 1)).assign) _ p4 c.in_ok-assign_expr.ensures in
+    last (λ x. assign_to x (node_of c.top-target.result) (c.or_expr.new.p.nodes - 1) c.or_expr.new.p.at) (λ x. (walkers x c.args.depth).assign) p5 (omega arith) c.assign_to.ensures
 
-pub call-consume-passed-requires : goal.call-consume-passed-requires
-call-consume-passed-requires t c = c.requires.stands
+pub level_below-returns-in_default : goal.level_below-returns-in_default
+level_below-returns-in_default t c =
+    idle c.args.n c.args.depth (omega (arith, c.requires.1)) c.requires.0
 
-pub call-returns-in_default : goal.call-returns-in_default
+pub call-returns-in_err-consume : goal.call-returns-in_err-consume
 unfolding call_part
-call-returns-in_default t c =
-    gives (λ E e. let p0 = begin 0 (λ x. call_part x (walkers x c.args.depth) (node_of c.args.to) c.args.w.at) E e c.requires in
-    stop 0 (λ x. consume x) _ p0 refl (omega arith) (pass-any p0.is c.consume-passed.ensures) (not_done _ c.in_default.not-Done))
+call-returns-in_err-consume t c =
+    let p0 = begin 0 (λ x. call_part x (walkers x c.args.depth) (node_of c.args.target) c.args.p.now.at) c.requires in
+    conveyed (refused (λ x. consume x) _ (λ x. call_part x (walkers x c.args.depth) (node_of c.args.target) c.args.p.now.at) p0 c.in_err-consume.ensures.does refl) c.from_residual.ensures
 
-pub call-param_list-items-requires : goal.call-param_list-items-requires
+pub call-returns-in_err-n : goal.call-returns-in_err-n
 unfolding call_part
-call-param_list-items-requires t c =
-    let E = blank c.args.w.errors in
-    let e = blanks c.args.w.errors in
-    let p0 = begin 0 (λ x. call_part x (walkers x c.args.depth) (node_of c.args.to) c.args.w.at) E e c.requires in
-    let p1 = go 0 (λ x. consume x) _ p0 refl (pass-any p0.is c.consume-passed.ensures) same c.in-Done.is in
-    (omega (arith, c.decreases), p1.is)
+call-returns-in_err-n t c =
+    let p0 = begin 0 (λ x. call_part x (walkers x c.args.depth) (node_of c.args.target) c.args.p.now.at) c.requires in
+    let p1 = go (λ x. consume x) _ p0 c.in_ok-consume.ensures.does in
+    conveyed (stop (λ x. param_list x (walkers x c.args.depth).assign (fuel x) 0) _ (λ x. call_part x (walkers x c.args.depth) (node_of c.args.target) c.args.p.now.at) p1 (omega arith) c.in_err-n.ensures.does) c.from_residual-in_err-n.ensures
 
-pub call-returns-in_default-items : goal.call-returns-in_default-items
+pub call-returns-in_err-expect : goal.call-returns-in_err-expect
 unfolding call_part
-call-returns-in_default-items t c =
-    gives (λ E e. let p0 = begin 0 (λ x. call_part x (walkers x c.args.depth) (node_of c.args.to) c.args.w.at) E e c.requires in
-    let p1 = go 0 (λ x. consume x) _ p0 refl (pass-any p0.is c.consume-passed.ensures) same c.in-Done.is in
-    stop 0 (λ x. param_list x (walkers x c.args.depth).assign (fuel x) 0) _ p1 refl (omega arith) c.param_list-items.ensures.0 (not_done _ c.in_default-items.not-Done))
-
-pub call-expect-closed-requires : goal.call-expect-closed-requires
-unfolding call_part
-call-expect-closed-requires t c =
-    let E = blank c.args.w.errors in
-    let e = blanks c.args.w.errors in
-    let p0 = begin 0 (λ x. call_part x (walkers x c.args.depth) (node_of c.args.to) c.args.w.at) E e c.requires in
-    let p1 = go 0 (λ x. consume x) _ p0 refl (pass-any p0.is c.consume-passed.ensures) same c.in-Done.is in
-    let p2 = go 0 (λ x. param_list x (walkers x c.args.depth).assign (fuel x) 0) _ p1 refl c.param_list-items.ensures.0 (record { symbols = c.param_list-items.auto.symbols; head = c.param_list-items.auto.head; load = c.param_list-items.auto.load }) c.in-Done-items.is in
-    p2.is.stands
-
-pub call-returns-in_default-closed : goal.call-returns-in_default-closed
-unfolding call_part
-call-returns-in_default-closed t c =
-    gives (λ E e. let p0 = begin 0 (λ x. call_part x (walkers x c.args.depth) (node_of c.args.to) c.args.w.at) E e c.requires in
-    let p1 = go 0 (λ x. consume x) _ p0 refl (pass-any p0.is c.consume-passed.ensures) same c.in-Done.is in
-    let p2 = go 0 (λ x. param_list x (walkers x c.args.depth).assign (fuel x) 0) _ p1 refl c.param_list-items.ensures.0 (record { symbols = c.param_list-items.auto.symbols; head = c.param_list-items.auto.head; load = c.param_list-items.auto.load }) c.in-Done-items.is in
-    stop 0 (λ x. expect x 2) _ p2 refl (omega arith) (expected p2.is c.expect-closed.ensures) (not_done _ c.in_default-closed.not-Done))
-
-pub call-call_named-requires : goal.call-call_named-requires
-unfolding call_part
-call-call_named-requires t c =
-    let E = blank c.args.w.errors in
-    let e = blanks c.args.w.errors in
-    let p0 = begin 0 (λ x. call_part x (walkers x c.args.depth) (node_of c.args.to) c.args.w.at) E e c.requires in
-    let p1 = go 0 (λ x. consume x) _ p0 refl (pass-any p0.is c.consume-passed.ensures) same c.in-Done.is in
-    let p2 = go 0 (λ x. param_list x (walkers x c.args.depth).assign (fuel x) 0) _ p1 refl c.param_list-items.ensures.0 (record { symbols = c.param_list-items.auto.symbols; head = c.param_list-items.auto.head; load = c.param_list-items.auto.load }) c.in-Done-items.is in
-    let p3 = go 0 (λ x. expect x 2) _ p2 refl (expected p2.is c.expect-closed.ensures) same c.in-Done-closed.is in
-    (p3.is, c.requires.stands.here, count_at c.param_list-items.ensures.1 c.in-Done-items.is)
+call-returns-in_err-expect t c =
+    let p0 = begin 0 (λ x. call_part x (walkers x c.args.depth) (node_of c.args.target) c.args.p.now.at) c.requires in
+    let p1 = go (λ x. consume x) _ p0 c.in_ok-consume.ensures.does in
+    let p2 = go (λ x. param_list x (walkers x c.args.depth).assign (fuel x) 0) _ p1 c.in_ok-n.ensures.does in
+    conveyed (stop (λ x. expect x 2) _ (λ x. call_part x (walkers x c.args.depth) (node_of c.args.target) c.args.p.now.at) p2 (omega arith) c.in_err-expect.ensures.does) c.from_residual-in_err-expect.ensures
 
 pub call-returns : goal.call-returns
 unfolding call_part
 call-returns t c =
-    gives (λ E e. let p0 = begin 0 (λ x. call_part x (walkers x c.args.depth) (node_of c.args.to) c.args.w.at) E e c.requires in
-    let p1 = go 0 (λ x. consume x) _ p0 refl (pass-any p0.is c.consume-passed.ensures) same c.in-Done.is in
-    let p2 = go 0 (λ x. param_list x (walkers x c.args.depth).assign (fuel x) 0) _ p1 refl c.param_list-items.ensures.0 (record { symbols = c.param_list-items.auto.symbols; head = c.param_list-items.auto.head; load = c.param_list-items.auto.load }) c.in-Done-items.is in
-    let p3 = go 0 (λ x. expect x 2) _ p2 refl (expected p2.is c.expect-closed.ensures) same c.in-Done-closed.is in
-    last 0 (λ x. call_named x (node_of c.args.to) c.args.w.at c.in-Done-items.y.count) p3 refl (omega arith) c.call_named.ensures)
+    let p0 = begin 0 (λ x. call_part x (walkers x c.args.depth) (node_of c.args.target) c.args.p.now.at) c.requires in
+    let p1 = go (λ x. consume x) _ p0 c.in_ok-consume.ensures.does in
+    let p2 = go (λ x. param_list x (walkers x c.args.depth).assign (fuel x) 0) _ p1 c.in_ok-n.ensures.does in
+    let p3 = go (λ x. expect x 2) _ p2 c.in_ok-expect.ensures.does in
+    last (λ x. call_named x (node_of c.args.target) c.args.p.now.at c.in_ok-n.n) (λ x. call_part x (walkers x c.args.depth) (node_of c.args.target) c.args.p.now.at) p3 (omega arith) c.call_named.ensures
 
-pub compr_expr-binds-requires : goal.compr_expr-binds-requires
-compr_expr-binds-requires t c = c.requires.stands.here
-
-pub compr_expr-returns-then-not-binds : goal.compr_expr-returns-then-not-binds
-compr_expr-returns-then-not-binds t c = ends-at-once 3 c.args.depth c.requires (sym c.binds.ensures ∙ c.if-not-binds.true)
-
-pub compr_expr-add_or_sub_expr-lhs-requires : goal.compr_expr-add_or_sub_expr-lhs-requires
-compr_expr-add_or_sub_expr-lhs-requires t c = (omega (arith, c.decreases), c.requires)
-
-pub compr_expr-returns-in_default : goal.compr_expr-returns-in_default
-compr_expr-returns-in_default t c = begins-not 3 c.args.depth c.requires c.add_or_sub_expr-lhs.ensures (not_done _ c.in_default.not-Done)
-
-pub compr_expr-loop-lim-init : goal.compr_expr-loop-lim-init
-compr_expr-loop-lim-init t c = looping (Turns 3 c.args.depth) (ready (begins 3 c.args.depth c.requires c.add_or_sub_expr-lhs.ensures (record { symbols = c.add_or_sub_expr-lhs.auto.symbols; head = c.add_or_sub_expr-lhs.auto.head; load = c.add_or_sub_expr-lhs.auto.load }) c.in-Done.is))
-
-pub compr_expr-kind_at-requires : goal.compr_expr-kind_at-requires
-compr_expr-kind_at-requires t c = c.loop-lim.invariant.is.stands.here
-
-pub compr_expr-returns-then-looseness-ne4 : goal.compr_expr-returns-then-looseness-ne4
-compr_expr-returns-then-looseness-ne4 t c = ends 3 c.args.depth c.loop-lim.invariant (begins 3 c.args.depth c.requires c.add_or_sub_expr-lhs.ensures (record { symbols = c.add_or_sub_expr-lhs.auto.symbols; head = c.add_or_sub_expr-lhs.auto.head; load = c.add_or_sub_expr-lhs.auto.load }) c.in-Done.is) 0 (turns-end 3 c.args.depth c.loop-lim.invariant.is (c.loop-lim.invariant.f - 1) (λ z. c.if-looseness-ne4.true (c.looseness.ensures ∙ ap looseness c.kind_at.ensures ∙ z)))
-
-pub compr_expr-consume-passed-requires : goal.compr_expr-consume-passed-requires
-compr_expr-consume-passed-requires t c = c.loop-lim.invariant.is.stands
-
-pub compr_expr-returns-in_default-passed : goal.compr_expr-returns-in_default-passed
-compr_expr-returns-in_default-passed t c = ends 3 c.args.depth c.loop-lim.invariant (begins 3 c.args.depth c.requires c.add_or_sub_expr-lhs.ensures (record { symbols = c.add_or_sub_expr-lhs.auto.symbols; head = c.add_or_sub_expr-lhs.auto.head; load = c.add_or_sub_expr-lhs.auto.load }) c.in-Done.is) 1 (signs-not 3 c.args.depth c.loop-lim.invariant.is (c.loop-lim.invariant.f - 1) (ap looseness (sym c.kind_at.ensures) ∙ sym c.looseness.ensures ∙ c.if-looseness-ne4.false) c.consume-passed.ensures (not_done _ c.in_default-passed.not-Done))
-
-pub compr_expr-unary_expr-operand-requires : goal.compr_expr-unary_expr-operand-requires
-compr_expr-unary_expr-operand-requires t c =
-    let s1 = signs 3 c.args.depth c.loop-lim.invariant.is (c.loop-lim.invariant.f - 1) (ap looseness (sym c.kind_at.ensures) ∙ sym c.looseness.ensures ∙ c.if-looseness-ne4.false) c.consume-passed.ensures c.in-Done-passed.is in
-    (omega (arith, c.decreases), ready s1)
-
-pub compr_expr-returns-in_default-operand : goal.compr_expr-returns-in_default-operand
-compr_expr-returns-in_default-operand t c =
-    let s1 = signs 3 c.args.depth c.loop-lim.invariant.is (c.loop-lim.invariant.f - 1) (ap looseness (sym c.kind_at.ensures) ∙ sym c.looseness.ensures ∙ c.if-looseness-ne4.false) c.consume-passed.ensures c.in-Done-passed.is in
-    ends 3 c.args.depth c.loop-lim.invariant (begins 3 c.args.depth c.requires c.add_or_sub_expr-lhs.ensures (record { symbols = c.add_or_sub_expr-lhs.auto.symbols; head = c.add_or_sub_expr-lhs.auto.head; load = c.add_or_sub_expr-lhs.auto.load }) c.in-Done.is) 1 (stops 1 (Operand 3 c.args.depth) (Rest 3 c.args.depth c.loop-lim.x.at (c.loop-lim.invariant.f - 1)) s1 c.unary_expr-operand.ensures (not_done _ c.in_default-operand.not-Done))
-
-pub compr_expr-add_or_sub_expr-rhs-requires : goal.compr_expr-add_or_sub_expr-rhs-requires
-compr_expr-add_or_sub_expr-rhs-requires t c =
-    let s1 = signs 3 c.args.depth c.loop-lim.invariant.is (c.loop-lim.invariant.f - 1) (ap looseness (sym c.kind_at.ensures) ∙ sym c.looseness.ensures ∙ c.if-looseness-ne4.false) c.consume-passed.ensures c.in-Done-passed.is in
-    let s2 = goes 1 (Operand 3 c.args.depth) (Rest 3 c.args.depth c.loop-lim.x.at (c.loop-lim.invariant.f - 1)) s1 c.unary_expr-operand.ensures (record { symbols = c.unary_expr-operand.auto.symbols; head = c.unary_expr-operand.auto.head; load = c.unary_expr-operand.auto.load }) c.in-Done-operand.is in
-    (omega (arith, c.decreases), ready s2)
-
-pub compr_expr-returns-in_default-rhs : goal.compr_expr-returns-in_default-rhs
-compr_expr-returns-in_default-rhs t c =
-    let s1 = signs 3 c.args.depth c.loop-lim.invariant.is (c.loop-lim.invariant.f - 1) (ap looseness (sym c.kind_at.ensures) ∙ sym c.looseness.ensures ∙ c.if-looseness-ne4.false) c.consume-passed.ensures c.in-Done-passed.is in
-    let s2 = goes 1 (Operand 3 c.args.depth) (Rest 3 c.args.depth c.loop-lim.x.at (c.loop-lim.invariant.f - 1)) s1 c.unary_expr-operand.ensures (record { symbols = c.unary_expr-operand.auto.symbols; head = c.unary_expr-operand.auto.head; load = c.unary_expr-operand.auto.load }) c.in-Done-operand.is in
-    ends 3 c.args.depth c.loop-lim.invariant (begins 3 c.args.depth c.requires c.add_or_sub_expr-lhs.ensures (record { symbols = c.add_or_sub_expr-lhs.auto.symbols; head = c.add_or_sub_expr-lhs.auto.head; load = c.add_or_sub_expr-lhs.auto.load }) c.in-Done.is) 1 (stops 0 (Below 3 c.args.depth) (Node 3 c.args.depth c.loop-lim.x.at (c.loop-lim.invariant.f - 1)) s2 c.add_or_sub_expr-rhs.ensures (not_done _ c.in_default-rhs.not-Done))
-
-pub compr_expr-overflow_cast-op : goal.compr_expr-overflow_cast-op
-compr_expr-overflow_cast-op t c = omega (arith, c.loop-lim.invariant.is.stands.here, c.loop-lim.invariant.is.stands.toks.few)
-
-pub compr_expr-push_node-made-requires : goal.compr_expr-push_node-made-requires
-compr_expr-push_node-made-requires t c =
-    let s1 = signs 3 c.args.depth c.loop-lim.invariant.is (c.loop-lim.invariant.f - 1) (ap looseness (sym c.kind_at.ensures) ∙ sym c.looseness.ensures ∙ c.if-looseness-ne4.false) c.consume-passed.ensures c.in-Done-passed.is in
-    let s2 = goes 1 (Operand 3 c.args.depth) (Rest 3 c.args.depth c.loop-lim.x.at (c.loop-lim.invariant.f - 1)) s1 c.unary_expr-operand.ensures (record { symbols = c.unary_expr-operand.auto.symbols; head = c.unary_expr-operand.auto.head; load = c.unary_expr-operand.auto.load }) c.in-Done-operand.is in
-    let s3 = goes 0 (Below 3 c.args.depth) (Node 3 c.args.depth c.loop-lim.x.at (c.loop-lim.invariant.f - 1)) s2 c.add_or_sub_expr-rhs.ensures (record { symbols = c.add_or_sub_expr-rhs.auto.symbols; head = c.add_or_sub_expr-rhs.auto.head; load = c.add_or_sub_expr-rhs.auto.load }) c.in-Done-rhs.is in
-    ((ready s3).even, (ready s3).used)
-
-pub compr_expr-returns-in_default-made : goal.compr_expr-returns-in_default-made
-compr_expr-returns-in_default-made t c =
-    let s1 = signs 3 c.args.depth c.loop-lim.invariant.is (c.loop-lim.invariant.f - 1) (ap looseness (sym c.kind_at.ensures) ∙ sym c.looseness.ensures ∙ c.if-looseness-ne4.false) c.consume-passed.ensures c.in-Done-passed.is in
-    let s2 = goes 1 (Operand 3 c.args.depth) (Rest 3 c.args.depth c.loop-lim.x.at (c.loop-lim.invariant.f - 1)) s1 c.unary_expr-operand.ensures (record { symbols = c.unary_expr-operand.auto.symbols; head = c.unary_expr-operand.auto.head; load = c.unary_expr-operand.auto.load }) c.in-Done-operand.is in
-    let s3 = goes 0 (Below 3 c.args.depth) (Node 3 c.args.depth c.loop-lim.x.at (c.loop-lim.invariant.f - 1)) s2 c.add_or_sub_expr-rhs.ensures (record { symbols = c.add_or_sub_expr-rhs.auto.symbols; head = c.add_or_sub_expr-rhs.auto.head; load = c.add_or_sub_expr-rhs.auto.load }) c.in-Done-rhs.is in
-    ends 3 c.args.depth c.loop-lim.invariant (begins 3 c.args.depth c.requires c.add_or_sub_expr-lhs.ensures (record { symbols = c.add_or_sub_expr-lhs.auto.symbols; head = c.add_or_sub_expr-lhs.auto.head; load = c.add_or_sub_expr-lhs.auto.load }) c.in-Done.is) 1 (stops 0 (λ x. push x 22 false 2 c.loop-lim.x.at) (λ x. Turns 3 c.args.depth x (c.loop-lim.invariant.f - 1)) s3 (pushed (ready s3) c.push_node-made.ensures) (not_done _ c.in_default-made.not-Done))
-
-pub compr_expr-loop-lim-smaller : goal.compr_expr-loop-lim-smaller
-compr_expr-loop-lim-smaller t c =
-    let s1 = signs 3 c.args.depth c.loop-lim.invariant.is (c.loop-lim.invariant.f - 1) (ap looseness (sym c.kind_at.ensures) ∙ sym c.looseness.ensures ∙ c.if-looseness-ne4.false) c.consume-passed.ensures c.in-Done-passed.is in
-    let s2 = goes 1 (Operand 3 c.args.depth) (Rest 3 c.args.depth c.loop-lim.x.at (c.loop-lim.invariant.f - 1)) s1 c.unary_expr-operand.ensures (record { symbols = c.unary_expr-operand.auto.symbols; head = c.unary_expr-operand.auto.head; load = c.unary_expr-operand.auto.load }) c.in-Done-operand.is in
-    let s3 = goes 0 (Below 3 c.args.depth) (Node 3 c.args.depth c.loop-lim.x.at (c.loop-lim.invariant.f - 1)) s2 c.add_or_sub_expr-rhs.ensures (record { symbols = c.add_or_sub_expr-rhs.auto.symbols; head = c.add_or_sub_expr-rhs.auto.head; load = c.add_or_sub_expr-rhs.auto.load }) c.in-Done-rhs.is in
-    let s4 = goes 0 (λ x. push x 22 false 2 c.loop-lim.x.at) (λ x. Turns 3 c.args.depth x (c.loop-lim.invariant.f - 1)) s3 (pushed (ready s3) c.push_node-made.ensures) (kept-nodes c.push_node-made.auto.head c.push_node-made.auto.load) c.in-Done-made.is in
-    omega (arith, (at_stage s4).on, (ready s4).stands.here)
-
-pub compr_expr-loop-lim-preserved : goal.compr_expr-loop-lim-preserved
-compr_expr-loop-lim-preserved t c =
-    let s1 = signs 3 c.args.depth c.loop-lim.invariant.is (c.loop-lim.invariant.f - 1) (ap looseness (sym c.kind_at.ensures) ∙ sym c.looseness.ensures ∙ c.if-looseness-ne4.false) c.consume-passed.ensures c.in-Done-passed.is in
-    let s2 = goes 1 (Operand 3 c.args.depth) (Rest 3 c.args.depth c.loop-lim.x.at (c.loop-lim.invariant.f - 1)) s1 c.unary_expr-operand.ensures (record { symbols = c.unary_expr-operand.auto.symbols; head = c.unary_expr-operand.auto.head; load = c.unary_expr-operand.auto.load }) c.in-Done-operand.is in
-    let s3 = goes 0 (Below 3 c.args.depth) (Node 3 c.args.depth c.loop-lim.x.at (c.loop-lim.invariant.f - 1)) s2 c.add_or_sub_expr-rhs.ensures (record { symbols = c.add_or_sub_expr-rhs.auto.symbols; head = c.add_or_sub_expr-rhs.auto.head; load = c.add_or_sub_expr-rhs.auto.load }) c.in-Done-rhs.is in
-    let s4 = goes 0 (λ x. push x 22 false 2 c.loop-lim.x.at) (λ x. Turns 3 c.args.depth x (c.loop-lim.invariant.f - 1)) s3 (pushed (ready s3) c.push_node-made.ensures) (kept-nodes c.push_node-made.auto.head c.push_node-made.auto.load) c.in-Done-made.is in
-    again 3 c.args.depth c.loop-lim.invariant s4
-
-pub dot-consume-passed-requires : goal.dot-consume-passed-requires
-dot-consume-passed-requires t c = c.requires.stands
-
-pub dot-returns-in_default : goal.dot-returns-in_default
+pub dot-returns-in_err-consume : goal.dot-returns-in_err-consume
 unfolding dot
-dot-returns-in_default t c =
-    gives (λ E e. let p0 = begin 0 (λ x. dot x (walkers x c.args.depth) (node_of c.args.to) c.args.w.at) E e c.requires in
-    stop 0 (λ x. consume x) _ p0 refl (omega arith) (pass-any p0.is c.consume-passed.ensures) (not_done _ c.in_default.not-Done))
+dot-returns-in_err-consume t c =
+    let p0 = begin 0 (λ x. dot x (walkers x c.args.depth) (node_of c.args.target) c.args.p.now.at) c.requires in
+    conveyed (refused (λ x. consume x) _ (λ x. dot x (walkers x c.args.depth) (node_of c.args.target) c.args.p.now.at) p0 c.in_err-consume.ensures.does refl) c.from_residual.ensures
 
-pub dot-assign_expr-field-requires : goal.dot-assign_expr-field-requires
+pub dot-returns-in_err-assign_expr : goal.dot-returns-in_err-assign_expr
 unfolding dot
-dot-assign_expr-field-requires t c =
-    let E = blank c.args.w.errors in
-    let e = blanks c.args.w.errors in
-    let p0 = begin 0 (λ x. dot x (walkers x c.args.depth) (node_of c.args.to) c.args.w.at) E e c.requires in
-    let p1 = go 0 (λ x. consume x) _ p0 refl (pass-any p0.is c.consume-passed.ensures) same c.in-Done.is in
-    let p2 = switched false _ p1 c.set_check-off.ensures in
-    (omega (arith, c.decreases), p2.is)
+dot-returns-in_err-assign_expr t c =
+    let p0 = begin 0 (λ x. dot x (walkers x c.args.depth) (node_of c.args.target) c.args.p.now.at) c.requires in
+    let p1 = switched false _ (go (λ x. consume x) _ p0 c.in_ok-consume.ensures.does) in
+    conveyed (stop (λ x. (walkers x c.args.depth).assign) _ (λ x. dot x (walkers x c.args.depth) (node_of c.args.target) c.args.p.now.at) p1 (omega arith) c.in_err-assign_expr.ensures) c.from_residual-in_err-assign_expr.ensures
 
-pub dot-returns-in_default-field : goal.dot-returns-in_default-field
+pub dot-returns-in_err-end_dot : goal.dot-returns-in_err-end_dot
 unfolding dot
-dot-returns-in_default-field t c =
-    gives (λ E e. let p0 = begin 0 (λ x. dot x (walkers x c.args.depth) (node_of c.args.to) c.args.w.at) E e c.requires in
-    let p1 = go 0 (λ x. consume x) _ p0 refl (pass-any p0.is c.consume-passed.ensures) same c.in-Done.is in
-    let p2 = switched false _ p1 c.set_check-off.ensures in
-    stop 1 (λ x. (walkers x c.args.depth).assign) _ p2 refl (omega arith) c.assign_expr-field.ensures (not_done _ c.in_default-field.not-Done))
-
-pub dot-end_dot-requires : goal.dot-end_dot-requires
-unfolding dot
-dot-end_dot-requires t c =
-    let E = blank c.args.w.errors in
-    let e = blanks c.args.w.errors in
-    let p0 = begin 0 (λ x. dot x (walkers x c.args.depth) (node_of c.args.to) c.args.w.at) E e c.requires in
-    let p1 = go 0 (λ x. consume x) _ p0 refl (pass-any p0.is c.consume-passed.ensures) same c.in-Done.is in
-    let p2 = switched false _ p1 c.set_check-off.ensures in
-    let p3 = go 1 (λ x. (walkers x c.args.depth).assign) _ p2 refl c.assign_expr-field.ensures (record { symbols = c.assign_expr-field.auto.symbols; head = c.assign_expr-field.auto.head; load = c.assign_expr-field.auto.load }) c.in-Done-field.is in
-    let p4 = switched true _ p3 refl in
-    (omega (arith, c.requires.stands.here, c.requires.stands.toks.even), p4.is.even, p4.is.used)
+dot-returns-in_err-end_dot t c =
+    let p0 = begin 0 (λ x. dot x (walkers x c.args.depth) (node_of c.args.target) c.args.p.now.at) c.requires in
+    let p1 = switched false _ (go (λ x. consume x) _ p0 c.in_ok-consume.ensures.does) in
+    let p2 = switched true _ (go (λ x. (walkers x c.args.depth).assign) _ p1 c.in_ok-assign_expr.ensures) in
+    conveyed (last (λ x. accesses c.args.target 143 4 c.args.p.now.at x) (λ x. dot x (walkers x c.args.depth) (node_of c.args.target) c.args.p.now.at) p2 (omega arith) c.in_err-end_dot.ensures.does) c.from_residual-in_err-end_dot.ensures
 
 pub dot-returns : goal.dot-returns
 unfolding dot
 dot-returns t c =
-    gives (λ E e. let p0 = begin 0 (λ x. dot x (walkers x c.args.depth) (node_of c.args.to) c.args.w.at) E e c.requires in
-    let p1 = go 0 (λ x. consume x) _ p0 refl (pass-any p0.is c.consume-passed.ensures) same c.in-Done.is in
-    let p2 = switched false _ p1 c.set_check-off.ensures in
-    let p3 = go 1 (λ x. (walkers x c.args.depth).assign) _ p2 refl c.assign_expr-field.ensures (record { symbols = c.assign_expr-field.auto.symbols; head = c.assign_expr-field.auto.head; load = c.assign_expr-field.auto.load }) c.in-Done-field.is in
-    let p4 = switched true _ p3 refl in
-    last 0 (λ x s. go_on (single x (node_of c.args.to) 4 c.args.w.at s) (λ a. push x 15 false 2 0)) p4 refl (omega arith) (accessed p4.is c.requires.stands.here c.end_dot.ensures))
+    let p0 = begin 0 (λ x. dot x (walkers x c.args.depth) (node_of c.args.target) c.args.p.now.at) c.requires in
+    let p1 = switched false _ (go (λ x. consume x) _ p0 c.in_ok-consume.ensures.does) in
+    let p2 = switched true _ (go (λ x. (walkers x c.args.depth).assign) _ p1 c.in_ok-assign_expr.ensures) in
+    last (λ x. accesses c.args.target 143 4 c.args.p.now.at x) (λ x. dot x (walkers x c.args.depth) (node_of c.args.target) c.args.p.now.at) p2 (omega arith) c.in_ok-end_dot.ensures.does
 
-pub equality_expr-binds-requires : goal.equality_expr-binds-requires
-equality_expr-binds-requires t c = c.requires.stands.here
-
-pub equality_expr-returns-then-not-binds : goal.equality_expr-returns-then-not-binds
-equality_expr-returns-then-not-binds t c = ends-at-once 4 c.args.depth c.requires (sym c.binds.ensures ∙ c.if-not-binds.true)
-
-pub equality_expr-compr_expr-lhs-requires : goal.equality_expr-compr_expr-lhs-requires
-equality_expr-compr_expr-lhs-requires t c = (omega (arith, c.decreases), c.requires)
-
-pub equality_expr-returns-in_default : goal.equality_expr-returns-in_default
-equality_expr-returns-in_default t c = begins-not 4 c.args.depth c.requires c.compr_expr-lhs.ensures (not_done _ c.in_default.not-Done)
-
-pub equality_expr-loop-lim-init : goal.equality_expr-loop-lim-init
-equality_expr-loop-lim-init t c = looping (Turns 4 c.args.depth) (ready (begins 4 c.args.depth c.requires c.compr_expr-lhs.ensures (record { symbols = c.compr_expr-lhs.auto.symbols; head = c.compr_expr-lhs.auto.head; load = c.compr_expr-lhs.auto.load }) c.in-Done.is))
-
-pub equality_expr-kind_at-requires : goal.equality_expr-kind_at-requires
-equality_expr-kind_at-requires t c = c.loop-lim.invariant.is.stands.here
-
-pub equality_expr-returns-then-looseness-ne5 : goal.equality_expr-returns-then-looseness-ne5
-equality_expr-returns-then-looseness-ne5 t c = ends 4 c.args.depth c.loop-lim.invariant (begins 4 c.args.depth c.requires c.compr_expr-lhs.ensures (record { symbols = c.compr_expr-lhs.auto.symbols; head = c.compr_expr-lhs.auto.head; load = c.compr_expr-lhs.auto.load }) c.in-Done.is) 0 (turns-end 4 c.args.depth c.loop-lim.invariant.is (c.loop-lim.invariant.f - 1) (λ z. c.if-looseness-ne5.true (c.looseness.ensures ∙ ap looseness c.kind_at.ensures ∙ z)))
-
-pub equality_expr-consume-passed-requires : goal.equality_expr-consume-passed-requires
-equality_expr-consume-passed-requires t c = c.loop-lim.invariant.is.stands
-
-pub equality_expr-returns-in_default-passed : goal.equality_expr-returns-in_default-passed
-equality_expr-returns-in_default-passed t c = ends 4 c.args.depth c.loop-lim.invariant (begins 4 c.args.depth c.requires c.compr_expr-lhs.ensures (record { symbols = c.compr_expr-lhs.auto.symbols; head = c.compr_expr-lhs.auto.head; load = c.compr_expr-lhs.auto.load }) c.in-Done.is) 1 (signs-not 4 c.args.depth c.loop-lim.invariant.is (c.loop-lim.invariant.f - 1) (ap looseness (sym c.kind_at.ensures) ∙ sym c.looseness.ensures ∙ c.if-looseness-ne5.false) c.consume-passed.ensures (not_done _ c.in_default-passed.not-Done))
-
-pub equality_expr-unary_expr-operand-requires : goal.equality_expr-unary_expr-operand-requires
-equality_expr-unary_expr-operand-requires t c =
-    let s1 = signs 4 c.args.depth c.loop-lim.invariant.is (c.loop-lim.invariant.f - 1) (ap looseness (sym c.kind_at.ensures) ∙ sym c.looseness.ensures ∙ c.if-looseness-ne5.false) c.consume-passed.ensures c.in-Done-passed.is in
-    (omega (arith, c.decreases), ready s1)
-
-pub equality_expr-returns-in_default-operand : goal.equality_expr-returns-in_default-operand
-equality_expr-returns-in_default-operand t c =
-    let s1 = signs 4 c.args.depth c.loop-lim.invariant.is (c.loop-lim.invariant.f - 1) (ap looseness (sym c.kind_at.ensures) ∙ sym c.looseness.ensures ∙ c.if-looseness-ne5.false) c.consume-passed.ensures c.in-Done-passed.is in
-    ends 4 c.args.depth c.loop-lim.invariant (begins 4 c.args.depth c.requires c.compr_expr-lhs.ensures (record { symbols = c.compr_expr-lhs.auto.symbols; head = c.compr_expr-lhs.auto.head; load = c.compr_expr-lhs.auto.load }) c.in-Done.is) 1 (stops 1 (Operand 4 c.args.depth) (Rest 4 c.args.depth c.loop-lim.x.at (c.loop-lim.invariant.f - 1)) s1 c.unary_expr-operand.ensures (not_done _ c.in_default-operand.not-Done))
-
-pub equality_expr-compr_expr-rhs-requires : goal.equality_expr-compr_expr-rhs-requires
-equality_expr-compr_expr-rhs-requires t c =
-    let s1 = signs 4 c.args.depth c.loop-lim.invariant.is (c.loop-lim.invariant.f - 1) (ap looseness (sym c.kind_at.ensures) ∙ sym c.looseness.ensures ∙ c.if-looseness-ne5.false) c.consume-passed.ensures c.in-Done-passed.is in
-    let s2 = goes 1 (Operand 4 c.args.depth) (Rest 4 c.args.depth c.loop-lim.x.at (c.loop-lim.invariant.f - 1)) s1 c.unary_expr-operand.ensures (record { symbols = c.unary_expr-operand.auto.symbols; head = c.unary_expr-operand.auto.head; load = c.unary_expr-operand.auto.load }) c.in-Done-operand.is in
-    (omega (arith, c.decreases), ready s2)
-
-pub equality_expr-returns-in_default-rhs : goal.equality_expr-returns-in_default-rhs
-equality_expr-returns-in_default-rhs t c =
-    let s1 = signs 4 c.args.depth c.loop-lim.invariant.is (c.loop-lim.invariant.f - 1) (ap looseness (sym c.kind_at.ensures) ∙ sym c.looseness.ensures ∙ c.if-looseness-ne5.false) c.consume-passed.ensures c.in-Done-passed.is in
-    let s2 = goes 1 (Operand 4 c.args.depth) (Rest 4 c.args.depth c.loop-lim.x.at (c.loop-lim.invariant.f - 1)) s1 c.unary_expr-operand.ensures (record { symbols = c.unary_expr-operand.auto.symbols; head = c.unary_expr-operand.auto.head; load = c.unary_expr-operand.auto.load }) c.in-Done-operand.is in
-    ends 4 c.args.depth c.loop-lim.invariant (begins 4 c.args.depth c.requires c.compr_expr-lhs.ensures (record { symbols = c.compr_expr-lhs.auto.symbols; head = c.compr_expr-lhs.auto.head; load = c.compr_expr-lhs.auto.load }) c.in-Done.is) 1 (stops 0 (Below 4 c.args.depth) (Node 4 c.args.depth c.loop-lim.x.at (c.loop-lim.invariant.f - 1)) s2 c.compr_expr-rhs.ensures (not_done _ c.in_default-rhs.not-Done))
-
-pub equality_expr-overflow_cast-op : goal.equality_expr-overflow_cast-op
-equality_expr-overflow_cast-op t c = omega (arith, c.loop-lim.invariant.is.stands.here, c.loop-lim.invariant.is.stands.toks.few)
-
-pub equality_expr-push_node-made-requires : goal.equality_expr-push_node-made-requires
-equality_expr-push_node-made-requires t c =
-    let s1 = signs 4 c.args.depth c.loop-lim.invariant.is (c.loop-lim.invariant.f - 1) (ap looseness (sym c.kind_at.ensures) ∙ sym c.looseness.ensures ∙ c.if-looseness-ne5.false) c.consume-passed.ensures c.in-Done-passed.is in
-    let s2 = goes 1 (Operand 4 c.args.depth) (Rest 4 c.args.depth c.loop-lim.x.at (c.loop-lim.invariant.f - 1)) s1 c.unary_expr-operand.ensures (record { symbols = c.unary_expr-operand.auto.symbols; head = c.unary_expr-operand.auto.head; load = c.unary_expr-operand.auto.load }) c.in-Done-operand.is in
-    let s3 = goes 0 (Below 4 c.args.depth) (Node 4 c.args.depth c.loop-lim.x.at (c.loop-lim.invariant.f - 1)) s2 c.compr_expr-rhs.ensures (record { symbols = c.compr_expr-rhs.auto.symbols; head = c.compr_expr-rhs.auto.head; load = c.compr_expr-rhs.auto.load }) c.in-Done-rhs.is in
-    ((ready s3).even, (ready s3).used)
-
-pub equality_expr-returns-in_default-made : goal.equality_expr-returns-in_default-made
-equality_expr-returns-in_default-made t c =
-    let s1 = signs 4 c.args.depth c.loop-lim.invariant.is (c.loop-lim.invariant.f - 1) (ap looseness (sym c.kind_at.ensures) ∙ sym c.looseness.ensures ∙ c.if-looseness-ne5.false) c.consume-passed.ensures c.in-Done-passed.is in
-    let s2 = goes 1 (Operand 4 c.args.depth) (Rest 4 c.args.depth c.loop-lim.x.at (c.loop-lim.invariant.f - 1)) s1 c.unary_expr-operand.ensures (record { symbols = c.unary_expr-operand.auto.symbols; head = c.unary_expr-operand.auto.head; load = c.unary_expr-operand.auto.load }) c.in-Done-operand.is in
-    let s3 = goes 0 (Below 4 c.args.depth) (Node 4 c.args.depth c.loop-lim.x.at (c.loop-lim.invariant.f - 1)) s2 c.compr_expr-rhs.ensures (record { symbols = c.compr_expr-rhs.auto.symbols; head = c.compr_expr-rhs.auto.head; load = c.compr_expr-rhs.auto.load }) c.in-Done-rhs.is in
-    ends 4 c.args.depth c.loop-lim.invariant (begins 4 c.args.depth c.requires c.compr_expr-lhs.ensures (record { symbols = c.compr_expr-lhs.auto.symbols; head = c.compr_expr-lhs.auto.head; load = c.compr_expr-lhs.auto.load }) c.in-Done.is) 1 (stops 0 (λ x. push x 22 false 2 c.loop-lim.x.at) (λ x. Turns 4 c.args.depth x (c.loop-lim.invariant.f - 1)) s3 (pushed (ready s3) c.push_node-made.ensures) (not_done _ c.in_default-made.not-Done))
-
-pub equality_expr-loop-lim-smaller : goal.equality_expr-loop-lim-smaller
-equality_expr-loop-lim-smaller t c =
-    let s1 = signs 4 c.args.depth c.loop-lim.invariant.is (c.loop-lim.invariant.f - 1) (ap looseness (sym c.kind_at.ensures) ∙ sym c.looseness.ensures ∙ c.if-looseness-ne5.false) c.consume-passed.ensures c.in-Done-passed.is in
-    let s2 = goes 1 (Operand 4 c.args.depth) (Rest 4 c.args.depth c.loop-lim.x.at (c.loop-lim.invariant.f - 1)) s1 c.unary_expr-operand.ensures (record { symbols = c.unary_expr-operand.auto.symbols; head = c.unary_expr-operand.auto.head; load = c.unary_expr-operand.auto.load }) c.in-Done-operand.is in
-    let s3 = goes 0 (Below 4 c.args.depth) (Node 4 c.args.depth c.loop-lim.x.at (c.loop-lim.invariant.f - 1)) s2 c.compr_expr-rhs.ensures (record { symbols = c.compr_expr-rhs.auto.symbols; head = c.compr_expr-rhs.auto.head; load = c.compr_expr-rhs.auto.load }) c.in-Done-rhs.is in
-    let s4 = goes 0 (λ x. push x 22 false 2 c.loop-lim.x.at) (λ x. Turns 4 c.args.depth x (c.loop-lim.invariant.f - 1)) s3 (pushed (ready s3) c.push_node-made.ensures) (kept-nodes c.push_node-made.auto.head c.push_node-made.auto.load) c.in-Done-made.is in
-    omega (arith, (at_stage s4).on, (ready s4).stands.here)
-
-pub equality_expr-loop-lim-preserved : goal.equality_expr-loop-lim-preserved
-equality_expr-loop-lim-preserved t c =
-    let s1 = signs 4 c.args.depth c.loop-lim.invariant.is (c.loop-lim.invariant.f - 1) (ap looseness (sym c.kind_at.ensures) ∙ sym c.looseness.ensures ∙ c.if-looseness-ne5.false) c.consume-passed.ensures c.in-Done-passed.is in
-    let s2 = goes 1 (Operand 4 c.args.depth) (Rest 4 c.args.depth c.loop-lim.x.at (c.loop-lim.invariant.f - 1)) s1 c.unary_expr-operand.ensures (record { symbols = c.unary_expr-operand.auto.symbols; head = c.unary_expr-operand.auto.head; load = c.unary_expr-operand.auto.load }) c.in-Done-operand.is in
-    let s3 = goes 0 (Below 4 c.args.depth) (Node 4 c.args.depth c.loop-lim.x.at (c.loop-lim.invariant.f - 1)) s2 c.compr_expr-rhs.ensures (record { symbols = c.compr_expr-rhs.auto.symbols; head = c.compr_expr-rhs.auto.head; load = c.compr_expr-rhs.auto.load }) c.in-Done-rhs.is in
-    let s4 = goes 0 (λ x. push x 22 false 2 c.loop-lim.x.at) (λ x. Turns 4 c.args.depth x (c.loop-lim.invariant.f - 1)) s3 (pushed (ready s3) c.push_node-made.ensures) (kept-nodes c.push_node-made.auto.head c.push_node-made.auto.load) c.in-Done-made.is in
-    again 4 c.args.depth c.loop-lim.invariant s4
-
-pub fn_call_expr-returns-then-depth-eq0 : goal.fn_call_expr-returns-then-depth-eq0
-fn_call_expr-returns-then-depth-eq0 t c = gives (λ E e. refused (call_none _ _ c.if-depth-eq0.true))
-
-pub fn_call_expr-overflow_sub-below : goal.fn_call_expr-overflow_sub-below
-fn_call_expr-overflow_sub-below t c = omega (arith, c.if-depth-eq0.false)
-
-pub fn_call_expr-primary_expr-first-requires : goal.fn_call_expr-primary_expr-first-requires
-fn_call_expr-primary_expr-first-requires t c = (omega (arith, c.decreases, c.if-depth-eq0.false), c.requires)
-
-pub fn_call_expr-returns-in_default : goal.fn_call_expr-returns-in_default
-unfolding fn_call_expr
-fn_call_expr-returns-in_default t c =
-    gives (λ E e. let p0 = by (begin 1 (λ x. (walkers x c.args.depth).call) E e c.requires) (call_step _ _ _ c.if-depth-eq0.false) in
-    stop 1 (λ x. primary_expr x (walkers x (c.args.depth - 1))) _ p0 refl (omega arith) c.primary_expr-first.ensures (not_done _ c.in_default.not-Done))
-
-pub fn_call_expr-top-to-requires : goal.fn_call_expr-top-to-requires
-unfolding fn_call_expr
-fn_call_expr-top-to-requires t c =
-    let E = blank c.args.w.errors in
-    let e = blanks c.args.w.errors in
-    let p0 = by (begin 1 (λ x. (walkers x c.args.depth).call) E e c.requires) (call_step _ _ _ c.if-depth-eq0.false) in
-    let p1 = go 1 (λ x. primary_expr x (walkers x (c.args.depth - 1))) _ p0 refl c.primary_expr-first.ensures (record { symbols = c.primary_expr-first.auto.symbols; head = c.primary_expr-first.auto.head; load = c.primary_expr-first.auto.load }) c.in-Done.is in
-    (p1.is.even, p1.is.used)
-
-pub fn_call_expr-kind_at-k-requires : goal.fn_call_expr-kind_at-k-requires
-unfolding fn_call_expr
-fn_call_expr-kind_at-k-requires t c =
-    let E = blank c.args.w.errors in
-    let e = blanks c.args.w.errors in
-    let p0 = by (begin 1 (λ x. (walkers x c.args.depth).call) E e c.requires) (call_step _ _ _ c.if-depth-eq0.false) in
-    let p1 = go 1 (λ x. primary_expr x (walkers x (c.args.depth - 1))) _ p0 refl c.primary_expr-first.ensures (record { symbols = c.primary_expr-first.auto.symbols; head = c.primary_expr-first.auto.head; load = c.primary_expr-first.auto.load }) c.in-Done.is in
-    p1.is.stands.here
-
-pub fn_call_expr-call-requires : goal.fn_call_expr-call-requires
-unfolding fn_call_expr
-fn_call_expr-call-requires t c =
-    let E = blank c.args.w.errors in
-    let e = blanks c.args.w.errors in
-    let p0 = by (begin 1 (λ x. (walkers x c.args.depth).call) E e c.requires) (call_step _ _ _ c.if-depth-eq0.false) in
-    let p1 = go 1 (λ x. primary_expr x (walkers x (c.args.depth - 1))) _ p0 refl c.primary_expr-first.ensures (record { symbols = c.primary_expr-first.auto.symbols; head = c.primary_expr-first.auto.head; load = c.primary_expr-first.auto.load }) c.in-Done.is in
-    (omega (arith, c.decreases, c.if-depth-eq0.false), p1.is)
-
-pub fn_call_expr-returns-then-k-eq-LEFT_PAREN : goal.fn_call_expr-returns-then-k-eq-LEFT_PAREN
-unfolding fn_call_expr postfix
-fn_call_expr-returns-then-k-eq-LEFT_PAREN t c =
-    gives (λ E e. let p0 = by (begin 1 (λ x. (walkers x c.args.depth).call) E e c.requires) (call_step _ _ _ c.if-depth-eq0.false) in
-    let p1 = go 1 (λ x. primary_expr x (walkers x (c.args.depth - 1))) _ p0 refl c.primary_expr-first.ensures (record { symbols = c.primary_expr-first.auto.symbols; head = c.primary_expr-first.auto.head; load = c.primary_expr-first.auto.load }) c.in-Done.is in
-    let p2 = read _ (read _ (aimed _ _ p1 c.top-to.ensures)) in
-    last 0 (λ x. call_part x (walkers x (c.args.depth - 1)) (node_of c.top-to.result) c.in-Done.x.at) (yes _ _ p2 (test (λ k. eqb k 1) p2 (eq-eqb _ _ (sym c.kind_at-k.ensures ∙ c.if-k-eq-LEFT_PAREN.true)))) refl (omega arith) c.call.ensures)
-
-pub fn_call_expr-dot-requires : goal.fn_call_expr-dot-requires
-unfolding fn_call_expr
-fn_call_expr-dot-requires t c =
-    let E = blank c.args.w.errors in
-    let e = blanks c.args.w.errors in
-    let p0 = by (begin 1 (λ x. (walkers x c.args.depth).call) E e c.requires) (call_step _ _ _ c.if-depth-eq0.false) in
-    let p1 = go 1 (λ x. primary_expr x (walkers x (c.args.depth - 1))) _ p0 refl c.primary_expr-first.ensures (record { symbols = c.primary_expr-first.auto.symbols; head = c.primary_expr-first.auto.head; load = c.primary_expr-first.auto.load }) c.in-Done.is in
-    (omega (arith, c.decreases, c.if-depth-eq0.false), p1.is)
-
-pub fn_call_expr-returns-then-k-eq-PERIOD : goal.fn_call_expr-returns-then-k-eq-PERIOD
-unfolding fn_call_expr postfix
-fn_call_expr-returns-then-k-eq-PERIOD t c =
-    gives (λ E e. let p0 = by (begin 1 (λ x. (walkers x c.args.depth).call) E e c.requires) (call_step _ _ _ c.if-depth-eq0.false) in
-    let p1 = go 1 (λ x. primary_expr x (walkers x (c.args.depth - 1))) _ p0 refl c.primary_expr-first.ensures (record { symbols = c.primary_expr-first.auto.symbols; head = c.primary_expr-first.auto.head; load = c.primary_expr-first.auto.load }) c.in-Done.is in
-    let p2 = read _ (read _ (aimed _ _ p1 c.top-to.ensures)) in
-    let n1 = no _ _ p2 (test (λ k. eqb k 1) p2 (ne_eqb _ _ (λ z. c.if-k-eq-LEFT_PAREN.false (c.kind_at-k.ensures ∙ z)))) in
-    last 0 (λ x. dot x (walkers x (c.args.depth - 1)) (node_of c.top-to.result) c.in-Done.x.at) (yes _ _ n1 (test (λ k. eqb k 11) n1 (eq-eqb _ _ (sym c.kind_at-k.ensures ∙ c.if-k-eq-PERIOD.true)))) refl (omega arith) c.dot.ensures)
-
-pub fn_call_expr-index-requires : goal.fn_call_expr-index-requires
-unfolding fn_call_expr
-fn_call_expr-index-requires t c =
-    let E = blank c.args.w.errors in
-    let e = blanks c.args.w.errors in
-    let p0 = by (begin 1 (λ x. (walkers x c.args.depth).call) E e c.requires) (call_step _ _ _ c.if-depth-eq0.false) in
-    let p1 = go 1 (λ x. primary_expr x (walkers x (c.args.depth - 1))) _ p0 refl c.primary_expr-first.ensures (record { symbols = c.primary_expr-first.auto.symbols; head = c.primary_expr-first.auto.head; load = c.primary_expr-first.auto.load }) c.in-Done.is in
-    (omega (arith, c.decreases, c.if-depth-eq0.false), p1.is)
-
-pub fn_call_expr-returns-then-k-eq-LEFT_BRACKET : goal.fn_call_expr-returns-then-k-eq-LEFT_BRACKET
-unfolding fn_call_expr postfix
-fn_call_expr-returns-then-k-eq-LEFT_BRACKET t c =
-    gives (λ E e. let p0 = by (begin 1 (λ x. (walkers x c.args.depth).call) E e c.requires) (call_step _ _ _ c.if-depth-eq0.false) in
-    let p1 = go 1 (λ x. primary_expr x (walkers x (c.args.depth - 1))) _ p0 refl c.primary_expr-first.ensures (record { symbols = c.primary_expr-first.auto.symbols; head = c.primary_expr-first.auto.head; load = c.primary_expr-first.auto.load }) c.in-Done.is in
-    let p2 = read _ (read _ (aimed _ _ p1 c.top-to.ensures)) in
-    let n1 = no _ _ p2 (test (λ k. eqb k 1) p2 (ne_eqb _ _ (λ z. c.if-k-eq-LEFT_PAREN.false (c.kind_at-k.ensures ∙ z)))) in
-    let n2 = no _ _ n1 (test (λ k. eqb k 11) n1 (ne_eqb _ _ (λ z. c.if-k-eq-PERIOD.false (c.kind_at-k.ensures ∙ z)))) in
-    last 0 (λ x. index x (walkers x (c.args.depth - 1)) (node_of c.top-to.result) c.in-Done.x.at) (yes _ _ n2 (test (λ k. eqb k 5) n2 (eq-eqb _ _ (sym c.kind_at-k.ensures ∙ c.if-k-eq-LEFT_BRACKET.true)))) refl (omega arith) c.index.ensures)
-
-pub fn_call_expr-returns : goal.fn_call_expr-returns
-unfolding fn_call_expr postfix
-fn_call_expr-returns t c =
-    gives (λ E e. let p0 = by (begin 1 (λ x. (walkers x c.args.depth).call) E e c.requires) (call_step _ _ _ c.if-depth-eq0.false) in
-    let p1 = go 1 (λ x. primary_expr x (walkers x (c.args.depth - 1))) _ p0 refl c.primary_expr-first.ensures (record { symbols = c.primary_expr-first.auto.symbols; head = c.primary_expr-first.auto.head; load = c.primary_expr-first.auto.load }) c.in-Done.is in
-    let p2 = read _ (read _ (aimed _ _ p1 c.top-to.ensures)) in
-    let n1 = no _ _ p2 (test (λ k. eqb k 1) p2 (ne_eqb _ _ (λ z. c.if-k-eq-LEFT_PAREN.false (c.kind_at-k.ensures ∙ z)))) in
-    let n2 = no _ _ n1 (test (λ k. eqb k 11) n1 (ne_eqb _ _ (λ z. c.if-k-eq-PERIOD.false (c.kind_at-k.ensures ∙ z)))) in
-    let n3 = no _ _ n2 (test (λ k. eqb k 5) n2 (ne_eqb _ _ (λ z. c.if-k-eq-LEFT_BRACKET.false (c.kind_at-k.ensures ∙ z)))) in
-    fin n3)
-
-pub group_expr-consume-passed-requires : goal.group_expr-consume-passed-requires
-group_expr-consume-passed-requires t c = c.requires.stands
-
-pub group_expr-returns-in_default : goal.group_expr-returns-in_default
-unfolding group_expr
-group_expr-returns-in_default t c =
-    gives (λ E e. let p0 = begin 1 (λ x. group_expr x (walkers x c.args.depth)) E e c.requires in
-    halt 0 (λ x. consume x) _ p0 refl (pass-any p0.is c.consume-passed.ensures) c.consume-passed.ensures.sure (not_done _ c.in_default.not-Done))
-
-pub group_expr-assign_expr-inner-requires : goal.group_expr-assign_expr-inner-requires
-unfolding group_expr
-group_expr-assign_expr-inner-requires t c =
-    let E = blank c.args.w.errors in
-    let e = blanks c.args.w.errors in
-    let p0 = begin 1 (λ x. group_expr x (walkers x c.args.depth)) E e c.requires in
-    let p1 = go 0 (λ x. consume x) _ p0 refl (pass-any p0.is c.consume-passed.ensures) same c.in-Done.is in
-    (omega (arith, c.decreases), p1.is)
-
-pub group_expr-returns-in_default-inner : goal.group_expr-returns-in_default-inner
-unfolding group_expr
-group_expr-returns-in_default-inner t c =
-    gives (λ E e. let p0 = begin 1 (λ x. group_expr x (walkers x c.args.depth)) E e c.requires in
-    let p1 = go 0 (λ x. consume x) _ p0 refl (pass-any p0.is c.consume-passed.ensures) same c.in-Done.is in
-    stop 1 (λ x. (walkers x c.args.depth).assign) _ p1 refl (omega arith) c.assign_expr-inner.ensures (not_done _ c.in_default-inner.not-Done))
-
-pub group_expr-expect-requires : goal.group_expr-expect-requires
-unfolding group_expr
-group_expr-expect-requires t c =
-    let E = blank c.args.w.errors in
-    let e = blanks c.args.w.errors in
-    let p0 = begin 1 (λ x. group_expr x (walkers x c.args.depth)) E e c.requires in
-    let p1 = go 0 (λ x. consume x) _ p0 refl (pass-any p0.is c.consume-passed.ensures) same c.in-Done.is in
-    let p2 = go 1 (λ x. (walkers x c.args.depth).assign) _ p1 refl c.assign_expr-inner.ensures (record { symbols = c.assign_expr-inner.auto.symbols; head = c.assign_expr-inner.auto.head; load = c.assign_expr-inner.auto.load }) c.in-Done-inner.is in
-    p2.is.stands
-
-pub group_expr-returns : goal.group_expr-returns
-unfolding group_expr
-group_expr-returns t c =
-    gives (λ E e. let p0 = begin 1 (λ x. group_expr x (walkers x c.args.depth)) E e c.requires in
-    let p1 = go 0 (λ x. consume x) _ p0 refl (pass-any p0.is c.consume-passed.ensures) same c.in-Done.is in
-    let p2 = go 1 (λ x. (walkers x c.args.depth).assign) _ p1 refl c.assign_expr-inner.ensures (record { symbols = c.assign_expr-inner.auto.symbols; head = c.assign_expr-inner.auto.head; load = c.assign_expr-inner.auto.load }) c.in-Done-inner.is in
-    last 0 (λ x. expect x 2) p2 refl (omega arith) (expected p2.is c.expect.ensures))
-
-pub index-consume-passed-requires : goal.index-consume-passed-requires
-index-consume-passed-requires t c = c.requires.stands
-
-pub index-returns-in_default : goal.index-returns-in_default
+pub index-returns-in_err-consume : goal.index-returns-in_err-consume
 unfolding index
-index-returns-in_default t c =
-    gives (λ E e. let p0 = begin 0 (λ x. index x (walkers x c.args.depth) (node_of c.args.to) c.args.w.at) E e c.requires in
-    stop 0 (λ x. consume x) _ p0 refl (omega arith) (pass-any p0.is c.consume-passed.ensures) (not_done _ c.in_default.not-Done))
+index-returns-in_err-consume t c =
+    let p0 = begin 0 (λ x. index x (walkers x c.args.depth) (node_of c.args.target) c.args.p.now.at) c.requires in
+    conveyed (refused (λ x. consume x) _ (λ x. index x (walkers x c.args.depth) (node_of c.args.target) c.args.p.now.at) p0 c.in_err-consume.ensures.does refl) c.from_residual.ensures
 
-pub index-assign_expr-inner-requires : goal.index-assign_expr-inner-requires
+pub index-returns-in_err-assign_expr : goal.index-returns-in_err-assign_expr
 unfolding index
-index-assign_expr-inner-requires t c =
-    let E = blank c.args.w.errors in
-    let e = blanks c.args.w.errors in
-    let p0 = begin 0 (λ x. index x (walkers x c.args.depth) (node_of c.args.to) c.args.w.at) E e c.requires in
-    let p1 = go 0 (λ x. consume x) _ p0 refl (pass-any p0.is c.consume-passed.ensures) same c.in-Done.is in
-    (omega (arith, c.decreases), p1.is)
+index-returns-in_err-assign_expr t c =
+    let p0 = begin 0 (λ x. index x (walkers x c.args.depth) (node_of c.args.target) c.args.p.now.at) c.requires in
+    let p1 = go (λ x. consume x) _ p0 c.in_ok-consume.ensures.does in
+    conveyed (stop (λ x. (walkers x c.args.depth).assign) _ (λ x. index x (walkers x c.args.depth) (node_of c.args.target) c.args.p.now.at) p1 (omega arith) c.in_err-assign_expr.ensures) c.from_residual-in_err-assign_expr.ensures
 
-pub index-returns-in_default-inner : goal.index-returns-in_default-inner
+pub index-returns-in_err-expect : goal.index-returns-in_err-expect
 unfolding index
-index-returns-in_default-inner t c =
-    gives (λ E e. let p0 = begin 0 (λ x. index x (walkers x c.args.depth) (node_of c.args.to) c.args.w.at) E e c.requires in
-    let p1 = go 0 (λ x. consume x) _ p0 refl (pass-any p0.is c.consume-passed.ensures) same c.in-Done.is in
-    stop 1 (λ x. (walkers x c.args.depth).assign) _ p1 refl (omega arith) c.assign_expr-inner.ensures (not_done _ c.in_default-inner.not-Done))
+index-returns-in_err-expect t c =
+    let p0 = begin 0 (λ x. index x (walkers x c.args.depth) (node_of c.args.target) c.args.p.now.at) c.requires in
+    let p1 = go (λ x. consume x) _ p0 c.in_ok-consume.ensures.does in
+    let p2 = go (λ x. (walkers x c.args.depth).assign) _ p1 c.in_ok-assign_expr.ensures in
+    conveyed (stop (λ x. expect x 6) _ (λ x. index x (walkers x c.args.depth) (node_of c.args.target) c.args.p.now.at) p2 (omega arith) c.in_err-expect.ensures.does) c.from_residual-in_err-expect.ensures
 
-pub index-expect-closed-requires : goal.index-expect-closed-requires
+pub index-returns-in_err-end_index : goal.index-returns-in_err-end_index
 unfolding index
-index-expect-closed-requires t c =
-    let E = blank c.args.w.errors in
-    let e = blanks c.args.w.errors in
-    let p0 = begin 0 (λ x. index x (walkers x c.args.depth) (node_of c.args.to) c.args.w.at) E e c.requires in
-    let p1 = go 0 (λ x. consume x) _ p0 refl (pass-any p0.is c.consume-passed.ensures) same c.in-Done.is in
-    let p2 = go 1 (λ x. (walkers x c.args.depth).assign) _ p1 refl c.assign_expr-inner.ensures (record { symbols = c.assign_expr-inner.auto.symbols; head = c.assign_expr-inner.auto.head; load = c.assign_expr-inner.auto.load }) c.in-Done-inner.is in
-    p2.is.stands
-
-pub index-returns-in_default-closed : goal.index-returns-in_default-closed
-unfolding index
-index-returns-in_default-closed t c =
-    gives (λ E e. let p0 = begin 0 (λ x. index x (walkers x c.args.depth) (node_of c.args.to) c.args.w.at) E e c.requires in
-    let p1 = go 0 (λ x. consume x) _ p0 refl (pass-any p0.is c.consume-passed.ensures) same c.in-Done.is in
-    let p2 = go 1 (λ x. (walkers x c.args.depth).assign) _ p1 refl c.assign_expr-inner.ensures (record { symbols = c.assign_expr-inner.auto.symbols; head = c.assign_expr-inner.auto.head; load = c.assign_expr-inner.auto.load }) c.in-Done-inner.is in
-    stop 0 (λ x. expect x 6) _ p2 refl (omega arith) (expected p2.is c.expect-closed.ensures) (not_done _ c.in_default-closed.not-Done))
-
-pub index-end_index-requires : goal.index-end_index-requires
-unfolding index
-index-end_index-requires t c =
-    let E = blank c.args.w.errors in
-    let e = blanks c.args.w.errors in
-    let p0 = begin 0 (λ x. index x (walkers x c.args.depth) (node_of c.args.to) c.args.w.at) E e c.requires in
-    let p1 = go 0 (λ x. consume x) _ p0 refl (pass-any p0.is c.consume-passed.ensures) same c.in-Done.is in
-    let p2 = go 1 (λ x. (walkers x c.args.depth).assign) _ p1 refl c.assign_expr-inner.ensures (record { symbols = c.assign_expr-inner.auto.symbols; head = c.assign_expr-inner.auto.head; load = c.assign_expr-inner.auto.load }) c.in-Done-inner.is in
-    let p3 = go 0 (λ x. expect x 6) _ p2 refl (expected p2.is c.expect-closed.ensures) same c.in-Done-closed.is in
-    (omega (arith, c.requires.stands.here, c.requires.stands.toks.even), p3.is.even, p3.is.used)
+index-returns-in_err-end_index t c =
+    let p0 = begin 0 (λ x. index x (walkers x c.args.depth) (node_of c.args.target) c.args.p.now.at) c.requires in
+    let p1 = go (λ x. consume x) _ p0 c.in_ok-consume.ensures.does in
+    let p2 = go (λ x. (walkers x c.args.depth).assign) _ p1 c.in_ok-assign_expr.ensures in
+    let p3 = go (λ x. expect x 6) _ p2 c.in_ok-expect.ensures.does in
+    conveyed (last (λ x. accesses c.args.target 146 5 c.args.p.now.at x) (λ x. index x (walkers x c.args.depth) (node_of c.args.target) c.args.p.now.at) p3 (omega arith) c.in_err-end_index.ensures.does) c.from_residual-in_err-end_index.ensures
 
 pub index-returns : goal.index-returns
 unfolding index
 index-returns t c =
-    gives (λ E e. let p0 = begin 0 (λ x. index x (walkers x c.args.depth) (node_of c.args.to) c.args.w.at) E e c.requires in
-    let p1 = go 0 (λ x. consume x) _ p0 refl (pass-any p0.is c.consume-passed.ensures) same c.in-Done.is in
-    let p2 = go 1 (λ x. (walkers x c.args.depth).assign) _ p1 refl c.assign_expr-inner.ensures (record { symbols = c.assign_expr-inner.auto.symbols; head = c.assign_expr-inner.auto.head; load = c.assign_expr-inner.auto.load }) c.in-Done-inner.is in
-    let p3 = go 0 (λ x. expect x 6) _ p2 refl (expected p2.is c.expect-closed.ensures) same c.in-Done-closed.is in
-    last 0 (λ x s. go_on (single x (node_of c.args.to) 5 c.args.w.at s) (λ a. push x 18 false 2 0)) p3 refl (omega arith) (accessed p3.is c.requires.stands.here c.end_index.ensures))
-
-pub mod_expr-loop-lim-init : goal.mod_expr-loop-lim-init
-mod_expr-loop-lim-init t c = looping (Turns 0 c.args.depth) c.requires
-
-pub mod_expr-kind_at-requires : goal.mod_expr-kind_at-requires
-mod_expr-kind_at-requires t c = c.loop-lim.invariant.is.stands.here
-
-pub mod_expr-returns-then-looseness-ne1 : goal.mod_expr-returns-then-looseness-ne1
-mod_expr-returns-then-looseness-ne1 t c = ends 0 c.args.depth c.loop-lim.invariant (begins 0 c.args.depth c.requires (idle c.args.depth c.requires) same refl) 0 (turns-end 0 c.args.depth c.loop-lim.invariant.is (c.loop-lim.invariant.f - 1) (λ z. c.if-looseness-ne1.true (c.looseness.ensures ∙ ap looseness c.kind_at.ensures ∙ z)))
-
-pub mod_expr-consume-passed-requires : goal.mod_expr-consume-passed-requires
-mod_expr-consume-passed-requires t c = c.loop-lim.invariant.is.stands
-
-pub mod_expr-returns-in_default : goal.mod_expr-returns-in_default
-mod_expr-returns-in_default t c = ends 0 c.args.depth c.loop-lim.invariant (begins 0 c.args.depth c.requires (idle c.args.depth c.requires) same refl) 1 (signs-not 0 c.args.depth c.loop-lim.invariant.is (c.loop-lim.invariant.f - 1) (ap looseness (sym c.kind_at.ensures) ∙ sym c.looseness.ensures ∙ c.if-looseness-ne1.false) c.consume-passed.ensures (not_done _ c.in_default.not-Done))
-
-pub mod_expr-unary_expr-operand-requires : goal.mod_expr-unary_expr-operand-requires
-mod_expr-unary_expr-operand-requires t c =
-    let s1 = signs 0 c.args.depth c.loop-lim.invariant.is (c.loop-lim.invariant.f - 1) (ap looseness (sym c.kind_at.ensures) ∙ sym c.looseness.ensures ∙ c.if-looseness-ne1.false) c.consume-passed.ensures c.in-Done.is in
-    (omega (arith, c.decreases), ready s1)
-
-pub mod_expr-returns-in_default-operand : goal.mod_expr-returns-in_default-operand
-mod_expr-returns-in_default-operand t c =
-    let s1 = signs 0 c.args.depth c.loop-lim.invariant.is (c.loop-lim.invariant.f - 1) (ap looseness (sym c.kind_at.ensures) ∙ sym c.looseness.ensures ∙ c.if-looseness-ne1.false) c.consume-passed.ensures c.in-Done.is in
-    ends 0 c.args.depth c.loop-lim.invariant (begins 0 c.args.depth c.requires (idle c.args.depth c.requires) same refl) 1 (stops 1 (Operand 0 c.args.depth) (Rest 0 c.args.depth c.loop-lim.x.at (c.loop-lim.invariant.f - 1)) s1 c.unary_expr-operand.ensures (not_done _ c.in_default-operand.not-Done))
-
-pub mod_expr-overflow_cast-op : goal.mod_expr-overflow_cast-op
-mod_expr-overflow_cast-op t c = omega (arith, c.loop-lim.invariant.is.stands.here, c.loop-lim.invariant.is.stands.toks.few)
-
-pub mod_expr-push_node-made-requires : goal.mod_expr-push_node-made-requires
-mod_expr-push_node-made-requires t c =
-    let s1 = signs 0 c.args.depth c.loop-lim.invariant.is (c.loop-lim.invariant.f - 1) (ap looseness (sym c.kind_at.ensures) ∙ sym c.looseness.ensures ∙ c.if-looseness-ne1.false) c.consume-passed.ensures c.in-Done.is in
-    let s2 = goes 1 (Operand 0 c.args.depth) (Rest 0 c.args.depth c.loop-lim.x.at (c.loop-lim.invariant.f - 1)) s1 c.unary_expr-operand.ensures (record { symbols = c.unary_expr-operand.auto.symbols; head = c.unary_expr-operand.auto.head; load = c.unary_expr-operand.auto.load }) c.in-Done-operand.is in
-    let s3 = goes 0 (Below 0 c.args.depth) (Node 0 c.args.depth c.loop-lim.x.at (c.loop-lim.invariant.f - 1)) s2 (idle c.args.depth (ready s2)) same refl in
-    ((ready s3).even, (ready s3).used)
-
-pub mod_expr-returns-in_default-made : goal.mod_expr-returns-in_default-made
-mod_expr-returns-in_default-made t c =
-    let s1 = signs 0 c.args.depth c.loop-lim.invariant.is (c.loop-lim.invariant.f - 1) (ap looseness (sym c.kind_at.ensures) ∙ sym c.looseness.ensures ∙ c.if-looseness-ne1.false) c.consume-passed.ensures c.in-Done.is in
-    let s2 = goes 1 (Operand 0 c.args.depth) (Rest 0 c.args.depth c.loop-lim.x.at (c.loop-lim.invariant.f - 1)) s1 c.unary_expr-operand.ensures (record { symbols = c.unary_expr-operand.auto.symbols; head = c.unary_expr-operand.auto.head; load = c.unary_expr-operand.auto.load }) c.in-Done-operand.is in
-    let s3 = goes 0 (Below 0 c.args.depth) (Node 0 c.args.depth c.loop-lim.x.at (c.loop-lim.invariant.f - 1)) s2 (idle c.args.depth (ready s2)) same refl in
-    ends 0 c.args.depth c.loop-lim.invariant (begins 0 c.args.depth c.requires (idle c.args.depth c.requires) same refl) 1 (stops 0 (λ x. push x 22 false 2 c.loop-lim.x.at) (λ x. Turns 0 c.args.depth x (c.loop-lim.invariant.f - 1)) s3 (pushed (ready s3) c.push_node-made.ensures) (not_done _ c.in_default-made.not-Done))
-
-pub mod_expr-loop-lim-smaller : goal.mod_expr-loop-lim-smaller
-mod_expr-loop-lim-smaller t c =
-    let s1 = signs 0 c.args.depth c.loop-lim.invariant.is (c.loop-lim.invariant.f - 1) (ap looseness (sym c.kind_at.ensures) ∙ sym c.looseness.ensures ∙ c.if-looseness-ne1.false) c.consume-passed.ensures c.in-Done.is in
-    let s2 = goes 1 (Operand 0 c.args.depth) (Rest 0 c.args.depth c.loop-lim.x.at (c.loop-lim.invariant.f - 1)) s1 c.unary_expr-operand.ensures (record { symbols = c.unary_expr-operand.auto.symbols; head = c.unary_expr-operand.auto.head; load = c.unary_expr-operand.auto.load }) c.in-Done-operand.is in
-    let s3 = goes 0 (Below 0 c.args.depth) (Node 0 c.args.depth c.loop-lim.x.at (c.loop-lim.invariant.f - 1)) s2 (idle c.args.depth (ready s2)) same refl in
-    let s4 = goes 0 (λ x. push x 22 false 2 c.loop-lim.x.at) (λ x. Turns 0 c.args.depth x (c.loop-lim.invariant.f - 1)) s3 (pushed (ready s3) c.push_node-made.ensures) (kept-nodes c.push_node-made.auto.head c.push_node-made.auto.load) c.in-Done-made.is in
-    omega (arith, (at_stage s4).on, (ready s4).stands.here)
-
-pub mod_expr-loop-lim-preserved : goal.mod_expr-loop-lim-preserved
-mod_expr-loop-lim-preserved t c =
-    let s1 = signs 0 c.args.depth c.loop-lim.invariant.is (c.loop-lim.invariant.f - 1) (ap looseness (sym c.kind_at.ensures) ∙ sym c.looseness.ensures ∙ c.if-looseness-ne1.false) c.consume-passed.ensures c.in-Done.is in
-    let s2 = goes 1 (Operand 0 c.args.depth) (Rest 0 c.args.depth c.loop-lim.x.at (c.loop-lim.invariant.f - 1)) s1 c.unary_expr-operand.ensures (record { symbols = c.unary_expr-operand.auto.symbols; head = c.unary_expr-operand.auto.head; load = c.unary_expr-operand.auto.load }) c.in-Done-operand.is in
-    let s3 = goes 0 (Below 0 c.args.depth) (Node 0 c.args.depth c.loop-lim.x.at (c.loop-lim.invariant.f - 1)) s2 (idle c.args.depth (ready s2)) same refl in
-    let s4 = goes 0 (λ x. push x 22 false 2 c.loop-lim.x.at) (λ x. Turns 0 c.args.depth x (c.loop-lim.invariant.f - 1)) s3 (pushed (ready s3) c.push_node-made.ensures) (kept-nodes c.push_node-made.auto.head c.push_node-made.auto.load) c.in-Done-made.is in
-    again 0 c.args.depth c.loop-lim.invariant s4
-
-pub mul_or_div_expr-binds-requires : goal.mul_or_div_expr-binds-requires
-mul_or_div_expr-binds-requires t c = c.requires.stands.here
-
-pub mul_or_div_expr-returns-then-not-binds : goal.mul_or_div_expr-returns-then-not-binds
-mul_or_div_expr-returns-then-not-binds t c = ends-at-once 1 c.args.depth c.requires (sym c.binds.ensures ∙ c.if-not-binds.true)
-
-pub mul_or_div_expr-mod_expr-lhs-requires : goal.mul_or_div_expr-mod_expr-lhs-requires
-mul_or_div_expr-mod_expr-lhs-requires t c = (omega (arith, c.decreases), c.requires)
-
-pub mul_or_div_expr-returns-in_default : goal.mul_or_div_expr-returns-in_default
-mul_or_div_expr-returns-in_default t c = begins-not 1 c.args.depth c.requires c.mod_expr-lhs.ensures (not_done _ c.in_default.not-Done)
-
-pub mul_or_div_expr-loop-lim-init : goal.mul_or_div_expr-loop-lim-init
-mul_or_div_expr-loop-lim-init t c = looping (Turns 1 c.args.depth) (ready (begins 1 c.args.depth c.requires c.mod_expr-lhs.ensures (record { symbols = c.mod_expr-lhs.auto.symbols; head = c.mod_expr-lhs.auto.head; load = c.mod_expr-lhs.auto.load }) c.in-Done.is))
-
-pub mul_or_div_expr-kind_at-requires : goal.mul_or_div_expr-kind_at-requires
-mul_or_div_expr-kind_at-requires t c = c.loop-lim.invariant.is.stands.here
-
-pub mul_or_div_expr-returns-then-looseness-ne2 : goal.mul_or_div_expr-returns-then-looseness-ne2
-mul_or_div_expr-returns-then-looseness-ne2 t c = ends 1 c.args.depth c.loop-lim.invariant (begins 1 c.args.depth c.requires c.mod_expr-lhs.ensures (record { symbols = c.mod_expr-lhs.auto.symbols; head = c.mod_expr-lhs.auto.head; load = c.mod_expr-lhs.auto.load }) c.in-Done.is) 0 (turns-end 1 c.args.depth c.loop-lim.invariant.is (c.loop-lim.invariant.f - 1) (λ z. c.if-looseness-ne2.true (c.looseness.ensures ∙ ap looseness c.kind_at.ensures ∙ z)))
-
-pub mul_or_div_expr-consume-passed-requires : goal.mul_or_div_expr-consume-passed-requires
-mul_or_div_expr-consume-passed-requires t c = c.loop-lim.invariant.is.stands
-
-pub mul_or_div_expr-returns-in_default-passed : goal.mul_or_div_expr-returns-in_default-passed
-mul_or_div_expr-returns-in_default-passed t c = ends 1 c.args.depth c.loop-lim.invariant (begins 1 c.args.depth c.requires c.mod_expr-lhs.ensures (record { symbols = c.mod_expr-lhs.auto.symbols; head = c.mod_expr-lhs.auto.head; load = c.mod_expr-lhs.auto.load }) c.in-Done.is) 1 (signs-not 1 c.args.depth c.loop-lim.invariant.is (c.loop-lim.invariant.f - 1) (ap looseness (sym c.kind_at.ensures) ∙ sym c.looseness.ensures ∙ c.if-looseness-ne2.false) c.consume-passed.ensures (not_done _ c.in_default-passed.not-Done))
-
-pub mul_or_div_expr-unary_expr-operand-requires : goal.mul_or_div_expr-unary_expr-operand-requires
-mul_or_div_expr-unary_expr-operand-requires t c =
-    let s1 = signs 1 c.args.depth c.loop-lim.invariant.is (c.loop-lim.invariant.f - 1) (ap looseness (sym c.kind_at.ensures) ∙ sym c.looseness.ensures ∙ c.if-looseness-ne2.false) c.consume-passed.ensures c.in-Done-passed.is in
-    (omega (arith, c.decreases), ready s1)
-
-pub mul_or_div_expr-returns-in_default-operand : goal.mul_or_div_expr-returns-in_default-operand
-mul_or_div_expr-returns-in_default-operand t c =
-    let s1 = signs 1 c.args.depth c.loop-lim.invariant.is (c.loop-lim.invariant.f - 1) (ap looseness (sym c.kind_at.ensures) ∙ sym c.looseness.ensures ∙ c.if-looseness-ne2.false) c.consume-passed.ensures c.in-Done-passed.is in
-    ends 1 c.args.depth c.loop-lim.invariant (begins 1 c.args.depth c.requires c.mod_expr-lhs.ensures (record { symbols = c.mod_expr-lhs.auto.symbols; head = c.mod_expr-lhs.auto.head; load = c.mod_expr-lhs.auto.load }) c.in-Done.is) 1 (stops 1 (Operand 1 c.args.depth) (Rest 1 c.args.depth c.loop-lim.x.at (c.loop-lim.invariant.f - 1)) s1 c.unary_expr-operand.ensures (not_done _ c.in_default-operand.not-Done))
-
-pub mul_or_div_expr-mod_expr-rhs-requires : goal.mul_or_div_expr-mod_expr-rhs-requires
-mul_or_div_expr-mod_expr-rhs-requires t c =
-    let s1 = signs 1 c.args.depth c.loop-lim.invariant.is (c.loop-lim.invariant.f - 1) (ap looseness (sym c.kind_at.ensures) ∙ sym c.looseness.ensures ∙ c.if-looseness-ne2.false) c.consume-passed.ensures c.in-Done-passed.is in
-    let s2 = goes 1 (Operand 1 c.args.depth) (Rest 1 c.args.depth c.loop-lim.x.at (c.loop-lim.invariant.f - 1)) s1 c.unary_expr-operand.ensures (record { symbols = c.unary_expr-operand.auto.symbols; head = c.unary_expr-operand.auto.head; load = c.unary_expr-operand.auto.load }) c.in-Done-operand.is in
-    (omega (arith, c.decreases), ready s2)
-
-pub mul_or_div_expr-returns-in_default-rhs : goal.mul_or_div_expr-returns-in_default-rhs
-mul_or_div_expr-returns-in_default-rhs t c =
-    let s1 = signs 1 c.args.depth c.loop-lim.invariant.is (c.loop-lim.invariant.f - 1) (ap looseness (sym c.kind_at.ensures) ∙ sym c.looseness.ensures ∙ c.if-looseness-ne2.false) c.consume-passed.ensures c.in-Done-passed.is in
-    let s2 = goes 1 (Operand 1 c.args.depth) (Rest 1 c.args.depth c.loop-lim.x.at (c.loop-lim.invariant.f - 1)) s1 c.unary_expr-operand.ensures (record { symbols = c.unary_expr-operand.auto.symbols; head = c.unary_expr-operand.auto.head; load = c.unary_expr-operand.auto.load }) c.in-Done-operand.is in
-    ends 1 c.args.depth c.loop-lim.invariant (begins 1 c.args.depth c.requires c.mod_expr-lhs.ensures (record { symbols = c.mod_expr-lhs.auto.symbols; head = c.mod_expr-lhs.auto.head; load = c.mod_expr-lhs.auto.load }) c.in-Done.is) 1 (stops 0 (Below 1 c.args.depth) (Node 1 c.args.depth c.loop-lim.x.at (c.loop-lim.invariant.f - 1)) s2 c.mod_expr-rhs.ensures (not_done _ c.in_default-rhs.not-Done))
-
-pub mul_or_div_expr-overflow_cast-op : goal.mul_or_div_expr-overflow_cast-op
-mul_or_div_expr-overflow_cast-op t c = omega (arith, c.loop-lim.invariant.is.stands.here, c.loop-lim.invariant.is.stands.toks.few)
-
-pub mul_or_div_expr-push_node-made-requires : goal.mul_or_div_expr-push_node-made-requires
-mul_or_div_expr-push_node-made-requires t c =
-    let s1 = signs 1 c.args.depth c.loop-lim.invariant.is (c.loop-lim.invariant.f - 1) (ap looseness (sym c.kind_at.ensures) ∙ sym c.looseness.ensures ∙ c.if-looseness-ne2.false) c.consume-passed.ensures c.in-Done-passed.is in
-    let s2 = goes 1 (Operand 1 c.args.depth) (Rest 1 c.args.depth c.loop-lim.x.at (c.loop-lim.invariant.f - 1)) s1 c.unary_expr-operand.ensures (record { symbols = c.unary_expr-operand.auto.symbols; head = c.unary_expr-operand.auto.head; load = c.unary_expr-operand.auto.load }) c.in-Done-operand.is in
-    let s3 = goes 0 (Below 1 c.args.depth) (Node 1 c.args.depth c.loop-lim.x.at (c.loop-lim.invariant.f - 1)) s2 c.mod_expr-rhs.ensures (record { symbols = c.mod_expr-rhs.auto.symbols; head = c.mod_expr-rhs.auto.head; load = c.mod_expr-rhs.auto.load }) c.in-Done-rhs.is in
-    ((ready s3).even, (ready s3).used)
-
-pub mul_or_div_expr-returns-in_default-made : goal.mul_or_div_expr-returns-in_default-made
-mul_or_div_expr-returns-in_default-made t c =
-    let s1 = signs 1 c.args.depth c.loop-lim.invariant.is (c.loop-lim.invariant.f - 1) (ap looseness (sym c.kind_at.ensures) ∙ sym c.looseness.ensures ∙ c.if-looseness-ne2.false) c.consume-passed.ensures c.in-Done-passed.is in
-    let s2 = goes 1 (Operand 1 c.args.depth) (Rest 1 c.args.depth c.loop-lim.x.at (c.loop-lim.invariant.f - 1)) s1 c.unary_expr-operand.ensures (record { symbols = c.unary_expr-operand.auto.symbols; head = c.unary_expr-operand.auto.head; load = c.unary_expr-operand.auto.load }) c.in-Done-operand.is in
-    let s3 = goes 0 (Below 1 c.args.depth) (Node 1 c.args.depth c.loop-lim.x.at (c.loop-lim.invariant.f - 1)) s2 c.mod_expr-rhs.ensures (record { symbols = c.mod_expr-rhs.auto.symbols; head = c.mod_expr-rhs.auto.head; load = c.mod_expr-rhs.auto.load }) c.in-Done-rhs.is in
-    ends 1 c.args.depth c.loop-lim.invariant (begins 1 c.args.depth c.requires c.mod_expr-lhs.ensures (record { symbols = c.mod_expr-lhs.auto.symbols; head = c.mod_expr-lhs.auto.head; load = c.mod_expr-lhs.auto.load }) c.in-Done.is) 1 (stops 0 (λ x. push x 22 false 2 c.loop-lim.x.at) (λ x. Turns 1 c.args.depth x (c.loop-lim.invariant.f - 1)) s3 (pushed (ready s3) c.push_node-made.ensures) (not_done _ c.in_default-made.not-Done))
-
-pub mul_or_div_expr-loop-lim-smaller : goal.mul_or_div_expr-loop-lim-smaller
-mul_or_div_expr-loop-lim-smaller t c =
-    let s1 = signs 1 c.args.depth c.loop-lim.invariant.is (c.loop-lim.invariant.f - 1) (ap looseness (sym c.kind_at.ensures) ∙ sym c.looseness.ensures ∙ c.if-looseness-ne2.false) c.consume-passed.ensures c.in-Done-passed.is in
-    let s2 = goes 1 (Operand 1 c.args.depth) (Rest 1 c.args.depth c.loop-lim.x.at (c.loop-lim.invariant.f - 1)) s1 c.unary_expr-operand.ensures (record { symbols = c.unary_expr-operand.auto.symbols; head = c.unary_expr-operand.auto.head; load = c.unary_expr-operand.auto.load }) c.in-Done-operand.is in
-    let s3 = goes 0 (Below 1 c.args.depth) (Node 1 c.args.depth c.loop-lim.x.at (c.loop-lim.invariant.f - 1)) s2 c.mod_expr-rhs.ensures (record { symbols = c.mod_expr-rhs.auto.symbols; head = c.mod_expr-rhs.auto.head; load = c.mod_expr-rhs.auto.load }) c.in-Done-rhs.is in
-    let s4 = goes 0 (λ x. push x 22 false 2 c.loop-lim.x.at) (λ x. Turns 1 c.args.depth x (c.loop-lim.invariant.f - 1)) s3 (pushed (ready s3) c.push_node-made.ensures) (kept-nodes c.push_node-made.auto.head c.push_node-made.auto.load) c.in-Done-made.is in
-    omega (arith, (at_stage s4).on, (ready s4).stands.here)
-
-pub mul_or_div_expr-loop-lim-preserved : goal.mul_or_div_expr-loop-lim-preserved
-mul_or_div_expr-loop-lim-preserved t c =
-    let s1 = signs 1 c.args.depth c.loop-lim.invariant.is (c.loop-lim.invariant.f - 1) (ap looseness (sym c.kind_at.ensures) ∙ sym c.looseness.ensures ∙ c.if-looseness-ne2.false) c.consume-passed.ensures c.in-Done-passed.is in
-    let s2 = goes 1 (Operand 1 c.args.depth) (Rest 1 c.args.depth c.loop-lim.x.at (c.loop-lim.invariant.f - 1)) s1 c.unary_expr-operand.ensures (record { symbols = c.unary_expr-operand.auto.symbols; head = c.unary_expr-operand.auto.head; load = c.unary_expr-operand.auto.load }) c.in-Done-operand.is in
-    let s3 = goes 0 (Below 1 c.args.depth) (Node 1 c.args.depth c.loop-lim.x.at (c.loop-lim.invariant.f - 1)) s2 c.mod_expr-rhs.ensures (record { symbols = c.mod_expr-rhs.auto.symbols; head = c.mod_expr-rhs.auto.head; load = c.mod_expr-rhs.auto.load }) c.in-Done-rhs.is in
-    let s4 = goes 0 (λ x. push x 22 false 2 c.loop-lim.x.at) (λ x. Turns 1 c.args.depth x (c.loop-lim.invariant.f - 1)) s3 (pushed (ready s3) c.push_node-made.ensures) (kept-nodes c.push_node-made.auto.head c.push_node-made.auto.load) c.in-Done-made.is in
-    again 1 c.args.depth c.loop-lim.invariant s4
-
-pub or_expr-binds-requires : goal.or_expr-binds-requires
-or_expr-binds-requires t c = c.requires.stands.here
-
-pub or_expr-returns-then-not-binds : goal.or_expr-returns-then-not-binds
-or_expr-returns-then-not-binds t c = ends-at-once 6 c.args.depth c.requires (sym c.binds.ensures ∙ c.if-not-binds.true)
-
-pub or_expr-and_expr-lhs-requires : goal.or_expr-and_expr-lhs-requires
-or_expr-and_expr-lhs-requires t c = (omega (arith, c.decreases), c.requires)
-
-pub or_expr-returns-in_default : goal.or_expr-returns-in_default
-or_expr-returns-in_default t c = begins-not 6 c.args.depth c.requires c.and_expr-lhs.ensures (not_done _ c.in_default.not-Done)
-
-pub or_expr-loop-lim-init : goal.or_expr-loop-lim-init
-or_expr-loop-lim-init t c = looping (Turns 6 c.args.depth) (ready (begins 6 c.args.depth c.requires c.and_expr-lhs.ensures (record { symbols = c.and_expr-lhs.auto.symbols; head = c.and_expr-lhs.auto.head; load = c.and_expr-lhs.auto.load }) c.in-Done.is))
-
-pub or_expr-kind_at-requires : goal.or_expr-kind_at-requires
-or_expr-kind_at-requires t c = c.loop-lim.invariant.is.stands.here
-
-pub or_expr-returns-then-looseness-ne7 : goal.or_expr-returns-then-looseness-ne7
-or_expr-returns-then-looseness-ne7 t c = ends 6 c.args.depth c.loop-lim.invariant (begins 6 c.args.depth c.requires c.and_expr-lhs.ensures (record { symbols = c.and_expr-lhs.auto.symbols; head = c.and_expr-lhs.auto.head; load = c.and_expr-lhs.auto.load }) c.in-Done.is) 0 (turns-end 6 c.args.depth c.loop-lim.invariant.is (c.loop-lim.invariant.f - 1) (λ z. c.if-looseness-ne7.true (c.looseness.ensures ∙ ap looseness c.kind_at.ensures ∙ z)))
-
-pub or_expr-consume-passed-requires : goal.or_expr-consume-passed-requires
-or_expr-consume-passed-requires t c = c.loop-lim.invariant.is.stands
-
-pub or_expr-returns-in_default-passed : goal.or_expr-returns-in_default-passed
-or_expr-returns-in_default-passed t c = ends 6 c.args.depth c.loop-lim.invariant (begins 6 c.args.depth c.requires c.and_expr-lhs.ensures (record { symbols = c.and_expr-lhs.auto.symbols; head = c.and_expr-lhs.auto.head; load = c.and_expr-lhs.auto.load }) c.in-Done.is) 1 (signs-not 6 c.args.depth c.loop-lim.invariant.is (c.loop-lim.invariant.f - 1) (ap looseness (sym c.kind_at.ensures) ∙ sym c.looseness.ensures ∙ c.if-looseness-ne7.false) c.consume-passed.ensures (not_done _ c.in_default-passed.not-Done))
-
-pub or_expr-unary_expr-operand-requires : goal.or_expr-unary_expr-operand-requires
-or_expr-unary_expr-operand-requires t c =
-    let s1 = signs 6 c.args.depth c.loop-lim.invariant.is (c.loop-lim.invariant.f - 1) (ap looseness (sym c.kind_at.ensures) ∙ sym c.looseness.ensures ∙ c.if-looseness-ne7.false) c.consume-passed.ensures c.in-Done-passed.is in
-    (omega (arith, c.decreases), ready s1)
-
-pub or_expr-returns-in_default-operand : goal.or_expr-returns-in_default-operand
-or_expr-returns-in_default-operand t c =
-    let s1 = signs 6 c.args.depth c.loop-lim.invariant.is (c.loop-lim.invariant.f - 1) (ap looseness (sym c.kind_at.ensures) ∙ sym c.looseness.ensures ∙ c.if-looseness-ne7.false) c.consume-passed.ensures c.in-Done-passed.is in
-    ends 6 c.args.depth c.loop-lim.invariant (begins 6 c.args.depth c.requires c.and_expr-lhs.ensures (record { symbols = c.and_expr-lhs.auto.symbols; head = c.and_expr-lhs.auto.head; load = c.and_expr-lhs.auto.load }) c.in-Done.is) 1 (stops 1 (Operand 6 c.args.depth) (Rest 6 c.args.depth c.loop-lim.x.at (c.loop-lim.invariant.f - 1)) s1 c.unary_expr-operand.ensures (not_done _ c.in_default-operand.not-Done))
-
-pub or_expr-and_expr-rhs-requires : goal.or_expr-and_expr-rhs-requires
-or_expr-and_expr-rhs-requires t c =
-    let s1 = signs 6 c.args.depth c.loop-lim.invariant.is (c.loop-lim.invariant.f - 1) (ap looseness (sym c.kind_at.ensures) ∙ sym c.looseness.ensures ∙ c.if-looseness-ne7.false) c.consume-passed.ensures c.in-Done-passed.is in
-    let s2 = goes 1 (Operand 6 c.args.depth) (Rest 6 c.args.depth c.loop-lim.x.at (c.loop-lim.invariant.f - 1)) s1 c.unary_expr-operand.ensures (record { symbols = c.unary_expr-operand.auto.symbols; head = c.unary_expr-operand.auto.head; load = c.unary_expr-operand.auto.load }) c.in-Done-operand.is in
-    (omega (arith, c.decreases), ready s2)
-
-pub or_expr-returns-in_default-rhs : goal.or_expr-returns-in_default-rhs
-or_expr-returns-in_default-rhs t c =
-    let s1 = signs 6 c.args.depth c.loop-lim.invariant.is (c.loop-lim.invariant.f - 1) (ap looseness (sym c.kind_at.ensures) ∙ sym c.looseness.ensures ∙ c.if-looseness-ne7.false) c.consume-passed.ensures c.in-Done-passed.is in
-    let s2 = goes 1 (Operand 6 c.args.depth) (Rest 6 c.args.depth c.loop-lim.x.at (c.loop-lim.invariant.f - 1)) s1 c.unary_expr-operand.ensures (record { symbols = c.unary_expr-operand.auto.symbols; head = c.unary_expr-operand.auto.head; load = c.unary_expr-operand.auto.load }) c.in-Done-operand.is in
-    ends 6 c.args.depth c.loop-lim.invariant (begins 6 c.args.depth c.requires c.and_expr-lhs.ensures (record { symbols = c.and_expr-lhs.auto.symbols; head = c.and_expr-lhs.auto.head; load = c.and_expr-lhs.auto.load }) c.in-Done.is) 1 (stops 0 (Below 6 c.args.depth) (Node 6 c.args.depth c.loop-lim.x.at (c.loop-lim.invariant.f - 1)) s2 c.and_expr-rhs.ensures (not_done _ c.in_default-rhs.not-Done))
-
-pub or_expr-overflow_cast-op : goal.or_expr-overflow_cast-op
-or_expr-overflow_cast-op t c = omega (arith, c.loop-lim.invariant.is.stands.here, c.loop-lim.invariant.is.stands.toks.few)
-
-pub or_expr-push_node-made-requires : goal.or_expr-push_node-made-requires
-or_expr-push_node-made-requires t c =
-    let s1 = signs 6 c.args.depth c.loop-lim.invariant.is (c.loop-lim.invariant.f - 1) (ap looseness (sym c.kind_at.ensures) ∙ sym c.looseness.ensures ∙ c.if-looseness-ne7.false) c.consume-passed.ensures c.in-Done-passed.is in
-    let s2 = goes 1 (Operand 6 c.args.depth) (Rest 6 c.args.depth c.loop-lim.x.at (c.loop-lim.invariant.f - 1)) s1 c.unary_expr-operand.ensures (record { symbols = c.unary_expr-operand.auto.symbols; head = c.unary_expr-operand.auto.head; load = c.unary_expr-operand.auto.load }) c.in-Done-operand.is in
-    let s3 = goes 0 (Below 6 c.args.depth) (Node 6 c.args.depth c.loop-lim.x.at (c.loop-lim.invariant.f - 1)) s2 c.and_expr-rhs.ensures (record { symbols = c.and_expr-rhs.auto.symbols; head = c.and_expr-rhs.auto.head; load = c.and_expr-rhs.auto.load }) c.in-Done-rhs.is in
-    ((ready s3).even, (ready s3).used)
-
-pub or_expr-returns-in_default-made : goal.or_expr-returns-in_default-made
-or_expr-returns-in_default-made t c =
-    let s1 = signs 6 c.args.depth c.loop-lim.invariant.is (c.loop-lim.invariant.f - 1) (ap looseness (sym c.kind_at.ensures) ∙ sym c.looseness.ensures ∙ c.if-looseness-ne7.false) c.consume-passed.ensures c.in-Done-passed.is in
-    let s2 = goes 1 (Operand 6 c.args.depth) (Rest 6 c.args.depth c.loop-lim.x.at (c.loop-lim.invariant.f - 1)) s1 c.unary_expr-operand.ensures (record { symbols = c.unary_expr-operand.auto.symbols; head = c.unary_expr-operand.auto.head; load = c.unary_expr-operand.auto.load }) c.in-Done-operand.is in
-    let s3 = goes 0 (Below 6 c.args.depth) (Node 6 c.args.depth c.loop-lim.x.at (c.loop-lim.invariant.f - 1)) s2 c.and_expr-rhs.ensures (record { symbols = c.and_expr-rhs.auto.symbols; head = c.and_expr-rhs.auto.head; load = c.and_expr-rhs.auto.load }) c.in-Done-rhs.is in
-    ends 6 c.args.depth c.loop-lim.invariant (begins 6 c.args.depth c.requires c.and_expr-lhs.ensures (record { symbols = c.and_expr-lhs.auto.symbols; head = c.and_expr-lhs.auto.head; load = c.and_expr-lhs.auto.load }) c.in-Done.is) 1 (stops 0 (λ x. push x 22 false 2 c.loop-lim.x.at) (λ x. Turns 6 c.args.depth x (c.loop-lim.invariant.f - 1)) s3 (pushed (ready s3) c.push_node-made.ensures) (not_done _ c.in_default-made.not-Done))
-
-pub or_expr-loop-lim-smaller : goal.or_expr-loop-lim-smaller
-or_expr-loop-lim-smaller t c =
-    let s1 = signs 6 c.args.depth c.loop-lim.invariant.is (c.loop-lim.invariant.f - 1) (ap looseness (sym c.kind_at.ensures) ∙ sym c.looseness.ensures ∙ c.if-looseness-ne7.false) c.consume-passed.ensures c.in-Done-passed.is in
-    let s2 = goes 1 (Operand 6 c.args.depth) (Rest 6 c.args.depth c.loop-lim.x.at (c.loop-lim.invariant.f - 1)) s1 c.unary_expr-operand.ensures (record { symbols = c.unary_expr-operand.auto.symbols; head = c.unary_expr-operand.auto.head; load = c.unary_expr-operand.auto.load }) c.in-Done-operand.is in
-    let s3 = goes 0 (Below 6 c.args.depth) (Node 6 c.args.depth c.loop-lim.x.at (c.loop-lim.invariant.f - 1)) s2 c.and_expr-rhs.ensures (record { symbols = c.and_expr-rhs.auto.symbols; head = c.and_expr-rhs.auto.head; load = c.and_expr-rhs.auto.load }) c.in-Done-rhs.is in
-    let s4 = goes 0 (λ x. push x 22 false 2 c.loop-lim.x.at) (λ x. Turns 6 c.args.depth x (c.loop-lim.invariant.f - 1)) s3 (pushed (ready s3) c.push_node-made.ensures) (kept-nodes c.push_node-made.auto.head c.push_node-made.auto.load) c.in-Done-made.is in
-    omega (arith, (at_stage s4).on, (ready s4).stands.here)
-
-pub or_expr-loop-lim-preserved : goal.or_expr-loop-lim-preserved
-or_expr-loop-lim-preserved t c =
-    let s1 = signs 6 c.args.depth c.loop-lim.invariant.is (c.loop-lim.invariant.f - 1) (ap looseness (sym c.kind_at.ensures) ∙ sym c.looseness.ensures ∙ c.if-looseness-ne7.false) c.consume-passed.ensures c.in-Done-passed.is in
-    let s2 = goes 1 (Operand 6 c.args.depth) (Rest 6 c.args.depth c.loop-lim.x.at (c.loop-lim.invariant.f - 1)) s1 c.unary_expr-operand.ensures (record { symbols = c.unary_expr-operand.auto.symbols; head = c.unary_expr-operand.auto.head; load = c.unary_expr-operand.auto.load }) c.in-Done-operand.is in
-    let s3 = goes 0 (Below 6 c.args.depth) (Node 6 c.args.depth c.loop-lim.x.at (c.loop-lim.invariant.f - 1)) s2 c.and_expr-rhs.ensures (record { symbols = c.and_expr-rhs.auto.symbols; head = c.and_expr-rhs.auto.head; load = c.and_expr-rhs.auto.load }) c.in-Done-rhs.is in
-    let s4 = goes 0 (λ x. push x 22 false 2 c.loop-lim.x.at) (λ x. Turns 6 c.args.depth x (c.loop-lim.invariant.f - 1)) s3 (pushed (ready s3) c.push_node-made.ensures) (kept-nodes c.push_node-made.auto.head c.push_node-made.auto.load) c.in-Done-made.is in
-    again 6 c.args.depth c.loop-lim.invariant s4
-
-pub param_list-loop-lim-init : goal.param_list-loop-lim-init
-param_list-loop-lim-init t c = (looping (λ x f. param_list x (walkers x c.args.depth).assign f 0) c.requires, omega arith)
-
-pub param_list-kind_at-k-requires : goal.param_list-kind_at-k-requires
-param_list-kind_at-k-requires t c = c.loop-lim.invariant.0.is.stands.here
-
-pub param_list-returns-then-k-eq-RIGHT_PAREN : goal.param_list-returns-then-k-eq-RIGHT_PAREN
-unfolding param_list
-param_list-returns-then-k-eq-RIGHT_PAREN t c = (
-  gives (λ E e. let p0 = turn c.loop-lim.invariant.0 (begin 0 (λ x. param_list x (walkers x c.args.depth).assign (fuel x) 0) E e c.requires) in
-      let p1 = read _ p0 in
-      counted (yes _ _ p1 (test (λ k. eqb k 2) p1 (eq-eqb _ _ (sym c.kind_at-k.ensures ∙ c.if-k-eq-RIGHT_PAREN.true)))) c.with_count.ensures),
-  omega (arith, ap (λ (y : Walk). y.count) c.with_count.ensures, c.loop-lim.invariant.1),
-)
-
-pub param_list-add_error-requires : goal.param_list-add_error-requires
-param_list-add_error-requires t c = refl
-
-pub param_list-returns-then-n-ge-FN_PARAM_MAX_LEN : goal.param_list-returns-then-n-ge-FN_PARAM_MAX_LEN
-unfolding param_list
-param_list-returns-then-n-ge-FN_PARAM_MAX_LEN t c = (
-  gives (λ E e. let p0 = turn c.loop-lim.invariant.0 (begin 0 (λ x. param_list x (walkers x c.args.depth).assign (fuel x) 0) E e c.requires) in
-      let p1 = read _ p0 in
-      let p2 = no _ _ p1 (test (λ k. eqb k 2) p1 (ne_eqb _ _ (λ z. c.if-k-eq-RIGHT_PAREN.false (c.kind_at-k.ensures ∙ z)))) in
-      last 0 (λ x. throw x (FnParmCntExceeded 64)) (yes _ _ p2 (le-leb _ _ c.if-n-ge-FN_PARAM_MAX_LEN.true)) refl (omega arith) (thrown-counting p2.is c.add_error.ensures)),
-  omega (arith, c.add_error.ensures.none),
-)
-
-pub param_list-add_error-requires-then-k-eq-EOF : goal.param_list-add_error-requires-then-k-eq-EOF
-param_list-add_error-requires-then-k-eq-EOF t c = refl
-
-pub param_list-returns-then-k-eq-EOF : goal.param_list-returns-then-k-eq-EOF
-unfolding param_list
-param_list-returns-then-k-eq-EOF t c = (
-  gives (λ E e. let p0 = turn c.loop-lim.invariant.0 (begin 0 (λ x. param_list x (walkers x c.args.depth).assign (fuel x) 0) E e c.requires) in
-      let p1 = read _ p0 in
-      let p2 = no _ _ p1 (test (λ k. eqb k 2) p1 (ne_eqb _ _ (λ z. c.if-k-eq-RIGHT_PAREN.false (c.kind_at-k.ensures ∙ z)))) in
-      let p3 = no _ _ p2 (lt-leb _ _ c.if-n-ge-FN_PARAM_MAX_LEN.false) in
-      last 0 (λ x. throw x (InvalidTknMsg 2)) (yes _ _ p3 (test (λ k. eqb k 47) p3 (eq-eqb _ _ (sym c.kind_at-k.ensures ∙ c.if-k-eq-EOF.true)))) refl (omega arith) (thrown-counting p3.is c.add_error-then-k-eq-EOF.ensures)),
-  omega (arith, c.add_error-then-k-eq-EOF.ensures.none),
-)
-
-pub param_list-assign_expr-item-requires : goal.param_list-assign_expr-item-requires
-param_list-assign_expr-item-requires t c = (omega (arith, c.decreases), c.loop-lim.invariant.0.is)
-
-pub param_list-returns-in_default : goal.param_list-returns-in_default
-unfolding param_list
-param_list-returns-in_default t c = (
-  gives (λ E e. let p0 = turn c.loop-lim.invariant.0 (begin 0 (λ x. param_list x (walkers x c.args.depth).assign (fuel x) 0) E e c.requires) in
-      let p1 = read _ p0 in
-      let p2 = no _ _ p1 (test (λ k. eqb k 2) p1 (ne_eqb _ _ (λ z. c.if-k-eq-RIGHT_PAREN.false (c.kind_at-k.ensures ∙ z)))) in
-      let p3 = no _ _ p2 (lt-leb _ _ c.if-n-ge-FN_PARAM_MAX_LEN.false) in
-      let p4 = no _ _ p3 (test (λ k. eqb k 47) p3 (ne_eqb _ _ (λ z. c.if-k-eq-EOF.false (c.kind_at-k.ensures ∙ z)))) in
-      stop 1 (λ x. (walkers x c.args.depth).assign) _ p4 refl (omega arith) c.assign_expr-item.ensures (not_done _ c.in_default.not-Done)),
-  none-counted c.assign_expr-item.ensures (not_done _ c.in_default.not-Done),
-)
-
-pub param_list-separator-comma-requires : goal.param_list-separator-comma-requires
-unfolding param_list
-param_list-separator-comma-requires t c =
-    let E = blank c.args.w.errors in
-    let e = blanks c.args.w.errors in
-    let p0 = turn c.loop-lim.invariant.0 (begin 0 (λ x. param_list x (walkers x c.args.depth).assign (fuel x) 0) E e c.requires) in
-    let p1 = read _ p0 in
-    let p2 = no _ _ p1 (test (λ k. eqb k 2) p1 (ne_eqb _ _ (λ z. c.if-k-eq-RIGHT_PAREN.false (c.kind_at-k.ensures ∙ z)))) in
-    let p3 = no _ _ p2 (lt-leb _ _ c.if-n-ge-FN_PARAM_MAX_LEN.false) in
-    let p4 = no _ _ p3 (test (λ k. eqb k 47) p3 (ne_eqb _ _ (λ z. c.if-k-eq-EOF.false (c.kind_at-k.ensures ∙ z)))) in
-    let p5 = go 1 (λ x. (walkers x c.args.depth).assign) _ p4 refl c.assign_expr-item.ensures (record { symbols = c.assign_expr-item.auto.symbols; head = c.assign_expr-item.auto.head; load = c.assign_expr-item.auto.load }) c.in-Done.is in
-    p5.is.stands
-
-pub param_list-returns-in_default-comma : goal.param_list-returns-in_default-comma
-unfolding param_list
-param_list-returns-in_default-comma t c = (
-  gives (λ E e. let p0 = turn c.loop-lim.invariant.0 (begin 0 (λ x. param_list x (walkers x c.args.depth).assign (fuel x) 0) E e c.requires) in
-      let p1 = read _ p0 in
-      let p2 = no _ _ p1 (test (λ k. eqb k 2) p1 (ne_eqb _ _ (λ z. c.if-k-eq-RIGHT_PAREN.false (c.kind_at-k.ensures ∙ z)))) in
-      let p3 = no _ _ p2 (lt-leb _ _ c.if-n-ge-FN_PARAM_MAX_LEN.false) in
-      let p4 = no _ _ p3 (test (λ k. eqb k 47) p3 (ne_eqb _ _ (λ z. c.if-k-eq-EOF.false (c.kind_at-k.ensures ∙ z)))) in
-      let p5 = go 1 (λ x. (walkers x c.args.depth).assign) _ p4 refl c.assign_expr-item.ensures (record { symbols = c.assign_expr-item.auto.symbols; head = c.assign_expr-item.auto.head; load = c.assign_expr-item.auto.load }) c.in-Done.is in
-      stop 0 (λ x. separator x) _ p5 refl (omega arith) (separated p5.is c.separator-comma.ensures) (not_done _ c.in_default-comma.not-Done)),
-  none-separated c.separator-comma.ensures (not_done _ c.in_default-comma.not-Done),
-)
-
-pub param_list-overflow_add-n : goal.param_list-overflow_add-n
-param_list-overflow_add-n t c = omega (arith, c.if-n-ge-FN_PARAM_MAX_LEN.false)
-
-pub param_list-loop-lim-smaller : goal.param_list-loop-lim-smaller
-unfolding param_list
-param_list-loop-lim-smaller t c =
-    let E = blank c.args.w.errors in
-    let e = blanks c.args.w.errors in
-    let p0 = turn c.loop-lim.invariant.0 (begin 0 (λ x. param_list x (walkers x c.args.depth).assign (fuel x) 0) E e c.requires) in
-    let p1 = read _ p0 in
-    let p2 = no _ _ p1 (test (λ k. eqb k 2) p1 (ne_eqb _ _ (λ z. c.if-k-eq-RIGHT_PAREN.false (c.kind_at-k.ensures ∙ z)))) in
-    let p3 = no _ _ p2 (lt-leb _ _ c.if-n-ge-FN_PARAM_MAX_LEN.false) in
-    let p4 = no _ _ p3 (test (λ k. eqb k 47) p3 (ne_eqb _ _ (λ z. c.if-k-eq-EOF.false (c.kind_at-k.ensures ∙ z)))) in
-    let p5 = go 1 (λ x. (walkers x c.args.depth).assign) _ p4 refl c.assign_expr-item.ensures (record { symbols = c.assign_expr-item.auto.symbols; head = c.assign_expr-item.auto.head; load = c.assign_expr-item.auto.load }) c.in-Done.is in
-    let p6 = go 0 (λ x. separator x) _ p5 refl (separated p5.is c.separator-comma.ensures) same c.in-Done-comma.is in
-    omega (arith, ahead_of c.assign_expr-item.ensures c.in-Done.is, ahead_of (separated p5.is c.separator-comma.ensures) c.in-Done-comma.is, p6.is.stands.here)
-
-pub param_list-loop-lim-preserved : goal.param_list-loop-lim-preserved
-unfolding param_list
-param_list-loop-lim-preserved t c = (
-  recount (λ x. (walkers x c.args.depth).assign) c.loop-lim.n (onward c.loop-lim.invariant.0 {loop' = λ x f. param_list x (walkers x c.args.depth).assign f (suc c.loop-lim.n)} (let E = blank c.args.w.errors in
-      let e = blanks c.args.w.errors in
-      let p0 = turn c.loop-lim.invariant.0 (begin 0 (λ x. param_list x (walkers x c.args.depth).assign (fuel x) 0) E e c.requires) in
-      let p1 = read _ p0 in
-      let p2 = no _ _ p1 (test (λ k. eqb k 2) p1 (ne_eqb _ _ (λ z. c.if-k-eq-RIGHT_PAREN.false (c.kind_at-k.ensures ∙ z)))) in
-      let p3 = no _ _ p2 (lt-leb _ _ c.if-n-ge-FN_PARAM_MAX_LEN.false) in
-      let p4 = no _ _ p3 (test (λ k. eqb k 47) p3 (ne_eqb _ _ (λ z. c.if-k-eq-EOF.false (c.kind_at-k.ensures ∙ z)))) in
-      let p5 = go 1 (λ x. (walkers x c.args.depth).assign) _ p4 refl c.assign_expr-item.ensures (record { symbols = c.assign_expr-item.auto.symbols; head = c.assign_expr-item.auto.head; load = c.assign_expr-item.auto.load }) c.in-Done.is in
-      omega (arith, ahead_of c.assign_expr-item.ensures c.in-Done.is, ahead_of (separated p5.is c.separator-comma.ensures) c.in-Done-comma.is)) (λ E e. let p0 = turn-own c.loop-lim.invariant.0 E e in
-      let p1 = read _ p0 in
-      let p2 = no _ _ p1 (test (λ k. eqb k 2) p1 (ne_eqb _ _ (λ z. c.if-k-eq-RIGHT_PAREN.false (c.kind_at-k.ensures ∙ z)))) in
-      let p3 = no _ _ p2 (lt-leb _ _ c.if-n-ge-FN_PARAM_MAX_LEN.false) in
-      let p4 = no _ _ p3 (test (λ k. eqb k 47) p3 (ne_eqb _ _ (λ z. c.if-k-eq-EOF.false (c.kind_at-k.ensures ∙ z)))) in
-      let p5 = go 1 (λ x. (walkers x c.args.depth).assign) _ p4 refl c.assign_expr-item.ensures (record { symbols = c.assign_expr-item.auto.symbols; head = c.assign_expr-item.auto.head; load = c.assign_expr-item.auto.load }) c.in-Done.is in
-      let p6 = go 0 (λ x. separator x) _ p5 refl (separated p5.is c.separator-comma.ensures) same c.in-Done-comma.is in
-      p6)),
-  omega (arith, c.if-n-ge-FN_PARAM_MAX_LEN.false),
-)
-
-pub primary_expr-kind_at-k-requires : goal.primary_expr-kind_at-k-requires
-primary_expr-kind_at-k-requires t c = c.requires.stands.here
-
-pub primary_expr-literal-requires : goal.primary_expr-literal-requires
-primary_expr-literal-requires t c = (c.requires.stands, c.requires.even, c.requires.used)
+    let p0 = begin 0 (λ x. index x (walkers x c.args.depth) (node_of c.args.target) c.args.p.now.at) c.requires in
+    let p1 = go (λ x. consume x) _ p0 c.in_ok-consume.ensures.does in
+    let p2 = go (λ x. (walkers x c.args.depth).assign) _ p1 c.in_ok-assign_expr.ensures in
+    let p3 = go (λ x. expect x 6) _ p2 c.in_ok-expect.ensures.does in
+    last (λ x. accesses c.args.target 146 5 c.args.p.now.at x) (λ x. index x (walkers x c.args.depth) (node_of c.args.target) c.args.p.now.at) p3 (omega arith) c.in_ok-end_index.ensures.does
+
+pub fn_call_expr-returns-then-depth-eq0 : goal.fn_call_expr-returns-then-depth-eq0
+fn_call_expr-returns-then-depth-eq0 t c =
+    call_none _ c.if-depth-eq0.true
+
+pub fn_call_expr-returns-in_err-primary_expr : goal.fn_call_expr-returns-in_err-primary_expr
+unfolding fn_call_expr
+fn_call_expr-returns-in_err-primary_expr t c =
+    let p0 = call_step c.requires c.args.depth c.if-depth-eq0.false in
+    conveyed (stop (λ x. primary_expr x (walkers x (c.args.depth - 1))) _ (λ x. (walkers x c.args.depth).call) p0 (omega arith) c.in_err-primary_expr.ensures) c.from_residual.ensures
+
+pub fn_call_expr-returns-then-k-eq-LEFT_PAREN : goal.fn_call_expr-returns-then-k-eq-LEFT_PAREN
+unfolding fn_call_expr
+fn_call_expr-returns-then-k-eq-LEFT_PAREN t c =
+    let p0 = call_step c.requires c.args.depth c.if-depth-eq0.false in
+    let p1 = aimed c.top-target.result _ (go (λ x. primary_expr x (walkers x (c.args.depth - 1))) _ p0 c.in_ok-primary_expr.ensures) c.top-target.ensures in
+    last (λ x. call_part x (walkers x (c.args.depth - 1)) (node_of c.top-target.result) c.primary_expr.new.p.at) (λ x. (walkers x c.args.depth).call) (then-call (c.args.depth - 1) (node_of c.top-target.result) p1 (sym c.kind-k.ensures ∙ c.if-k-eq-LEFT_PAREN.true)) (omega arith) c.call.ensures
+
+pub fn_call_expr-returns-then-k-eq-PERIOD : goal.fn_call_expr-returns-then-k-eq-PERIOD
+unfolding fn_call_expr
+fn_call_expr-returns-then-k-eq-PERIOD t c =
+    let p0 = call_step c.requires c.args.depth c.if-depth-eq0.false in
+    let p1 = aimed c.top-target.result _ (go (λ x. primary_expr x (walkers x (c.args.depth - 1))) _ p0 c.in_ok-primary_expr.ensures) c.top-target.ensures in
+    last (λ x. dot x (walkers x (c.args.depth - 1)) (node_of c.top-target.result) c.primary_expr.new.p.at) (λ x. (walkers x c.args.depth).call) (then-dot (c.args.depth - 1) (node_of c.top-target.result) p1 (λ z. c.if-k-eq-LEFT_PAREN.false (c.kind-k.ensures ∙ z)) (sym c.kind-k.ensures ∙ c.if-k-eq-PERIOD.true)) (omega arith) c.dot.ensures
+
+pub fn_call_expr-returns-then-k-eq-LEFT_BRACKET : goal.fn_call_expr-returns-then-k-eq-LEFT_BRACKET
+unfolding fn_call_expr
+fn_call_expr-returns-then-k-eq-LEFT_BRACKET t c =
+    let p0 = call_step c.requires c.args.depth c.if-depth-eq0.false in
+    let p1 = aimed c.top-target.result _ (go (λ x. primary_expr x (walkers x (c.args.depth - 1))) _ p0 c.in_ok-primary_expr.ensures) c.top-target.ensures in
+    last (λ x. index x (walkers x (c.args.depth - 1)) (node_of c.top-target.result) c.primary_expr.new.p.at) (λ x. (walkers x c.args.depth).call) (then-index (c.args.depth - 1) (node_of c.top-target.result) p1 (λ z. c.if-k-eq-LEFT_PAREN.false (c.kind-k.ensures ∙ z)) (λ z. c.if-k-eq-PERIOD.false (c.kind-k.ensures ∙ z)) (sym c.kind-k.ensures ∙ c.if-k-eq-LEFT_BRACKET.true)) (omega arith) c.index.ensures
+
+pub fn_call_expr-returns : goal.fn_call_expr-returns
+unfolding fn_call_expr
+fn_call_expr-returns t c =
+    let p0 = call_step c.requires c.args.depth c.if-depth-eq0.false in
+    let p1 = aimed c.top-target.result _ (go (λ x. primary_expr x (walkers x (c.args.depth - 1))) _ p0 c.in_ok-primary_expr.ensures) c.top-target.ensures in
+    fin (λ x. (walkers x c.args.depth).call) (then-nothing (c.args.depth - 1) (node_of c.top-target.result) p1 (λ z. c.if-k-eq-LEFT_PAREN.false (c.kind-k.ensures ∙ z)) (λ z. c.if-k-eq-PERIOD.false (c.kind-k.ensures ∙ z)) (λ z. c.if-k-eq-LEFT_BRACKET.false (c.kind-k.ensures ∙ z)))
+
+pub group_expr-returns-in_err-consume : goal.group_expr-returns-in_err-consume
+unfolding group_expr
+group_expr-returns-in_err-consume t c =
+    let p0 = begin 1 (λ x. group_expr x (walkers x c.args.depth)) c.requires in
+    conveyed (refused (λ x. consume x) _ (λ x. group_expr x (walkers x c.args.depth)) p0 c.in_err-consume.ensures.does refl) c.from_residual.ensures
+
+pub group_expr-returns-in_err-assign_expr : goal.group_expr-returns-in_err-assign_expr
+unfolding group_expr
+group_expr-returns-in_err-assign_expr t c =
+    let p0 = begin 1 (λ x. group_expr x (walkers x c.args.depth)) c.requires in
+    let p1 = go (λ x. consume x) _ p0 c.in_ok-consume.ensures.does in
+    conveyed (stop (λ x. (walkers x c.args.depth).assign) _ (λ x. group_expr x (walkers x c.args.depth)) p1 (omega arith) c.in_err-assign_expr.ensures) c.from_residual-in_err-assign_expr.ensures
+
+pub group_expr-returns : goal.group_expr-returns
+unfolding group_expr
+group_expr-returns t c =
+    let p0 = begin 1 (λ x. group_expr x (walkers x c.args.depth)) c.requires in
+    let p1 = go (λ x. consume x) _ p0 c.in_ok-consume.ensures.does in
+    let p2 = go (λ x. (walkers x c.args.depth).assign) _ p1 c.in_ok-assign_expr.ensures in
+    last (λ x. expect x 2) (λ x. group_expr x (walkers x c.args.depth)) p2 (omega arith) c.expect.ensures.does
+
+pub level-returns-then-not-binds : goal.level-returns-then-not-binds
+level-returns-then-not-binds t c =
+    free c.args.n c.args.depth c.requires.0 (sym c.binds.ensures ∙ c.if-not-binds.true)
+
+pub level-returns-in_err-level_below : goal.level-returns-in_err-level_below
+level-returns-in_err-level_below t c =
+    conveyed (stop (Below c.args.n c.args.depth) _ (Whole c.args.n c.args.depth) (starts c.args.n c.args.depth c.requires.0 (some-level c.args.n _ (sym c.binds.ensures ∙ c.if-not-binds.false))) (omega arith) c.in_err-level_below.ensures) c.from_residual.ensures
+
+pub level-loop-depth-init : goal.level-loop-depth-init
+level-loop-depth-init t c =
+    enters c.args.n c.args.depth c.requires.0 (some-level c.args.n _ (sym c.binds.ensures ∙ c.if-not-binds.false)) c.in_ok-level_below.ensures
+
+pub level-returns-then-looseness-n : goal.level-returns-then-looseness-n
+level-returns-then-looseness-n t c =
+    ends c.args.n c.args.depth c.loop-depth.invariant (λ z. c.if-looseness-n.true (c.looseness.ensures ∙ ap looseness c.kind.ensures ∙ z))
+
+pub level-returns-in_err-consume : goal.level-returns-in_err-consume
+level-returns-in_err-consume t c =
+    conveyed (refused (λ x. consume x) _ (Whole c.args.n c.args.depth) (sign c.args.n c.args.depth c.loop-depth.invariant (ap looseness (sym c.kind.ensures) ∙ sym c.looseness.ensures ∙ c.if-looseness-n.false)) c.in_err-consume.ensures.does refl) c.from_residual-in_err-consume.ensures
+
+pub level-returns-in_err-unary_expr : goal.level-returns-in_err-unary_expr
+level-returns-in_err-unary_expr t c =
+    let s1 = signed c.args.n c.args.depth c.loop-depth.invariant (ap looseness (sym c.kind.ensures) ∙ sym c.looseness.ensures ∙ c.if-looseness-n.false) c.in_ok-consume.ensures.does in
+    conveyed (stop (Operand c.args.n c.args.depth) _ (Whole c.args.n c.args.depth) s1 (omega arith) c.in_err-unary_expr.ensures) c.from_residual-in_err-unary_expr.ensures
+
+pub level-returns-in_err-level_below-2 : goal.level-returns-in_err-level_below-2
+level-returns-in_err-level_below-2 t c =
+    let s1 = signed c.args.n c.args.depth c.loop-depth.invariant (ap looseness (sym c.kind.ensures) ∙ sym c.looseness.ensures ∙ c.if-looseness-n.false) c.in_ok-consume.ensures.does in
+    let s2 = go (Operand c.args.n c.args.depth) _ s1 c.in_ok-unary_expr.ensures in
+    conveyed (stop (Below c.args.n c.args.depth) _ (Whole c.args.n c.args.depth) s2 (omega arith) c.in_err-level_below-2.ensures) c.from_residual-in_err-level_below-2.ensures
+
+pub level-returns-in_err-push_node : goal.level-returns-in_err-push_node
+level-returns-in_err-push_node t c =
+    let s1 = signed c.args.n c.args.depth c.loop-depth.invariant (ap looseness (sym c.kind.ensures) ∙ sym c.looseness.ensures ∙ c.if-looseness-n.false) c.in_ok-consume.ensures.does in
+    let s2 = go (Operand c.args.n c.args.depth) _ s1 c.in_ok-unary_expr.ensures in
+    let s3 = go (Below c.args.n c.args.depth) _ s2 c.in_ok-level_below-2.ensures in
+    conveyed (refused (λ x. push x 22 false 2 c.loop-depth.p.at) _ (Whole c.args.n c.args.depth) s3 c.in_err-push_node.ensures.does refl) c.from_residual-in_err-push_node.ensures
+
+pub level-loop-depth-smaller : goal.level-loop-depth-smaller
+level-loop-depth-smaller t c =
+    let s1 = signed c.args.n c.args.depth c.loop-depth.invariant (ap looseness (sym c.kind.ensures) ∙ sym c.looseness.ensures ∙ c.if-looseness-n.false) c.in_ok-consume.ensures.does in
+    let s2 = go (Operand c.args.n c.args.depth) _ s1 c.in_ok-unary_expr.ensures in
+    let s3 = go (Below c.args.n c.args.depth) _ s2 c.in_ok-level_below-2.ensures in
+    let s4 = go (λ x. push x 22 false 2 c.loop-depth.p.at) _ s3 c.in_ok-push_node.ensures.does in
+    nearer c.loop-depth.invariant _ (omega (arith, (c.in_ok-consume.ensures.does.fine c.loop-depth.invariant.at.is).on, (c.in_ok-unary_expr.ensures.fine s1.is).on, (c.in_ok-level_below-2.ensures.fine s2.is).on, (c.in_ok-push_node.ensures.does.fine s3.is).on))
+
+pub level-loop-depth-preserved : goal.level-loop-depth-preserved
+level-loop-depth-preserved t c =
+    let s1 = signed c.args.n c.args.depth c.loop-depth.invariant (ap looseness (sym c.kind.ensures) ∙ sym c.looseness.ensures ∙ c.if-looseness-n.false) c.in_ok-consume.ensures.does in
+    let s2 = go (Operand c.args.n c.args.depth) _ s1 c.in_ok-unary_expr.ensures in
+    let s3 = go (Below c.args.n c.args.depth) _ s2 c.in_ok-level_below-2.ensures in
+    let s4 = go (λ x. push x 22 false 2 c.loop-depth.p.at) _ s3 c.in_ok-push_node.ensures.does in
+    onward c.loop-depth.invariant (omega (arith, (c.in_ok-consume.ensures.does.fine c.loop-depth.invariant.at.is).on, (c.in_ok-unary_expr.ensures.fine s1.is).on, (c.in_ok-level_below-2.ensures.fine s2.is).on, (c.in_ok-push_node.ensures.does.fine s3.is).on)) s4
+
+pub param_list-loop-depth-init : goal.param_list-loop-depth-init
+param_list-loop-depth-init t c =
+    (looping (λ x f. param_list x (walkers x c.args.depth).assign f 0) c.requires, omega arith)
+
+pub param_list-returns-then-k-eq-RIGHT_PAREN-clause-does : goal.param_list-returns-then-k-eq-RIGHT_PAREN-clause-does
+param_list-returns-then-k-eq-RIGHT_PAREN-clause-does t c =
+    fin (λ x. param_list x (walkers x c.args.depth).assign (fuel x) 0) (listed-all (λ x. (walkers x c.args.depth).assign) (c.loop-depth.invariant.0.f - 1) c.loop-depth.n (turn-own c.loop-depth.invariant.0) (sym c.kind-k.ensures ∙ c.if-k-eq-RIGHT_PAREN.true))
+
+pub param_list-returns-then-n-ge-FN_PARAM_MAX_LEN-clause-does : goal.param_list-returns-then-n-ge-FN_PARAM_MAX_LEN-clause-does
+param_list-returns-then-n-ge-FN_PARAM_MAX_LEN-clause-does t c =
+    last (λ x. throw x (FnParmCntExceeded 64)) (λ x. param_list x (walkers x c.args.depth).assign (fuel x) 0) (listed-many (λ x. (walkers x c.args.depth).assign) (c.loop-depth.invariant.0.f - 1) c.loop-depth.n (turn-own c.loop-depth.invariant.0) (λ z. c.if-k-eq-RIGHT_PAREN.false (c.kind-k.ensures ∙ z)) c.if-n-ge-FN_PARAM_MAX_LEN.true) (omega arith) c.add_error.ensures.counts
+
+pub param_list-returns-then-k-eq-EOF-clause-does : goal.param_list-returns-then-k-eq-EOF-clause-does
+param_list-returns-then-k-eq-EOF-clause-does t c =
+    last (λ x. throw x (InvalidTknMsg 2)) (λ x. param_list x (walkers x c.args.depth).assign (fuel x) 0) (listed-eof (λ x. (walkers x c.args.depth).assign) (c.loop-depth.invariant.0.f - 1) c.loop-depth.n (turn-own c.loop-depth.invariant.0) (λ z. c.if-k-eq-RIGHT_PAREN.false (c.kind-k.ensures ∙ z)) c.if-n-ge-FN_PARAM_MAX_LEN.false (sym c.kind-k.ensures ∙ c.if-k-eq-EOF.true)) (omega arith) c.add_error-then-k-eq-EOF.ensures.counts
+
+pub param_list-returns-in_err-assign_expr-clause-does : goal.param_list-returns-in_err-assign_expr-clause-does
+param_list-returns-in_err-assign_expr-clause-does t c =
+    let p0 = listed-item (λ x. (walkers x c.args.depth).assign) (c.loop-depth.invariant.0.f - 1) c.loop-depth.n (turn-own c.loop-depth.invariant.0) (λ z. c.if-k-eq-RIGHT_PAREN.false (c.kind-k.ensures ∙ z)) c.if-n-ge-FN_PARAM_MAX_LEN.false (λ z. c.if-k-eq-EOF.false (c.kind-k.ensures ∙ z)) in
+    conveyed (stop (λ x. (walkers x c.args.depth).assign) _ (λ x. param_list x (walkers x c.args.depth).assign (fuel x) 0) p0 (omega arith) c.in_err-assign_expr.ensures) c.from_residual.ensures
+
+pub param_list-returns-in_err-separator-clause-does : goal.param_list-returns-in_err-separator-clause-does
+param_list-returns-in_err-separator-clause-does t c =
+    let p0 = listed-item (λ x. (walkers x c.args.depth).assign) (c.loop-depth.invariant.0.f - 1) c.loop-depth.n (turn-own c.loop-depth.invariant.0) (λ z. c.if-k-eq-RIGHT_PAREN.false (c.kind-k.ensures ∙ z)) c.if-n-ge-FN_PARAM_MAX_LEN.false (λ z. c.if-k-eq-EOF.false (c.kind-k.ensures ∙ z)) in
+    let p1 = go (λ x. (walkers x c.args.depth).assign) _ p0 c.in_ok-assign_expr.ensures in
+    conveyed (stop (λ x. separator x) _ (λ x. param_list x (walkers x c.args.depth).assign (fuel x) 0) p1 (omega arith) c.in_err-separator.ensures.does) c.from_residual-in_err-separator.ensures
+
+pub param_list-loop-depth-smaller : goal.param_list-loop-depth-smaller
+param_list-loop-depth-smaller t c =
+    let p0 = listed-item (λ x. (walkers x c.args.depth).assign) (c.loop-depth.invariant.0.f - 1) c.loop-depth.n (turn-own c.loop-depth.invariant.0) (λ z. c.if-k-eq-RIGHT_PAREN.false (c.kind-k.ensures ∙ z)) c.if-n-ge-FN_PARAM_MAX_LEN.false (λ z. c.if-k-eq-EOF.false (c.kind-k.ensures ∙ z)) in
+    let p1 = go (λ x. (walkers x c.args.depth).assign) _ p0 c.in_ok-assign_expr.ensures in
+    let p2 = go (λ x. separator x) _ p1 c.in_ok-separator.ensures.does in
+    nearer c.loop-depth.invariant.0 _ (omega (arith, (c.in_ok-assign_expr.ensures.fine p0.is).on, (c.in_ok-separator.ensures.does.fine p1.is).on))
+
+pub param_list-loop-depth-preserved : goal.param_list-loop-depth-preserved
+param_list-loop-depth-preserved t c =
+    let p0 = listed-item (λ x. (walkers x c.args.depth).assign) (c.loop-depth.invariant.0.f - 1) c.loop-depth.n (turn-own c.loop-depth.invariant.0) (λ z. c.if-k-eq-RIGHT_PAREN.false (c.kind-k.ensures ∙ z)) c.if-n-ge-FN_PARAM_MAX_LEN.false (λ z. c.if-k-eq-EOF.false (c.kind-k.ensures ∙ z)) in
+    let p1 = go (λ x. (walkers x c.args.depth).assign) _ p0 c.in_ok-assign_expr.ensures in
+    let p2 = go (λ x. separator x) _ p1 c.in_ok-separator.ensures.does in
+    (recount (λ x. (walkers x c.args.depth).assign) c.loop-depth.n (onward c.loop-depth.invariant.0 {loop' = λ x f. param_list x (walkers x c.args.depth).assign f (suc c.loop-depth.n)} (omega (arith, (c.in_ok-assign_expr.ensures.fine p0.is).on, (c.in_ok-separator.ensures.does.fine p1.is).on)) p2), omega (arith, c.if-n-ge-FN_PARAM_MAX_LEN.false))
+
+pub primary_expr-returns-in_err-literal : goal.primary_expr-returns-in_err-literal
+primary_expr-returns-in_err-literal t c =
+    conveyed (last (λ x. literal x c.args.p.now.at) (λ x. primary_expr x (walkers x c.args.depth)) (of-literal c.args.depth c.requires (ap is_literal (sym c.kind-k.ensures) ∙ sym c.is_literal.ensures ∙ c.if-is_literal.true)) (omega (arith, passes-one c.args.p.now (not-eof is_literal (ap is_literal (sym c.kind-k.ensures) ∙ sym c.is_literal.ensures ∙ c.if-is_literal.true) literal-eof))) c.in_err-literal.ensures.does) c.from_residual.ensures
 
 pub primary_expr-returns-then-is_literal : goal.primary_expr-returns-then-is_literal
-unfolding primary_expr
 primary_expr-returns-then-is_literal t c =
-    gives (λ E e. let p0 = begin 1 (λ x. primary_expr x (walkers x c.args.depth)) E e c.requires in
-    let p1 = read _ (read _ p0) in
-    last 1 (λ x. literal x c.args.w.at) (yes _ _ p1 (test is_literal p1 (ap is_literal (sym c.kind_at-k.ensures) ∙ sym c.is_literal.ensures ∙ c.if-is_literal.true))) refl (omega arith) (literally c.requires c.literal.ensures (not-eof is_literal (ap is_literal (sym c.kind_at-k.ensures) ∙ sym c.is_literal.ensures ∙ c.if-is_literal.true) literal-eof)))
-
-pub primary_expr-ident_expr-requires : goal.primary_expr-ident_expr-requires
-primary_expr-ident_expr-requires t c = (c.requires, not-eof (λ k. eqb k 31) (eq-eqb _ _ (sym c.kind_at-k.ensures ∙ c.if-k-eq-IDENT.true)) refl)
+    last (λ x. literal x c.args.p.now.at) (λ x. primary_expr x (walkers x c.args.depth)) (of-literal c.args.depth c.requires (ap is_literal (sym c.kind-k.ensures) ∙ sym c.is_literal.ensures ∙ c.if-is_literal.true)) (omega (arith, passes-one c.args.p.now (not-eof is_literal (ap is_literal (sym c.kind-k.ensures) ∙ sym c.is_literal.ensures ∙ c.if-is_literal.true) literal-eof))) c.in_ok-literal.ensures.does
 
 pub primary_expr-returns-then-k-eq-IDENT : goal.primary_expr-returns-then-k-eq-IDENT
-unfolding primary_expr
 primary_expr-returns-then-k-eq-IDENT t c =
-    gives (λ E e. let p0 = begin 1 (λ x. primary_expr x (walkers x c.args.depth)) E e c.requires in
-    let p1 = read _ (read _ p0) in
-    let n1 = no _ _ p1 (test is_literal p1 (ap is_literal (sym c.kind_at-k.ensures) ∙ sym c.is_literal.ensures ∙ c.if-is_literal.false)) in
-    last 1 (λ x. ident_expr x c.args.w.at) (yes _ _ n1 (test (λ k. eqb k 31) n1 (eq-eqb _ _ (sym c.kind_at-k.ensures ∙ c.if-k-eq-IDENT.true)))) refl (omega arith) c.ident_expr.ensures)
-
-pub primary_expr-group_expr-requires : goal.primary_expr-group_expr-requires
-primary_expr-group_expr-requires t c = (omega (arith, c.decreases), c.requires)
+    last (λ x. ident_expr x c.args.p.now.at) (λ x. primary_expr x (walkers x c.args.depth)) (of-name c.args.depth c.requires (ap is_literal (sym c.kind-k.ensures) ∙ sym c.is_literal.ensures ∙ c.if-is_literal.false) (sym c.kind-k.ensures ∙ c.if-k-eq-IDENT.true)) (omega arith) c.ident_expr.ensures
 
 pub primary_expr-returns-then-k-eq-LEFT_PAREN : goal.primary_expr-returns-then-k-eq-LEFT_PAREN
-unfolding primary_expr
 primary_expr-returns-then-k-eq-LEFT_PAREN t c =
-    gives (λ E e. let p0 = begin 1 (λ x. primary_expr x (walkers x c.args.depth)) E e c.requires in
-    let p1 = read _ (read _ p0) in
-    let n1 = no _ _ p1 (test is_literal p1 (ap is_literal (sym c.kind_at-k.ensures) ∙ sym c.is_literal.ensures ∙ c.if-is_literal.false)) in
-    let n2 = no _ _ n1 (test (λ k. eqb k 31) n1 (ne_eqb _ _ (λ z. c.if-k-eq-IDENT.false (c.kind_at-k.ensures ∙ z)))) in
-    last 1 (λ x. group_expr x (walkers x c.args.depth)) (yes _ _ n2 (test (λ k. eqb k 1) n2 (eq-eqb _ _ (sym c.kind_at-k.ensures ∙ c.if-k-eq-LEFT_PAREN.true)))) refl (omega arith) c.group_expr.ensures)
-
-pub primary_expr-throw_past-requires : goal.primary_expr-throw_past-requires
-primary_expr-throw_past-requires t c = (c.requires.stands, refl)
+    last (λ x. group_expr x (walkers x c.args.depth)) (λ x. primary_expr x (walkers x c.args.depth)) (of-group c.args.depth c.requires (ap is_literal (sym c.kind-k.ensures) ∙ sym c.is_literal.ensures ∙ c.if-is_literal.false) (λ z. c.if-k-eq-IDENT.false (c.kind-k.ensures ∙ z)) (sym c.kind-k.ensures ∙ c.if-k-eq-LEFT_PAREN.true)) (omega arith) c.group_expr.ensures
 
 pub primary_expr-returns-then-k-ne-AT : goal.primary_expr-returns-then-k-ne-AT
-unfolding primary_expr
 primary_expr-returns-then-k-ne-AT t c =
-    gives (λ E e. let p0 = begin 1 (λ x. primary_expr x (walkers x c.args.depth)) E e c.requires in
-    let p1 = read _ (read _ p0) in
-    let n1 = no _ _ p1 (test is_literal p1 (ap is_literal (sym c.kind_at-k.ensures) ∙ sym c.is_literal.ensures ∙ c.if-is_literal.false)) in
-    let n2 = no _ _ n1 (test (λ k. eqb k 31) n1 (ne_eqb _ _ (λ z. c.if-k-eq-IDENT.false (c.kind_at-k.ensures ∙ z)))) in
-    let n3 = no _ _ n2 (test (λ k. eqb k 1) n2 (ne_eqb _ _ (λ z. c.if-k-eq-LEFT_PAREN.false (c.kind_at-k.ensures ∙ z)))) in
-    last 1 (λ x. throw_past x (InvalidTkn c.args.w.at)) (no _ _ n3 (test (λ k. eqb k 21) n3 (ne_eqb _ _ (λ z. c.if-k-ne-AT.true (c.kind_at-k.ensures ∙ z))))) refl (omega arith) (passed_over c.requires c.throw_past.ensures))
+    last (λ x. throw_past x (InvalidTkn c.args.p.now.at)) (λ x. primary_expr x (walkers x c.args.depth)) (of-other c.args.depth c.requires (ap is_literal (sym c.kind-k.ensures) ∙ sym c.is_literal.ensures ∙ c.if-is_literal.false) (λ z. c.if-k-eq-IDENT.false (c.kind-k.ensures ∙ z)) (λ z. c.if-k-eq-LEFT_PAREN.false (c.kind-k.ensures ∙ z)) (λ z. c.if-k-ne-AT.true (c.kind-k.ensures ∙ z))) (omega arith) c.throw_past.ensures.does
 
-pub primary_expr-consume-passed-requires : goal.primary_expr-consume-passed-requires
-primary_expr-consume-passed-requires t c = c.requires.stands
-
-pub primary_expr-returns-in_default : goal.primary_expr-returns-in_default
-unfolding primary_expr at_expr
-primary_expr-returns-in_default t c =
-    gives (λ E e. let p0 = begin 1 (λ x. primary_expr x (walkers x c.args.depth)) E e c.requires in
-    let p1 = read _ (read _ p0) in
-    let n1 = no _ _ p1 (test is_literal p1 (ap is_literal (sym c.kind_at-k.ensures) ∙ sym c.is_literal.ensures ∙ c.if-is_literal.false)) in
-    let n2 = no _ _ n1 (test (λ k. eqb k 31) n1 (ne_eqb _ _ (λ z. c.if-k-eq-IDENT.false (c.kind_at-k.ensures ∙ z)))) in
-    let n3 = no _ _ n2 (test (λ k. eqb k 1) n2 (ne_eqb _ _ (λ z. c.if-k-eq-LEFT_PAREN.false (c.kind_at-k.ensures ∙ z)))) in
-    let a0 = yes _ _ n3 (test (λ k. eqb k 21) n3 (eq-eqb _ _ (sym c.kind_at-k.ensures ∙ c.if-k-ne-AT.false))) in
-    stop 1 (λ x. consume x) _ a0 refl (omega arith) (pass a0.is c.consume-passed.ensures (not-eof (λ k. eqb k 21) (eq-eqb _ _ (sym c.kind_at-k.ensures ∙ c.if-k-ne-AT.false)) refl)) (not_done _ c.in_default.not-Done))
-
-pub primary_expr-fn_call_expr-requires : goal.primary_expr-fn_call_expr-requires
-unfolding primary_expr at_expr
-primary_expr-fn_call_expr-requires t c =
-    let E = blank c.args.w.errors in
-    let e = blanks c.args.w.errors in
-    let p0 = begin 1 (λ x. primary_expr x (walkers x c.args.depth)) E e c.requires in
-    let p1 = read _ (read _ p0) in
-    let n1 = no _ _ p1 (test is_literal p1 (ap is_literal (sym c.kind_at-k.ensures) ∙ sym c.is_literal.ensures ∙ c.if-is_literal.false)) in
-    let n2 = no _ _ n1 (test (λ k. eqb k 31) n1 (ne_eqb _ _ (λ z. c.if-k-eq-IDENT.false (c.kind_at-k.ensures ∙ z)))) in
-    let n3 = no _ _ n2 (test (λ k. eqb k 1) n2 (ne_eqb _ _ (λ z. c.if-k-eq-LEFT_PAREN.false (c.kind_at-k.ensures ∙ z)))) in
-    let a0 = yes _ _ n3 (test (λ k. eqb k 21) n3 (eq-eqb _ _ (sym c.kind_at-k.ensures ∙ c.if-k-ne-AT.false))) in
-    let a1 = go 1 (λ x. consume x) _ a0 refl (pass a0.is c.consume-passed.ensures (not-eof (λ k. eqb k 21) (eq-eqb _ _ (sym c.kind_at-k.ensures ∙ c.if-k-ne-AT.false)) refl)) same c.in-Done.is in
-    (omega (arith, c.decreases), a1.is)
+pub primary_expr-returns-in_err-consume : goal.primary_expr-returns-in_err-consume
+primary_expr-returns-in_err-consume t c =
+    conveyed (refused (λ x. consume x) _ (λ x. primary_expr x (walkers x c.args.depth)) (of-at c.args.depth c.requires (ap is_literal (sym c.kind-k.ensures) ∙ sym c.is_literal.ensures ∙ c.if-is_literal.false) (λ z. c.if-k-eq-IDENT.false (c.kind-k.ensures ∙ z)) (λ z. c.if-k-eq-LEFT_PAREN.false (c.kind-k.ensures ∙ z)) (sym c.kind-k.ensures ∙ c.if-k-ne-AT.false)) c.in_err-consume.ensures.does refl) c.from_residual-in_err-consume.ensures
 
 pub primary_expr-returns : goal.primary_expr-returns
-unfolding primary_expr at_expr
 primary_expr-returns t c =
-    gives (λ E e. let p0 = begin 1 (λ x. primary_expr x (walkers x c.args.depth)) E e c.requires in
-    let p1 = read _ (read _ p0) in
-    let n1 = no _ _ p1 (test is_literal p1 (ap is_literal (sym c.kind_at-k.ensures) ∙ sym c.is_literal.ensures ∙ c.if-is_literal.false)) in
-    let n2 = no _ _ n1 (test (λ k. eqb k 31) n1 (ne_eqb _ _ (λ z. c.if-k-eq-IDENT.false (c.kind_at-k.ensures ∙ z)))) in
-    let n3 = no _ _ n2 (test (λ k. eqb k 1) n2 (ne_eqb _ _ (λ z. c.if-k-eq-LEFT_PAREN.false (c.kind_at-k.ensures ∙ z)))) in
-    let a0 = yes _ _ n3 (test (λ k. eqb k 21) n3 (eq-eqb _ _ (sym c.kind_at-k.ensures ∙ c.if-k-ne-AT.false))) in
-    let a1 = go 1 (λ x. consume x) _ a0 refl (pass a0.is c.consume-passed.ensures (not-eof (λ k. eqb k 21) (eq-eqb _ _ (sym c.kind_at-k.ensures ∙ c.if-k-ne-AT.false)) refl)) same c.in-Done.is in
-    last 1 (λ x. (walkers x c.args.depth).call) a1 refl (omega arith) c.fn_call_expr.ensures)
+    let p1 = go (λ x. consume x) _ (of-at c.args.depth c.requires (ap is_literal (sym c.kind-k.ensures) ∙ sym c.is_literal.ensures ∙ c.if-is_literal.false) (λ z. c.if-k-eq-IDENT.false (c.kind-k.ensures ∙ z)) (λ z. c.if-k-eq-LEFT_PAREN.false (c.kind-k.ensures ∙ z)) (sym c.kind-k.ensures ∙ c.if-k-ne-AT.false)) c.in_ok-consume.ensures.does in
+    last (λ x. (walkers x c.args.depth).call) (λ x. primary_expr x (walkers x c.args.depth)) p1 (omega arith) c.fn_call_expr.ensures
 
 pub unary_expr-returns-then-depth-eq0 : goal.unary_expr-returns-then-depth-eq0
-unary_expr-returns-then-depth-eq0 t c = gives (λ E e. refused (unary-none _ _ c.if-depth-eq0.true))
-
-pub unary_expr-overflow_sub-below : goal.unary_expr-overflow_sub-below
-unary_expr-overflow_sub-below t c = omega (arith, c.if-depth-eq0.false)
-
-pub unary_expr-kind_at-requires : goal.unary_expr-kind_at-requires
-unary_expr-kind_at-requires t c = c.requires.stands.here
-
-pub unary_expr-fn_call_expr-requires : goal.unary_expr-fn_call_expr-requires
-unary_expr-fn_call_expr-requires t c = (omega (arith, c.decreases, c.if-depth-eq0.false), c.requires)
-
-pub unary_expr-returns-then-not-is_unary : goal.unary_expr-returns-then-not-is_unary
-unfolding unary_expr
-unary_expr-returns-then-not-is_unary t c =
-    gives (λ E e. let p0 = by (begin 1 (λ x. (walkers x c.args.depth).unary) E e c.requires) (unary-step _ _ _ c.if-depth-eq0.false) in
-    let p1 = read _ (read _ p0) in
-    last 1 (λ x. (walkers x (c.args.depth - 1)).call) (no _ _ p1 (test is_unary p1 (ap is_unary (sym c.kind_at.ensures) ∙ sym c.is_unary.ensures ∙ c.if-not-is_unary.true))) refl (omega arith) c.fn_call_expr.ensures)
-
-pub unary_expr-consume-passed-requires : goal.unary_expr-consume-passed-requires
-unary_expr-consume-passed-requires t c = c.requires.stands
-
-pub unary_expr-returns-in_default : goal.unary_expr-returns-in_default
-unfolding unary_expr
-unary_expr-returns-in_default t c =
-    gives (λ E e. let p0 = by (begin 1 (λ x. (walkers x c.args.depth).unary) E e c.requires) (unary-step _ _ _ c.if-depth-eq0.false) in
-    let p1 = read _ (read _ p0) in
-    let u0 = yes _ _ p1 (test is_unary p1 (ap is_unary (sym c.kind_at.ensures) ∙ sym c.is_unary.ensures ∙ c.if-not-is_unary.false)) in
-    stop 1 (λ x. consume x) _ u0 refl (omega arith) (pass u0.is c.consume-passed.ensures (not-eof is_unary (ap is_unary (sym c.kind_at.ensures) ∙ sym c.is_unary.ensures ∙ c.if-not-is_unary.false) unary-eof)) (not_done _ c.in_default.not-Done))
-
-pub unary_expr-unary_expr-rhs-requires : goal.unary_expr-unary_expr-rhs-requires
-unfolding unary_expr
-unary_expr-unary_expr-rhs-requires t c =
-    let E = blank c.args.w.errors in
-    let e = blanks c.args.w.errors in
-    let p0 = by (begin 1 (λ x. (walkers x c.args.depth).unary) E e c.requires) (unary-step _ _ _ c.if-depth-eq0.false) in
-    let p1 = read _ (read _ p0) in
-    let u0 = yes _ _ p1 (test is_unary p1 (ap is_unary (sym c.kind_at.ensures) ∙ sym c.is_unary.ensures ∙ c.if-not-is_unary.false)) in
-    let u1 = go 1 (λ x. consume x) _ u0 refl (pass u0.is c.consume-passed.ensures (not-eof is_unary (ap is_unary (sym c.kind_at.ensures) ∙ sym c.is_unary.ensures ∙ c.if-not-is_unary.false) unary-eof)) same c.in-Done.is in
-    (omega (arith, c.decreases, c.if-depth-eq0.false), u1.is)
-
-pub unary_expr-returns-in_default-rhs : goal.unary_expr-returns-in_default-rhs
-unfolding unary_expr
-unary_expr-returns-in_default-rhs t c =
-    gives (λ E e. let p0 = by (begin 1 (λ x. (walkers x c.args.depth).unary) E e c.requires) (unary-step _ _ _ c.if-depth-eq0.false) in
-    let p1 = read _ (read _ p0) in
-    let u0 = yes _ _ p1 (test is_unary p1 (ap is_unary (sym c.kind_at.ensures) ∙ sym c.is_unary.ensures ∙ c.if-not-is_unary.false)) in
-    let u1 = go 1 (λ x. consume x) _ u0 refl (pass u0.is c.consume-passed.ensures (not-eof is_unary (ap is_unary (sym c.kind_at.ensures) ∙ sym c.is_unary.ensures ∙ c.if-not-is_unary.false) unary-eof)) same c.in-Done.is in
-    stop 1 (λ x. (walkers x (c.args.depth - 1)).unary) _ u1 refl (omega arith) c.unary_expr-rhs.ensures (not_done _ c.in_default-rhs.not-Done))
-
-pub unary_expr-overflow_cast-at : goal.unary_expr-overflow_cast-at
-unary_expr-overflow_cast-at t c = omega (arith, c.requires.stands.here, c.requires.stands.toks.few)
-
-pub unary_expr-push_node-requires : goal.unary_expr-push_node-requires
-unfolding unary_expr
-unary_expr-push_node-requires t c =
-    let E = blank c.args.w.errors in
-    let e = blanks c.args.w.errors in
-    let p0 = by (begin 1 (λ x. (walkers x c.args.depth).unary) E e c.requires) (unary-step _ _ _ c.if-depth-eq0.false) in
-    let p1 = read _ (read _ p0) in
-    let u0 = yes _ _ p1 (test is_unary p1 (ap is_unary (sym c.kind_at.ensures) ∙ sym c.is_unary.ensures ∙ c.if-not-is_unary.false)) in
-    let u1 = go 1 (λ x. consume x) _ u0 refl (pass u0.is c.consume-passed.ensures (not-eof is_unary (ap is_unary (sym c.kind_at.ensures) ∙ sym c.is_unary.ensures ∙ c.if-not-is_unary.false) unary-eof)) same c.in-Done.is in
-    let u2 = go 1 (λ x. (walkers x (c.args.depth - 1)).unary) _ u1 refl c.unary_expr-rhs.ensures (record { symbols = c.unary_expr-rhs.auto.symbols; head = c.unary_expr-rhs.auto.head; load = c.unary_expr-rhs.auto.load }) c.in-Done-rhs.is in
-    (u2.is.even, u2.is.used)
+unary_expr-returns-then-depth-eq0 t c =
+    unary-none _ c.if-depth-eq0.true
 
 pub unary_expr-returns : goal.unary_expr-returns
 unfolding unary_expr
 unary_expr-returns t c =
-    gives (λ E e. let p0 = by (begin 1 (λ x. (walkers x c.args.depth).unary) E e c.requires) (unary-step _ _ _ c.if-depth-eq0.false) in
-    let p1 = read _ (read _ p0) in
-    let u0 = yes _ _ p1 (test is_unary p1 (ap is_unary (sym c.kind_at.ensures) ∙ sym c.is_unary.ensures ∙ c.if-not-is_unary.false)) in
-    let u1 = go 1 (λ x. consume x) _ u0 refl (pass u0.is c.consume-passed.ensures (not-eof is_unary (ap is_unary (sym c.kind_at.ensures) ∙ sym c.is_unary.ensures ∙ c.if-not-is_unary.false) unary-eof)) same c.in-Done.is in
-    let u2 = go 1 (λ x. (walkers x (c.args.depth - 1)).unary) _ u1 refl c.unary_expr-rhs.ensures (record { symbols = c.unary_expr-rhs.auto.symbols; head = c.unary_expr-rhs.auto.head; load = c.unary_expr-rhs.auto.load }) c.in-Done-rhs.is in
-    last 0 (λ x. push x 23 false 1 c.args.w.at) u2 refl (omega arith) (pushed u2.is c.push_node.ensures))
+    let p0 = stood _ (kinded _ (unary-step c.requires c.args.depth c.if-depth-eq0.false)) in
+    last (λ x. (walkers x (c.args.depth - 1)).call) (λ x. (walkers x c.args.depth).unary) (no _ _ p0 (ap is_unary (sym c.kind.ensures) ∙ sym c.is_unary.ensures ∙ c.if-is_unary.false)) (omega arith) c.fn_call_expr.ensures
+
+pub unary_expr-returns-in_err-consume : goal.unary_expr-returns-in_err-consume
+unfolding unary_expr
+unary_expr-returns-in_err-consume t c =
+    let p0 = stood _ (kinded _ (unary-step c.requires c.args.depth c.if-depth-eq0.false)) in
+    let p1 = yes _ _ p0 (ap is_unary (sym c.kind.ensures) ∙ sym c.is_unary.ensures ∙ c.if-is_unary.true) in
+    conveyed (refused (λ x. consume x) _ (λ x. (walkers x c.args.depth).unary) p1 c.in_err-consume.ensures.does refl) c.from_residual.ensures
+
+pub unary_expr-returns-in_err-unary_expr : goal.unary_expr-returns-in_err-unary_expr
+unfolding unary_expr
+unary_expr-returns-in_err-unary_expr t c =
+    let p0 = stood _ (kinded _ (unary-step c.requires c.args.depth c.if-depth-eq0.false)) in
+    let p1 = yes _ _ p0 (ap is_unary (sym c.kind.ensures) ∙ sym c.is_unary.ensures ∙ c.if-is_unary.true) in
+    let p2 = go (λ x. consume x) _ p1 c.in_ok-consume.ensures.does in
+    conveyed (stop (λ x. (walkers x (c.args.depth - 1)).unary) _ (λ x. (walkers x c.args.depth).unary) p2 (omega arith) c.in_err-unary_expr.ensures) c.from_residual-in_err-unary_expr.ensures
+
+pub unary_expr-returns-in_err-push_node : goal.unary_expr-returns-in_err-push_node
+unfolding unary_expr
+unary_expr-returns-in_err-push_node t c =
+    let p0 = stood _ (kinded _ (unary-step c.requires c.args.depth c.if-depth-eq0.false)) in
+    let p1 = yes _ _ p0 (ap is_unary (sym c.kind.ensures) ∙ sym c.is_unary.ensures ∙ c.if-is_unary.true) in
+    let p2 = go (λ x. consume x) _ p1 c.in_ok-consume.ensures.does in
+    let p3 = go (λ x. (walkers x (c.args.depth - 1)).unary) _ p2 c.in_ok-unary_expr.ensures in
+    conveyed (last (λ x. push x 23 false 1 c.args.p.now.at) (λ x. (walkers x c.args.depth).unary) p3 (omega arith) c.in_err-push_node.ensures.does) c.from_residual-in_err-push_node.ensures
+
+pub unary_expr-returns-then-is_unary : goal.unary_expr-returns-then-is_unary
+unfolding unary_expr
+unary_expr-returns-then-is_unary t c =
+    let p0 = stood _ (kinded _ (unary-step c.requires c.args.depth c.if-depth-eq0.false)) in
+    let p1 = yes _ _ p0 (ap is_unary (sym c.kind.ensures) ∙ sym c.is_unary.ensures ∙ c.if-is_unary.true) in
+    let p2 = go (λ x. consume x) _ p1 c.in_ok-consume.ensures.does in
+    let p3 = go (λ x. (walkers x (c.args.depth - 1)).unary) _ p2 c.in_ok-unary_expr.ensures in
+    last (λ x. push x 23 false 1 c.args.p.now.at) (λ x. (walkers x c.args.depth).unary) p3 (omega arith) c.in_ok-push_node.ensures.does

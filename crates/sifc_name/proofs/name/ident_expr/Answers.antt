@@ -1,31 +1,33 @@
-use native.Mathlib.Omega.{arith}
-use mathlib.Core.Path.{refl}
-use borrow.Author.Tests.{not-true, not-false}
+use Rattle.std.proofs.Common.{arith, sym, ◌∙◌}
 use Rattle.sifc_def.specs.declared.Why.TheVariants.{UndeclSym}
 use Rattle.sifc_def.specs.State.{throw_past}
 use Rattle.sifc_def.specs.Expr.{ident_expr, literal as literal_of}
-use Rattle.sifc_step.specs.Steps.{begin, gives, last, stop}
-use Rattle.sifc_step.specs.SmallLaws.{literally, passed_over}
-use Rattle.sifc_name.proofs.Names.{lost-past, held, unchecked, checked, undeclared}
+use Rattle.sifc_step.proofs.Steps.{begin, last, stop}
+use Rattle.sifc_step.proofs.Small.{conveyed, passes-one}
+use Rattle.sifc_name.proofs.Names.{unchecked, checked, undeclared}
+use Rattle.sifc_name.proofs.name.ident_expr.Goals.{else-p-via-then-p+else-not-sym_exists, else-p-via-else-p}
 use Rattle.sifc_name.proofs.name.ident_expr.Goals as goal
 
-pub returns-then-not-w : goal.returns-then-not-w
+pub returns-then-not-sym_exists : goal.returns-then-not-sym_exists
 unfolding ident_expr
-returns-then-not-w c =
-    gives (λ E e. let p0 = begin 1 (λ x. ident_expr x c.args.w.at) E e c.requires.0 in
-    let p1 = unchecked _ _ p0 (not-true _ c.if-not-w.true) in
-    last 1 (λ x. literal_of x c.args.w.at) p1 refl (omega arith) (literally p1.is c.literal.ensures c.requires.1))
+returns-then-not-sym_exists c =
+    let p0 = begin 1 (λ x. ident_expr x c.args.p.now.at) c.requires.0 in
+    stop (λ x. throw_past x (UndeclSym c.args.p.now.at)) _ (λ x. ident_expr x c.args.p.now.at) (undeclared c.args.p.now.at _ p0 c.if-p.true (sym c.if-not-sym_exists.true ∙ c.sym_exists.ensures)) (omega arith) c.throw_past.ensures.does
 
-pub returns-then-sym_exists : goal.returns-then-sym_exists
+pub returns-in_err-literal : goal.returns-in_err-literal
 unfolding ident_expr
-returns-then-sym_exists c =
-    gives (λ E e. let p0 = begin 1 (λ x. ident_expr x c.args.w.at) E e c.requires.0 in
-    let p1 = checked _ _ p0 (not-false _ c.if-not-w.false) c.sym_exists.ensures c.if-sym_exists.true in
-    held c.sym_exists.ensures.kept (last 1 (λ x. literal_of x c.args.w.at) p1 refl (omega arith) (literally p1.is c.literal-then-sym_exists.ensures c.requires.1)))
+returns-in_err-literal c =
+    let p0 = begin 1 (λ x. ident_expr x c.args.p.now.at) c.requires.0 in
+    elim c.else-p.branch [
+      | else-p-via-then-p+else-not-sym_exists w ↦ conveyed (last (λ x. literal_of x c.args.p.now.at) (λ x. ident_expr x c.args.p.now.at) (checked c.args.p.now.at _ p0 w.if-p.true (sym w.if-not-sym_exists.false ∙ w.sym_exists.ensures)) (omega (arith, passes-one c.args.p.now c.requires.1)) c.in_err-literal.ensures.does) c.from_residual.ensures
+      | else-p-via-else-p w ↦ conveyed (last (λ x. literal_of x c.args.p.now.at) (λ x. ident_expr x c.args.p.now.at) (unchecked c.args.p.now.at _ p0 w.if-p.false) (omega (arith, passes-one c.args.p.now c.requires.1)) c.in_err-literal.ensures.does) c.from_residual.ensures
+    ]
 
 pub returns : goal.returns
 unfolding ident_expr
 returns c =
-    gives (λ E e. let p0 = begin 1 (λ x. ident_expr x c.args.w.at) E e c.requires.0 in
-    let p1 = undeclared _ _ p0 (not-false _ c.if-not-w.false) c.sym_exists.ensures c.if-sym_exists.false in
-    held c.sym_exists.ensures.kept (stop 1 (λ x. throw_past x (UndeclSym c.args.w.at)) _ p1 refl (omega arith) (passed_over p1.is c.throw_past.ensures) (lost-past c.throw_past.ensures)))
+    let p0 = begin 1 (λ x. ident_expr x c.args.p.now.at) c.requires.0 in
+    elim c.else-p.branch [
+      | else-p-via-then-p+else-not-sym_exists w ↦ last (λ x. literal_of x c.args.p.now.at) (λ x. ident_expr x c.args.p.now.at) (checked c.args.p.now.at _ p0 w.if-p.true (sym w.if-not-sym_exists.false ∙ w.sym_exists.ensures)) (omega (arith, passes-one c.args.p.now c.requires.1)) c.in_ok-literal.ensures.does
+      | else-p-via-else-p w ↦ last (λ x. literal_of x c.args.p.now.at) (λ x. ident_expr x c.args.p.now.at) (unchecked c.args.p.now.at _ p0 w.if-p.false) (omega (arith, passes-one c.args.p.now c.requires.1)) c.in_ok-literal.ensures.does
+    ]

@@ -1,12 +1,20 @@
-use borrow.Author.Rules.{rules}
-use Rattle.sifc_program.proofs.Programs.{read-ends, read-full, read-never}
+use Rattle.std.specs.Prelude.{refl, false, ◌≡◌}
+use Rattle.sifc_def.specs.State.{push}
+use Rattle.sifc_def.specs.Walk.{end_read}
+use Rattle.sifc_step.specs.Book.{last_of}
+use Rattle.sifc_step.proofs.Steps.{begin, go, refused, fin}
+use Rattle.sifc_step.proofs.Small.{pushed-as}
+use Rattle.sifc_program.proofs.Programs.{ended-stops}
 use Rattle.sifc_program.proofs.program.end_read.Goals as goal
 
-pub returns-in-Done : goal.returns-in-Done
-returns-in-Done c = read-ends c.args.flag c.args.last c.head_word.ensures c.push_node-made.ensures c.in-Done.is
+pub returns-in_err-push_node : goal.returns-in_err-push_node
+unfolding end_read
+returns-in_err-push_node c =
+    let p0 = begin 0 (λ x. end_read x c.args.n c.args.flag (last_of c.args.last)) c.requires.0 in
+    ended-stops c.from_residual.result (λ w. (w.nodes ≡ c.push_node.new.self.nodes) × (w.errors ≡ c.push_node.new.self.errors)) (refused (λ x. push x 1 false c.args.n 0) _ (λ x. end_read x c.args.n c.args.flag (last_of c.args.last)) p0 (pushed-as 0 c.head_word.ensures c.in_err-push_node.ensures.does) refl) c.from_residual.ensures
 
-pub returns-in-Failed : goal.returns-in-Failed
-returns-in-Failed c = read-never c.args.flag c.args.last c.head_word.ensures c.push_node-made.ensures c.in-Failed.is
-
-pub returns-in-Refused : goal.returns-in-Refused
-returns-in-Refused c = read-full c.args.flag c.args.last c.head_word.ensures c.push_node-made.ensures c.in-Refused.is
+pub returns : goal.returns
+unfolding end_read
+returns c =
+    let p0 = begin 0 (λ x. end_read x c.args.n c.args.flag (last_of c.args.last)) c.requires.0 in
+    (fin (λ x. end_read x c.args.n c.args.flag (last_of c.args.last)) (go (λ x. push x 1 false c.args.n 0) _ p0 (pushed-as 0 c.head_word.ensures c.in_ok-push_node.ensures.does)), (refl, refl))

@@ -1,20 +1,23 @@
-use Rattle.sifc_step.specs.SmallLaws.{last-literal}
-use borrow.Author.Tests.{eq-eqb, ne_eqb}
+use Rattle.std.specs.Prelude.{refl}
+use Rattle.std.proofs.Common.{arith, ⊎_elim}
 use Rattle.sifc_word.specs.Base.{member}
 use Rattle.sifc_def.specs.Expr.{is_literal}
+use Rattle.sifc_step.proofs.Tests.{either, not-literal}
 use Rattle.sifc_step.proofs.step.is_literal.Goals as goal
 
-pub returns-then-k-eq32 : goal.returns-then-k-eq32
+pub returns-in-32 : goal.returns-in-32
 unfolding is_literal member
-returns-then-k-eq32 c = simp (eq-eqb _ _ c.if-k-eq32.true)
+returns-in-32 c = ⊎_elim (λ e. rw e refl) (λ e. rw e refl) (either 32 c.args.k (omega arith) (omega arith))
 
-pub returns-then-k-eq33 : goal.returns-then-k-eq33
+pub returns-in-32-2 : goal.returns-in-32-2
 unfolding is_literal member
-returns-then-k-eq33 c = simp (ne_eqb _ _ c.if-k-eq32.false, eq-eqb _ _ c.if-k-eq33.true)
+returns-in-32-2 c = ⊎_elim (λ e. rw e refl) (λ e. rw e refl) (either 44 c.args.k (omega arith) (omega arith))
 
-pub returns-then-k-eq44 : goal.returns-then-k-eq44
-unfolding is_literal member
-returns-then-k-eq44 c = simp (ne_eqb _ _ c.if-k-eq32.false, ne_eqb _ _ c.if-k-eq33.false, eq-eqb _ _ c.if-k-eq44.true)
+pub returns-in_default : goal.returns-in_default
+returns-in_default c = not-literal c.args.k (λ e. let v : ⊥ = omega arith in v) (λ e. let v : ⊥ = omega arith in v) (λ e. let v : ⊥ = omega arith in v) (λ e. let v : ⊥ = omega arith in v)
 
-pub returns : goal.returns
-returns c = last-literal _ c.if-k-eq32.false c.if-k-eq33.false c.if-k-eq44.false
+pub returns-in_default-2 : goal.returns-in_default-2
+returns-in_default-2 c = not-literal c.args.k (λ e. let v : ⊥ = omega arith in v) (λ e. let v : ⊥ = omega arith in v) (λ e. let v : ⊥ = omega arith in v) (λ e. let v : ⊥ = omega arith in v)
+
+pub returns-in_default-3 : goal.returns-in_default-3
+returns-in_default-3 c = not-literal c.args.k (λ e. let v : ⊥ = omega arith in v) (λ e. let v : ⊥ = omega arith in v) (λ e. let v : ⊥ = omega arith in v) (λ e. let v : ⊥ = omega arith in v)

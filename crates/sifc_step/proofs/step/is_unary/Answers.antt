@@ -1,11 +1,12 @@
-use borrow.Author.Tests.{eq-eqb, ne_eqb}
+use Rattle.std.specs.Prelude.{refl}
+use Rattle.std.proofs.Common.{ne_eqb}
 use Rattle.sifc_def.specs.Expr.{is_unary}
 use Rattle.sifc_step.proofs.step.is_unary.Goals as goal
 
 pub returns-then-k-eq13 : goal.returns-then-k-eq13
 unfolding is_unary
-returns-then-k-eq13 c = simp (eq-eqb _ _ c.if-k-eq13.true)
+returns-then-k-eq13 c = rw c.if-k-eq13.true refl
 
-pub returns : goal.returns
+pub returns-else-k-eq13 : goal.returns-else-k-eq13
 unfolding is_unary
-returns c = simp (ne_eqb _ _ c.if-k-eq13.false)
+returns-else-k-eq13 c = rw (ne_eqb c.args.k 13 c.if-k-eq13.false) refl

@@ -1,30 +1,54 @@
-use borrow.Author.Tests.{eq-eqb, ne_eqb}
+use Rattle.std.specs.Prelude.{refl}
+use Rattle.std.proofs.Common.{arith, ⊎_elim}
 use Rattle.sifc_word.specs.Base.{if◌then◌otherwise◌, member}
 use Rattle.sifc_def.specs.Expr.{looseness}
+use Rattle.sifc_step.proofs.Tests.{either, loose-none}
 use Rattle.sifc_step.proofs.step.looseness.Goals as goal
 
-pub returns-then-k-eq18 : goal.returns-then-k-eq18
+pub returns-in-18 : goal.returns-in-18
 unfolding looseness member if◌then◌otherwise◌
-returns-then-k-eq18 c = simp (eq-eqb _ _ c.if-k-eq18.true)
+returns-in-18 c = rw c.in-18.is refl
 
-pub returns-then-k-eq16 : goal.returns-then-k-eq16
+pub returns-in-22 : goal.returns-in-22
 unfolding looseness member if◌then◌otherwise◌
-returns-then-k-eq16 c = simp (ne_eqb _ _ c.if-k-eq18.false, eq-eqb _ _ c.if-k-eq16.true)
+returns-in-22 c = rw c.in-22.is refl
 
-pub returns-then-k-eq17 : goal.returns-then-k-eq17
+pub returns-in-26 : goal.returns-in-26
 unfolding looseness member if◌then◌otherwise◌
-returns-then-k-eq17 c = simp (ne_eqb _ _ c.if-k-eq18.false, ne_eqb _ _ c.if-k-eq16.false, eq-eqb _ _ c.if-k-eq17.true)
+returns-in-26 c = rw c.in-26.is refl
 
-pub returns-then-k-eq14 : goal.returns-then-k-eq14
+pub returns-in-27 : goal.returns-in-27
 unfolding looseness member if◌then◌otherwise◌
-returns-then-k-eq14 c = simp (ne_eqb _ _ c.if-k-eq18.false, ne_eqb _ _ c.if-k-eq16.false, ne_eqb _ _ c.if-k-eq17.false, eq-eqb _ _ c.if-k-eq14.true)
+returns-in-27 c = rw c.in-27.is refl
 
-pub returns-then-k-eq15 : goal.returns-then-k-eq15
+pub returns-in-28 : goal.returns-in-28
 unfolding looseness member if◌then◌otherwise◌
-returns-then-k-eq15 c = simp (ne_eqb _ _ c.if-k-eq18.false, ne_eqb _ _ c.if-k-eq16.false, ne_eqb _ _ c.if-k-eq17.false, ne_eqb _ _ c.if-k-eq14.false, eq-eqb _ _ c.if-k-eq15.true)
+returns-in-28 c = rw c.in-28.is refl
 
-pub looseness_of_test-requires : goal.looseness_of_test-requires
-looseness_of_test-requires c = (c.if-k-eq18.false, c.if-k-eq16.false, c.if-k-eq17.false, c.if-k-eq14.false, c.if-k-eq15.false)
+pub returns-in-9 : goal.returns-in-9
+unfolding looseness member if◌then◌otherwise◌
+returns-in-9 c = ⊎_elim (λ e. rw e refl) (λ e. rw e refl) (either 9 c.args.k (omega arith) (omega arith))
 
-pub returns : goal.returns
-returns c = c.looseness_of_test.ensures
+pub returns-in-14 : goal.returns-in-14
+unfolding looseness member if◌then◌otherwise◌
+returns-in-14 c = ⊎_elim (λ e. rw e refl) (λ e. rw e refl) (either 14 c.args.k (omega arith) (omega arith))
+
+pub returns-in-16 : goal.returns-in-16
+unfolding looseness member if◌then◌otherwise◌
+returns-in-16 c = ⊎_elim (λ e. rw e refl) (λ e. rw e refl) (either 16 c.args.k (omega arith) (omega arith))
+
+pub returns-in-23 : goal.returns-in-23
+unfolding looseness member if◌then◌otherwise◌
+returns-in-23 c = ⊎_elim (λ e. rw e refl) (λ e. rw e refl) (either 23 c.args.k (omega arith) (omega arith))
+
+pub returns-in_default : goal.returns-in_default
+returns-in_default c = loose-none c.args.k (λ e. let v : ⊥ = omega arith in v) (λ e. let v : ⊥ = omega arith in v) (λ e. let v : ⊥ = omega arith in v) (λ e. let v : ⊥ = omega arith in v) (λ e. let v : ⊥ = omega arith in v) (λ e. let v : ⊥ = omega arith in v) (λ e. let v : ⊥ = omega arith in v) (λ e. let v : ⊥ = omega arith in v) (λ e. let v : ⊥ = omega arith in v) (λ e. let v : ⊥ = omega arith in v) (λ e. let v : ⊥ = omega arith in v) (λ e. let v : ⊥ = omega arith in v) (λ e. let v : ⊥ = omega arith in v)
+
+pub returns-in_default-2 : goal.returns-in_default-2
+returns-in_default-2 c = loose-none c.args.k (λ e. let v : ⊥ = omega arith in v) (λ e. let v : ⊥ = omega arith in v) (λ e. let v : ⊥ = omega arith in v) (λ e. let v : ⊥ = omega arith in v) (λ e. let v : ⊥ = omega arith in v) (λ e. let v : ⊥ = omega arith in v) (λ e. let v : ⊥ = omega arith in v) (λ e. let v : ⊥ = omega arith in v) (λ e. let v : ⊥ = omega arith in v) (λ e. let v : ⊥ = omega arith in v) (λ e. let v : ⊥ = omega arith in v) (λ e. let v : ⊥ = omega arith in v) (λ e. let v : ⊥ = omega arith in v)
+
+pub returns-in_default-3 : goal.returns-in_default-3
+returns-in_default-3 c = loose-none c.args.k (λ e. let v : ⊥ = omega arith in v) (λ e. let v : ⊥ = omega arith in v) (λ e. let v : ⊥ = omega arith in v) (λ e. let v : ⊥ = omega arith in v) (λ e. let v : ⊥ = omega arith in v) (λ e. let v : ⊥ = omega arith in v) (λ e. let v : ⊥ = omega arith in v) (λ e. let v : ⊥ = omega arith in v) (λ e. let v : ⊥ = omega arith in v) (λ e. let v : ⊥ = omega arith in v) (λ e. let v : ⊥ = omega arith in v) (λ e. let v : ⊥ = omega arith in v) (λ e. let v : ⊥ = omega arith in v)
+
+pub returns-in_default-4 : goal.returns-in_default-4
+returns-in_default-4 c = loose-none c.args.k (λ e. let v : ⊥ = omega arith in v) (λ e. let v : ⊥ = omega arith in v) (λ e. let v : ⊥ = omega arith in v) (λ e. let v : ⊥ = omega arith in v) (λ e. let v : ⊥ = omega arith in v) (λ e. let v : ⊥ = omega arith in v) (λ e. let v : ⊥ = omega arith in v) (λ e. let v : ⊥ = omega arith in v) (λ e. let v : ⊥ = omega arith in v) (λ e. let v : ⊥ = omega arith in v) (λ e. let v : ⊥ = omega arith in v) (λ e. let v : ⊥ = omega arith in v) (λ e. let v : ⊥ = omega arith in v)

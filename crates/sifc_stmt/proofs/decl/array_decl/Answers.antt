@@ -1,103 +1,70 @@
-use native.Mathlib.Omega.{arith}
-use mathlib.Core.Path.{refl, ◌∙◌}
+use Rattle.std.proofs.Common.{arith}
 use Rattle.sifc_def.specs.State.{expect}
 use Rattle.sifc_def.specs.Expr.{fuel}
 use Rattle.sifc_def.specs.Stmt.{comma_list, array_decl}
 use Rattle.sifc_def.specs.Walk.{walkers}
-use Rattle.sifc_step.specs.Steps.{same, begin, blank, blanks, gives, go, stop, last, count_at}
-use Rattle.sifc_step.specs.SmallLaws.{expected}
 use Rattle.sifc_declare.specs.Promise.{array_and_name}
-use Rattle.sifc_stmt.proofs.Tags.{not_done}
+use Rattle.sifc_step.proofs.Steps.{begin, go, stop, last}
+use Rattle.sifc_step.proofs.Small.{conveyed}
 use Rattle.sifc_declare.proofs.Ends.{free}
 use Rattle.sifc_stmt.proofs.decl.array_decl.Goals as goal
 
-pub returns-in_default : goal.returns-in_default
+pub returns-in_err-expect : goal.returns-in_err-expect
 unfolding array_decl
-returns-in_default c =
-    gives (λ E e. let p0 = begin 0 (λ x. array_decl x (walkers x c.args.depth) c.args.i) E e c.requires.0 in
-    stop 0 (λ x. expect x 5) _ p0 refl (omega arith) (expected p0.is c.expect-opened.ensures) (not_done _ c.in_default.not-Done))
+returns-in_err-expect c =
+    let p0 = begin 0 (λ x. array_decl x (walkers x c.args.depth) c.args.i) c.requires.0 in
+    conveyed (stop (λ x. expect x 5) _ (λ x. array_decl x (walkers x c.args.depth) c.args.i) p0 (omega arith) c.in_err-expect.ensures.does) c.from_residual.ensures
 
-pub array_items-items-requires : goal.array_items-items-requires
+pub returns-in_err-n : goal.returns-in_err-n
 unfolding array_decl
-array_items-items-requires c =
-    let E = blank c.args.w.errors in
-    let e = blanks c.args.w.errors in
-    let p0 = begin 0 (λ x. array_decl x (walkers x c.args.depth) c.args.i) E e c.requires.0 in
-    let p1 = go 0 (λ x. expect x 5) _ p0 refl (expected p0.is c.expect-opened.ensures) same c.in-Done.is in
-    p1.is
+returns-in_err-n c =
+    let p0 = begin 0 (λ x. array_decl x (walkers x c.args.depth) c.args.i) c.requires.0 in
+    let p1 = go (λ x. expect x 5) _ p0 c.in_ok-expect.ensures.does in
+    conveyed (stop (λ x. comma_list x 6 (walkers x c.args.depth).assign (fuel x) 0) _ (λ x. array_decl x (walkers x c.args.depth) c.args.i) p1 (omega arith) c.in_err-n.ensures.does) c.from_residual-in_err-n.ensures
 
-pub returns-in_default-items : goal.returns-in_default-items
+pub returns-in_err-expect-2 : goal.returns-in_err-expect-2
 unfolding array_decl
-returns-in_default-items c =
-    gives (λ E e. let p0 = begin 0 (λ x. array_decl x (walkers x c.args.depth) c.args.i) E e c.requires.0 in
-    let p1 = go 0 (λ x. expect x 5) _ p0 refl (expected p0.is c.expect-opened.ensures) same c.in-Done.is in
-    stop 0 (λ x. comma_list x 6 (walkers x c.args.depth).assign (fuel x) 0) _ p1 refl (omega arith) c.array_items-items.ensures.0 (not_done _ c.in_default-items.not-Done))
+returns-in_err-expect-2 c =
+    let p0 = begin 0 (λ x. array_decl x (walkers x c.args.depth) c.args.i) c.requires.0 in
+    let p1 = go (λ x. expect x 5) _ p0 c.in_ok-expect.ensures.does in
+    let p2 = go (λ x. comma_list x 6 (walkers x c.args.depth).assign (fuel x) 0) _ p1 c.in_ok-n.ensures.does in
+    conveyed (stop (λ x. expect x 6) _ (λ x. array_decl x (walkers x c.args.depth) c.args.i) p2 (omega arith) c.in_err-expect-2.ensures.does) c.from_residual-in_err-expect-2.ensures
 
-pub expect-closed-requires : goal.expect-closed-requires
+pub returns-in_err-expect-3 : goal.returns-in_err-expect-3
 unfolding array_decl
-expect-closed-requires c =
-    let E = blank c.args.w.errors in
-    let e = blanks c.args.w.errors in
-    let p0 = begin 0 (λ x. array_decl x (walkers x c.args.depth) c.args.i) E e c.requires.0 in
-    let p1 = go 0 (λ x. expect x 5) _ p0 refl (expected p0.is c.expect-opened.ensures) same c.in-Done.is in
-    let p2 = go 0 (λ x. comma_list x 6 (walkers x c.args.depth).assign (fuel x) 0) _ p1 refl c.array_items-items.ensures.0 (record { symbols = c.array_items-items.auto.symbols; head = c.array_items-items.auto.head; load = c.array_items-items.auto.load }) c.in-Done-items.is in
-    p2.is.stands
+returns-in_err-expect-3 c =
+    let p0 = begin 0 (λ x. array_decl x (walkers x c.args.depth) c.args.i) c.requires.0 in
+    let p1 = go (λ x. expect x 5) _ p0 c.in_ok-expect.ensures.does in
+    let p2 = go (λ x. comma_list x 6 (walkers x c.args.depth).assign (fuel x) 0) _ p1 c.in_ok-n.ensures.does in
+    let p3 = go (λ x. expect x 6) _ p2 c.in_ok-expect-2.ensures.does in
+    conveyed (stop (λ x. expect x 7) _ (λ x. array_decl x (walkers x c.args.depth) c.args.i) p3 (omega arith) c.in_err-expect-3.ensures.does) c.from_residual-in_err-expect-3.ensures
 
-pub returns-in_default-closed : goal.returns-in_default-closed
+pub returns-in_err-declare_array : goal.returns-in_err-declare_array
 unfolding array_decl
-returns-in_default-closed c =
-    gives (λ E e. let p0 = begin 0 (λ x. array_decl x (walkers x c.args.depth) c.args.i) E e c.requires.0 in
-    let p1 = go 0 (λ x. expect x 5) _ p0 refl (expected p0.is c.expect-opened.ensures) same c.in-Done.is in
-    let p2 = go 0 (λ x. comma_list x 6 (walkers x c.args.depth).assign (fuel x) 0) _ p1 refl c.array_items-items.ensures.0 (record { symbols = c.array_items-items.auto.symbols; head = c.array_items-items.auto.head; load = c.array_items-items.auto.load }) c.in-Done-items.is in
-    stop 0 (λ x. expect x 6) _ p2 refl (omega arith) (expected p2.is c.expect-closed.ensures) (not_done _ c.in_default-closed.not-Done))
-
-pub expect-ended-requires : goal.expect-ended-requires
-unfolding array_decl
-expect-ended-requires c =
-    let E = blank c.args.w.errors in
-    let e = blanks c.args.w.errors in
-    let p0 = begin 0 (λ x. array_decl x (walkers x c.args.depth) c.args.i) E e c.requires.0 in
-    let p1 = go 0 (λ x. expect x 5) _ p0 refl (expected p0.is c.expect-opened.ensures) same c.in-Done.is in
-    let p2 = go 0 (λ x. comma_list x 6 (walkers x c.args.depth).assign (fuel x) 0) _ p1 refl c.array_items-items.ensures.0 (record { symbols = c.array_items-items.auto.symbols; head = c.array_items-items.auto.head; load = c.array_items-items.auto.load }) c.in-Done-items.is in
-    let p3 = go 0 (λ x. expect x 6) _ p2 refl (expected p2.is c.expect-closed.ensures) same c.in-Done-closed.is in
-    p3.is.stands
-
-pub returns-in_default-ended : goal.returns-in_default-ended
-unfolding array_decl
-returns-in_default-ended c =
-    gives (λ E e. let p0 = begin 0 (λ x. array_decl x (walkers x c.args.depth) c.args.i) E e c.requires.0 in
-    let p1 = go 0 (λ x. expect x 5) _ p0 refl (expected p0.is c.expect-opened.ensures) same c.in-Done.is in
-    let p2 = go 0 (λ x. comma_list x 6 (walkers x c.args.depth).assign (fuel x) 0) _ p1 refl c.array_items-items.ensures.0 (record { symbols = c.array_items-items.auto.symbols; head = c.array_items-items.auto.head; load = c.array_items-items.auto.load }) c.in-Done-items.is in
-    let p3 = go 0 (λ x. expect x 6) _ p2 refl (expected p2.is c.expect-closed.ensures) same c.in-Done-closed.is in
-    stop 0 (λ x. expect x 7) _ p3 refl (omega arith) (expected p3.is c.expect-ended.ensures) (not_done _ c.in_default-ended.not-Done))
+returns-in_err-declare_array c =
+    let p0 = begin 0 (λ x. array_decl x (walkers x c.args.depth) c.args.i) c.requires.0 in
+    let p1 = go (λ x. expect x 5) _ p0 c.in_ok-expect.ensures.does in
+    let p2 = go (λ x. comma_list x 6 (walkers x c.args.depth).assign (fuel x) 0) _ p1 c.in_ok-n.ensures.does in
+    let p3 = go (λ x. expect x 6) _ p2 c.in_ok-expect-2.ensures.does in
+    let p4 = go (λ x. expect x 7) _ p3 c.in_ok-expect-3.ensures.does in
+    conveyed (last (λ x. array_and_name x c.args.i c.in_ok-n.n) (λ x. array_decl x (walkers x c.args.depth) c.args.i) p4 (omega arith) c.in_err-declare_array.ensures) c.from_residual-in_err-declare_array.ensures
 
 pub declare_array-requires : goal.declare_array-requires
 unfolding array_decl
 declare_array-requires c =
-    let E = blank c.args.w.errors in
-    let e = blanks c.args.w.errors in
-    let p0 = begin 0 (λ x. array_decl x (walkers x c.args.depth) c.args.i) E e c.requires.0 in
-    let p1 = go 0 (λ x. expect x 5) _ p0 refl (expected p0.is c.expect-opened.ensures) same c.in-Done.is in
-    let p2 = go 0 (λ x. comma_list x 6 (walkers x c.args.depth).assign (fuel x) 0) _ p1 refl c.array_items-items.ensures.0 (record { symbols = c.array_items-items.auto.symbols; head = c.array_items-items.auto.head; load = c.array_items-items.auto.load }) c.in-Done-items.is in
-    let p3 = go 0 (λ x. expect x 6) _ p2 refl (expected p2.is c.expect-closed.ensures) same c.in-Done-closed.is in
-    let p4 = go 0 (λ x. expect x 7) _ p3 refl (expected p3.is c.expect-ended.ensures) same c.in-Done-ended.is in
-    (free p4.is, c.requires.1, count_at c.array_items-items.ensures.1 c.in-Done-items.is)
-
-pub shape_of-symbols : goal.shape_of-symbols
-shape_of-symbols c = c.declare_array.auto.symbols ∙ c.array_items-items.auto.symbols
-
-pub shape_of-head : goal.shape_of-head
-shape_of-head c = c.declare_array.auto.head ∙ c.array_items-items.auto.head
-
-pub shape_of-load : goal.shape_of-load
-shape_of-load c = c.declare_array.auto.load ∙ c.array_items-items.auto.load
+    let p0 = begin 0 (λ x. array_decl x (walkers x c.args.depth) c.args.i) c.requires.0 in
+    let p1 = go (λ x. expect x 5) _ p0 c.in_ok-expect.ensures.does in
+    let p2 = go (λ x. comma_list x 6 (walkers x c.args.depth).assign (fuel x) 0) _ p1 c.in_ok-n.ensures.does in
+    let p3 = go (λ x. expect x 6) _ p2 c.in_ok-expect-2.ensures.does in
+    let p4 = go (λ x. expect x 7) _ p3 c.in_ok-expect-3.ensures.does in
+    (free p4.is, c.requires.1, c.in_ok-n.ensures.few)
 
 pub returns : goal.returns
 unfolding array_decl
 returns c =
-    gives (λ E e. let p0 = begin 0 (λ x. array_decl x (walkers x c.args.depth) c.args.i) E e c.requires.0 in
-    let p1 = go 0 (λ x. expect x 5) _ p0 refl (expected p0.is c.expect-opened.ensures) same c.in-Done.is in
-    let p2 = go 0 (λ x. comma_list x 6 (walkers x c.args.depth).assign (fuel x) 0) _ p1 refl c.array_items-items.ensures.0 (record { symbols = c.array_items-items.auto.symbols; head = c.array_items-items.auto.head; load = c.array_items-items.auto.load }) c.in-Done-items.is in
-    let p3 = go 0 (λ x. expect x 6) _ p2 refl (expected p2.is c.expect-closed.ensures) same c.in-Done-closed.is in
-    let p4 = go 0 (λ x. expect x 7) _ p3 refl (expected p3.is c.expect-ended.ensures) same c.in-Done-ended.is in
-    last 0 (λ x. array_and_name x c.args.i c.in-Done-items.y.count) p4 refl (omega arith) (c.declare_array.ensures.does _ p4.is))
+    let p0 = begin 0 (λ x. array_decl x (walkers x c.args.depth) c.args.i) c.requires.0 in
+    let p1 = go (λ x. expect x 5) _ p0 c.in_ok-expect.ensures.does in
+    let p2 = go (λ x. comma_list x 6 (walkers x c.args.depth).assign (fuel x) 0) _ p1 c.in_ok-n.ensures.does in
+    let p3 = go (λ x. expect x 6) _ p2 c.in_ok-expect-2.ensures.does in
+    let p4 = go (λ x. expect x 7) _ p3 c.in_ok-expect-3.ensures.does in
+    last (λ x. array_and_name x c.args.i c.in_ok-n.n) (λ x. array_decl x (walkers x c.args.depth) c.args.i) p4 (omega arith) c.in_ok-declare_array.ensures

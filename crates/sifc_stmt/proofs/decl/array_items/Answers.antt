@@ -1,203 +1,70 @@
-use Prim.Native.Nat.{suc}
-use borrow.Author.Tests.{eq-eqb, ne_eqb}
-use native.Mathlib.Omega.{arith}
-use mathlib.Core.Path.{refl, sym, ap, ◌∙◌}
-use lib.Dec.{eqb}
+use Rattle.std.specs.Prelude.{Ok, refl, suc, length}
+use Rattle.std.proofs.Common.{add-one, arith, ap, sym, ◌∙◌}
 use Rattle.sifc_def.specs.declared.Why.TheVariants.{InvalidTknMsg}
 use Rattle.sifc_def.specs.State.{consume, throw}
 use Rattle.sifc_def.specs.Expr.{fuel}
 use Rattle.sifc_def.specs.Stmt.{comma_list}
 use Rattle.sifc_def.specs.Walk.{walkers}
-use Rattle.sifc_step.specs.declared.walk.Walk.{Walk}
-use Rattle.sifc_step.specs.Steps.{same, begin, blank, blanks, gives, go, stop, last, read, yes, no, test, not-eof, ahead_of, counted}
-use Rattle.sifc_step.specs.SmallLaws.{pass, thrown-counting}
-use Rattle.sifc_step.specs.Loops.{looping, turn, turn-own, onward}
-use Rattle.sifc_stmt.proofs.Tags.{not_done}
-use Rattle.sifc_declare.proofs.Ends.{optional-no, optional-yes, counted_next, recount-commas, none_within}
+use Rattle.sifc_step.proofs.Steps.{fin, go, stop, refused, last, yes, no}
+use Rattle.sifc_step.proofs.Small.{conveyed}
+use Rattle.std.proofs.Math.Path.{subst}
+use Rattle.sifc_step.specs.Abs.{Inp, Does}
+use Rattle.sifc_step.proofs.Loops.{looping, turn-own, onward, optional-no, optional-yes, recount-commas, commas-all, commas-eof, commas-item}
 use Rattle.sifc_stmt.proofs.decl.array_items.Goals as goal
 
-pub loop-lim-init : goal.loop-lim-init
-loop-lim-init c = (looping (λ x f. comma_list x 6 (walkers x c.args.depth).assign f 0) c.requires, omega arith)
+pub loop-depth-init : goal.loop-depth-init
+loop-depth-init c =
+    (looping (λ x f. comma_list x 6 ((walkers x c.args.depth).assign) f 0) c.requires, omega arith)
 
-pub kind_at-k-requires : goal.kind_at-k-requires
-kind_at-k-requires c = c.loop-lim.invariant.0.is.stands.here
+pub returns-then-k-eq-RIGHT_BRACKET-clause-does : goal.returns-then-k-eq-RIGHT_BRACKET-clause-does
+returns-then-k-eq-RIGHT_BRACKET-clause-does c =
+    fin (λ x. comma_list x 6 ((walkers x c.args.depth).assign) (fuel x) 0) (commas-all 6 (λ x. (walkers x c.args.depth).assign) _ _ (turn-own c.loop-depth.invariant.0) (sym c.kind-k.ensures ∙ c.if-k-eq-RIGHT_BRACKET.true))
 
-pub shape_of-symbols-then-k-eq-RIGHT_BRACKET : goal.shape_of-symbols-then-k-eq-RIGHT_BRACKET
-shape_of-symbols-then-k-eq-RIGHT_BRACKET c = c.loop-lim.invariant.0.kept.symbols
+pub returns-then-k-eq-RIGHT_BRACKET-clause-few : goal.returns-then-k-eq-RIGHT_BRACKET-clause-few
+returns-then-k-eq-RIGHT_BRACKET-clause-few c =
+    omega (arith, c.loop-depth.invariant.1, c.loop-depth.invariant.0.at.is.stands.here, c.loop-depth.invariant.0.at.is.stands.toks.few)
 
-pub shape_of-head-then-k-eq-RIGHT_BRACKET : goal.shape_of-head-then-k-eq-RIGHT_BRACKET
-shape_of-head-then-k-eq-RIGHT_BRACKET c = c.loop-lim.invariant.0.kept.head
+pub returns-then-k-eq-EOF-clause-does : goal.returns-then-k-eq-EOF-clause-does
+returns-then-k-eq-EOF-clause-does c =
+    last (λ x. throw x (InvalidTknMsg 2)) (λ x. comma_list x 6 ((walkers x c.args.depth).assign) (fuel x) 0) (commas-eof 6 (λ x. (walkers x c.args.depth).assign) _ _ (turn-own c.loop-depth.invariant.0) (λ z. c.if-k-eq-RIGHT_BRACKET.false (c.kind-k.ensures ∙ z)) (sym c.kind-k.ensures ∙ c.if-k-eq-EOF.true)) (omega arith) c.add_error.ensures.counts
 
-pub shape_of-load-then-k-eq-RIGHT_BRACKET : goal.shape_of-load-then-k-eq-RIGHT_BRACKET
-shape_of-load-then-k-eq-RIGHT_BRACKET c = c.loop-lim.invariant.0.kept.load
+pub returns-in_err-expr-clause-does : goal.returns-in_err-expr-clause-does
+returns-in_err-expr-clause-does c =
+    let p1 = commas-item 6 (λ x. (walkers x c.args.depth).assign) _ _ (turn-own c.loop-depth.invariant.0) (λ z. c.if-k-eq-RIGHT_BRACKET.false (c.kind-k.ensures ∙ z)) (λ z. c.if-k-eq-EOF.false (c.kind-k.ensures ∙ z)) in
+    conveyed (stop (λ x. (walkers x c.args.depth).assign) _ (λ x. comma_list x 6 ((walkers x c.args.depth).assign) (fuel x) 0) p1 (omega arith) c.in_err-expr.ensures) c.from_residual.ensures
 
-pub returns-then-k-eq-RIGHT_BRACKET : goal.returns-then-k-eq-RIGHT_BRACKET
-unfolding comma_list
-returns-then-k-eq-RIGHT_BRACKET c = (
-  gives (λ E e. let p0 = turn c.loop-lim.invariant.0 (begin 0 (λ x. comma_list x 6 (walkers x c.args.depth).assign (fuel x) 0) E e c.requires) in
-      let p1 = read _ p0 in
-      counted (yes _ _ p1 (test (λ k. eqb k 6) p1 (eq-eqb _ _ (sym c.kind_at-k.ensures ∙ c.if-k-eq-RIGHT_BRACKET.true)))) c.with_count.ensures),
-  omega (arith, ap (λ (y : Walk). y.count) c.with_count.ensures, c.loop-lim.invariant.1, c.loop-lim.invariant.0.is.stands.here, c.loop-lim.invariant.0.is.stands.toks.few),
-)
+pub returns-then-kind-ne-COMMA-clause-does : goal.returns-then-kind-ne-COMMA-clause-does
+returns-then-kind-ne-COMMA-clause-does c =
+    let p1 = commas-item 6 (λ x. (walkers x c.args.depth).assign) _ _ (turn-own c.loop-depth.invariant.0) (λ z. c.if-k-eq-RIGHT_BRACKET.false (c.kind-k.ensures ∙ z)) (λ z. c.if-k-eq-EOF.false (c.kind-k.ensures ∙ z)) in
+    let p2 = go (λ x. (walkers x c.args.depth).assign) _ p1 c.in_ok-expr.ensures in
+    let p3 = no _ _ (optional-no 12 _ p2 (λ z. c.if-kind-ne-COMMA.true (c.kind.ensures ∙ z))) refl in
+    subst (λ n. Does 0 (λ x. comma_list x 6 ((walkers x c.args.depth).assign) (fuel x) 0) c.args.p.now (Ok n) c.expr.new.p) (sym (add-one c.loop-depth.n)) (fin (λ x. comma_list x 6 ((walkers x c.args.depth).assign) (fuel x) 0) p3)
 
-pub add_error-requires : goal.add_error-requires
-add_error-requires c = refl
+pub returns-then-kind-ne-COMMA-clause-few : goal.returns-then-kind-ne-COMMA-clause-few
+returns-then-kind-ne-COMMA-clause-few c =
+    let p1 = commas-item 6 (λ x. (walkers x c.args.depth).assign) _ _ (turn-own c.loop-depth.invariant.0) (λ z. c.if-k-eq-RIGHT_BRACKET.false (c.kind-k.ensures ∙ z)) (λ z. c.if-k-eq-EOF.false (c.kind-k.ensures ∙ z)) in
+    let p2 = go (λ x. (walkers x c.args.depth).assign) _ p1 c.in_ok-expr.ensures in
+    omega (arith, c.loop-depth.invariant.1, (c.in_ok-expr.ensures.fine p1.is).on, p2.is.stands.here, p2.is.stands.toks.few)
 
-pub shape_of-symbols-then-k-eq-EOF : goal.shape_of-symbols-then-k-eq-EOF
-shape_of-symbols-then-k-eq-EOF c = c.loop-lim.invariant.0.kept.symbols
+pub returns-in_err-consume-clause-does : goal.returns-in_err-consume-clause-does
+returns-in_err-consume-clause-does c =
+    let p1 = commas-item 6 (λ x. (walkers x c.args.depth).assign) _ _ (turn-own c.loop-depth.invariant.0) (λ z. c.if-k-eq-RIGHT_BRACKET.false (c.kind-k.ensures ∙ z)) (λ z. c.if-k-eq-EOF.false (c.kind-k.ensures ∙ z)) in
+    let p2 = go (λ x. (walkers x c.args.depth).assign) _ p1 c.in_ok-expr.ensures in
+    let p3 = optional-yes 12 _ p2 (sym c.kind.ensures ∙ c.if-kind-ne-COMMA.false) in
+    conveyed (refused (λ x. consume x) _ (λ x. comma_list x 6 ((walkers x c.args.depth).assign) (fuel x) 0) p3 c.in_err-consume.ensures.does refl) c.from_residual-in_err-consume.ensures
 
-pub shape_of-head-then-k-eq-EOF : goal.shape_of-head-then-k-eq-EOF
-shape_of-head-then-k-eq-EOF c = c.loop-lim.invariant.0.kept.head
+pub loop-depth-smaller : goal.loop-depth-smaller
+loop-depth-smaller c =
+    let p1 = commas-item 6 (λ x. (walkers x c.args.depth).assign) _ _ (turn-own c.loop-depth.invariant.0) (λ z. c.if-k-eq-RIGHT_BRACKET.false (c.kind-k.ensures ∙ z)) (λ z. c.if-k-eq-EOF.false (c.kind-k.ensures ∙ z)) in
+    let p2 = go (λ x. (walkers x c.args.depth).assign) _ p1 c.in_ok-expr.ensures in
+    let p3 = optional-yes 12 _ p2 (sym c.kind.ensures ∙ c.if-kind-ne-COMMA.false) in
+    let p4 = yes _ _ (go (λ x. consume x) _ p3 c.in_ok-consume.ensures.does) refl in
+    omega (arith, (c.in_ok-expr.ensures.fine p1.is).on, (c.in_ok-consume.ensures.does.fine p3.is).on, p4.is.stands.here, ap (λ (I : Inp). length I.words) p4.kept.inp)
 
-pub shape_of-load-then-k-eq-EOF : goal.shape_of-load-then-k-eq-EOF
-shape_of-load-then-k-eq-EOF c = c.loop-lim.invariant.0.kept.load
-
-pub returns-then-k-eq-EOF : goal.returns-then-k-eq-EOF
-unfolding comma_list
-returns-then-k-eq-EOF c = (
-  gives (λ E e. let p0 = turn c.loop-lim.invariant.0 (begin 0 (λ x. comma_list x 6 (walkers x c.args.depth).assign (fuel x) 0) E e c.requires) in
-      let p1 = read _ p0 in
-      let p2 = no _ _ p1 (test (λ k. eqb k 6) p1 (ne_eqb _ _ (λ z. c.if-k-eq-RIGHT_BRACKET.false (c.kind_at-k.ensures ∙ z)))) in
-      last 0 (λ x. throw x (InvalidTknMsg 2)) (yes _ _ p2 (test (λ k. eqb k 47) p2 (eq-eqb _ _ (sym c.kind_at-k.ensures ∙ c.if-k-eq-EOF.true)))) refl (omega arith) (thrown-counting p2.is c.add_error.ensures)),
-  omega (arith, c.add_error.ensures.none),
-)
-
-pub expr-item-requires : goal.expr-item-requires
-expr-item-requires c = c.loop-lim.invariant.0.is
-
-pub shape_of-symbols-in_default : goal.shape_of-symbols-in_default
-shape_of-symbols-in_default c = c.expr-item.auto.symbols ∙ c.loop-lim.invariant.0.kept.symbols
-
-pub shape_of-head-in_default : goal.shape_of-head-in_default
-shape_of-head-in_default c = c.expr-item.auto.head ∙ c.loop-lim.invariant.0.kept.head
-
-pub shape_of-load-in_default : goal.shape_of-load-in_default
-shape_of-load-in_default c = c.expr-item.auto.load ∙ c.loop-lim.invariant.0.kept.load
-
-pub returns-in_default : goal.returns-in_default
-unfolding comma_list
-returns-in_default c = (
-  gives (λ E e. let p0 = turn c.loop-lim.invariant.0 (begin 0 (λ x. comma_list x 6 (walkers x c.args.depth).assign (fuel x) 0) E e c.requires) in
-      let p1 = read _ p0 in
-      let p2 = no _ _ p1 (test (λ k. eqb k 6) p1 (ne_eqb _ _ (λ z. c.if-k-eq-RIGHT_BRACKET.false (c.kind_at-k.ensures ∙ z)))) in
-      let p3 = no _ _ p2 (test (λ k. eqb k 47) p2 (ne_eqb _ _ (λ z. c.if-k-eq-EOF.false (c.kind_at-k.ensures ∙ z)))) in
-      stop 1 (λ x. (walkers x c.args.depth).assign) _ p3 refl (omega arith) c.expr-item.ensures (not_done _ c.in_default.not-Done)),
-  none_within c.expr-item.result 65536 (not_done _ c.in_default.not-Done),
-)
-
-pub kind_at-requires : goal.kind_at-requires
-unfolding comma_list
-kind_at-requires c =
-    let E = blank c.args.w.errors in
-    let e = blanks c.args.w.errors in
-    let p0 = turn c.loop-lim.invariant.0 (begin 0 (λ x. comma_list x 6 (walkers x c.args.depth).assign (fuel x) 0) E e c.requires) in
-    let p1 = read _ p0 in
-    let p2 = no _ _ p1 (test (λ k. eqb k 6) p1 (ne_eqb _ _ (λ z. c.if-k-eq-RIGHT_BRACKET.false (c.kind_at-k.ensures ∙ z)))) in
-    let p3 = no _ _ p2 (test (λ k. eqb k 47) p2 (ne_eqb _ _ (λ z. c.if-k-eq-EOF.false (c.kind_at-k.ensures ∙ z)))) in
-    let p4 = go 1 (λ x. (walkers x c.args.depth).assign) _ p3 refl c.expr-item.ensures (record { symbols = c.expr-item.auto.symbols; head = c.expr-item.auto.head; load = c.expr-item.auto.load }) c.in-Done.is in
-    p4.is.stands.here
-
-pub overflow_add-n : goal.overflow_add-n
-overflow_add-n c = omega (arith, c.loop-lim.invariant.1, c.loop-lim.invariant.0.is.stands.here, c.loop-lim.invariant.0.is.stands.toks.few)
-
-pub shape_of-symbols-then-kind_at-ne-COMMA : goal.shape_of-symbols-then-kind_at-ne-COMMA
-shape_of-symbols-then-kind_at-ne-COMMA c = c.expr-item.auto.symbols ∙ c.loop-lim.invariant.0.kept.symbols
-
-pub shape_of-head-then-kind_at-ne-COMMA : goal.shape_of-head-then-kind_at-ne-COMMA
-shape_of-head-then-kind_at-ne-COMMA c = c.expr-item.auto.head ∙ c.loop-lim.invariant.0.kept.head
-
-pub shape_of-load-then-kind_at-ne-COMMA : goal.shape_of-load-then-kind_at-ne-COMMA
-shape_of-load-then-kind_at-ne-COMMA c = c.expr-item.auto.load ∙ c.loop-lim.invariant.0.kept.load
-
-pub returns-then-kind_at-ne-COMMA : goal.returns-then-kind_at-ne-COMMA
-unfolding comma_list
-returns-then-kind_at-ne-COMMA c = (
-  gives (λ E e. let p0 = turn c.loop-lim.invariant.0 (begin 0 (λ x. comma_list x 6 (walkers x c.args.depth).assign (fuel x) 0) E e c.requires) in
-      let p1 = read _ p0 in
-      let p2 = no _ _ p1 (test (λ k. eqb k 6) p1 (ne_eqb _ _ (λ z. c.if-k-eq-RIGHT_BRACKET.false (c.kind_at-k.ensures ∙ z)))) in
-      let p3 = no _ _ p2 (test (λ k. eqb k 47) p2 (ne_eqb _ _ (λ z. c.if-k-eq-EOF.false (c.kind_at-k.ensures ∙ z)))) in
-      let p4 = go 1 (λ x. (walkers x c.args.depth).assign) _ p3 refl c.expr-item.ensures (record { symbols = c.expr-item.auto.symbols; head = c.expr-item.auto.head; load = c.expr-item.auto.load }) c.in-Done.is in
-      counted_next (no _ _ (optional-no 12 _ p4 (λ z. c.if-kind_at-ne-COMMA.true (c.kind_at.ensures ∙ z))) refl) c.with_count-then-kind_at-ne-COMMA.ensures),
-  omega (arith, ap (λ (y : Walk). y.count) c.with_count-then-kind_at-ne-COMMA.ensures, c.loop-lim.invariant.1, c.loop-lim.invariant.0.is.stands.here, c.loop-lim.invariant.0.is.stands.toks.few),
-)
-
-pub consume-comma-requires : goal.consume-comma-requires
-unfolding comma_list
-consume-comma-requires c =
-    let E = blank c.args.w.errors in
-    let e = blanks c.args.w.errors in
-    let p0 = turn c.loop-lim.invariant.0 (begin 0 (λ x. comma_list x 6 (walkers x c.args.depth).assign (fuel x) 0) E e c.requires) in
-    let p1 = read _ p0 in
-    let p2 = no _ _ p1 (test (λ k. eqb k 6) p1 (ne_eqb _ _ (λ z. c.if-k-eq-RIGHT_BRACKET.false (c.kind_at-k.ensures ∙ z)))) in
-    let p3 = no _ _ p2 (test (λ k. eqb k 47) p2 (ne_eqb _ _ (λ z. c.if-k-eq-EOF.false (c.kind_at-k.ensures ∙ z)))) in
-    let p4 = go 1 (λ x. (walkers x c.args.depth).assign) _ p3 refl c.expr-item.ensures (record { symbols = c.expr-item.auto.symbols; head = c.expr-item.auto.head; load = c.expr-item.auto.load }) c.in-Done.is in
-    p4.is.stands
-
-pub shape_of-symbols-in_default-comma : goal.shape_of-symbols-in_default-comma
-shape_of-symbols-in_default-comma c = c.expr-item.auto.symbols ∙ c.loop-lim.invariant.0.kept.symbols
-
-pub shape_of-head-in_default-comma : goal.shape_of-head-in_default-comma
-shape_of-head-in_default-comma c = c.expr-item.auto.head ∙ c.loop-lim.invariant.0.kept.head
-
-pub shape_of-load-in_default-comma : goal.shape_of-load-in_default-comma
-shape_of-load-in_default-comma c = c.expr-item.auto.load ∙ c.loop-lim.invariant.0.kept.load
-
-pub returns-in_default-comma : goal.returns-in_default-comma
-unfolding comma_list
-returns-in_default-comma c = (
-  gives (λ E e. let p0 = turn c.loop-lim.invariant.0 (begin 0 (λ x. comma_list x 6 (walkers x c.args.depth).assign (fuel x) 0) E e c.requires) in
-      let p1 = read _ p0 in
-      let p2 = no _ _ p1 (test (λ k. eqb k 6) p1 (ne_eqb _ _ (λ z. c.if-k-eq-RIGHT_BRACKET.false (c.kind_at-k.ensures ∙ z)))) in
-      let p3 = no _ _ p2 (test (λ k. eqb k 47) p2 (ne_eqb _ _ (λ z. c.if-k-eq-EOF.false (c.kind_at-k.ensures ∙ z)))) in
-      let p4 = go 1 (λ x. (walkers x c.args.depth).assign) _ p3 refl c.expr-item.ensures (record { symbols = c.expr-item.auto.symbols; head = c.expr-item.auto.head; load = c.expr-item.auto.load }) c.in-Done.is in
-      let p5 = optional-yes 12 _ p4 (sym c.kind_at.ensures ∙ c.if-kind_at-ne-COMMA.false) in
-      stop 1 (λ x. consume x) _ p5 refl (omega arith) (pass p5.is c.consume-comma.ensures (not-eof (λ k. eqb k 12) (eq-eqb _ _ (sym c.kind_at.ensures ∙ c.if-kind_at-ne-COMMA.false)) refl)) (not_done _ c.in_default-comma.not-Done)),
-  none_within c.consume-comma.result 65536 (not_done _ c.in_default-comma.not-Done),
-)
-
-pub overflow_add-n-in-loop-lim : goal.overflow_add-n-in-loop-lim
-overflow_add-n-in-loop-lim c = omega (arith, c.loop-lim.invariant.1, c.loop-lim.invariant.0.is.stands.here, c.loop-lim.invariant.0.is.stands.toks.few)
-
-pub loop-lim-smaller : goal.loop-lim-smaller
-unfolding comma_list
-loop-lim-smaller c =
-    let E = blank c.args.w.errors in
-    let e = blanks c.args.w.errors in
-    let p0 = turn c.loop-lim.invariant.0 (begin 0 (λ x. comma_list x 6 (walkers x c.args.depth).assign (fuel x) 0) E e c.requires) in
-    let p1 = read _ p0 in
-    let p2 = no _ _ p1 (test (λ k. eqb k 6) p1 (ne_eqb _ _ (λ z. c.if-k-eq-RIGHT_BRACKET.false (c.kind_at-k.ensures ∙ z)))) in
-    let p3 = no _ _ p2 (test (λ k. eqb k 47) p2 (ne_eqb _ _ (λ z. c.if-k-eq-EOF.false (c.kind_at-k.ensures ∙ z)))) in
-    let p4 = go 1 (λ x. (walkers x c.args.depth).assign) _ p3 refl c.expr-item.ensures (record { symbols = c.expr-item.auto.symbols; head = c.expr-item.auto.head; load = c.expr-item.auto.load }) c.in-Done.is in
-    let p5 = optional-yes 12 _ p4 (sym c.kind_at.ensures ∙ c.if-kind_at-ne-COMMA.false) in
-    let p6 = yes _ _ (go 1 (λ x. consume x) _ p5 refl (pass p5.is c.consume-comma.ensures (not-eof (λ k. eqb k 12) (eq-eqb _ _ (sym c.kind_at.ensures ∙ c.if-kind_at-ne-COMMA.false)) refl)) same c.in-Done-comma.is) refl in
-    omega (arith, ahead_of c.expr-item.ensures c.in-Done.is, ahead_of (pass p5.is c.consume-comma.ensures (not-eof (λ k. eqb k 12) (eq-eqb _ _ (sym c.kind_at.ensures ∙ c.if-kind_at-ne-COMMA.false)) refl)) c.in-Done-comma.is, p6.is.stands.here)
-
-pub loop-lim-preserved : goal.loop-lim-preserved
-unfolding comma_list
-loop-lim-preserved c = (
-  recount-commas 6 (λ x. (walkers x c.args.depth).assign) c.loop-lim.n (onward c.loop-lim.invariant.0 {loop' = λ x f. comma_list x 6 (walkers x c.args.depth).assign f (suc c.loop-lim.n)} (let E = blank c.args.w.errors in
-      let e = blanks c.args.w.errors in
-      let p0 = turn c.loop-lim.invariant.0 (begin 0 (λ x. comma_list x 6 (walkers x c.args.depth).assign (fuel x) 0) E e c.requires) in
-      let p1 = read _ p0 in
-      let p2 = no _ _ p1 (test (λ k. eqb k 6) p1 (ne_eqb _ _ (λ z. c.if-k-eq-RIGHT_BRACKET.false (c.kind_at-k.ensures ∙ z)))) in
-      let p3 = no _ _ p2 (test (λ k. eqb k 47) p2 (ne_eqb _ _ (λ z. c.if-k-eq-EOF.false (c.kind_at-k.ensures ∙ z)))) in
-      let p4 = go 1 (λ x. (walkers x c.args.depth).assign) _ p3 refl c.expr-item.ensures (record { symbols = c.expr-item.auto.symbols; head = c.expr-item.auto.head; load = c.expr-item.auto.load }) c.in-Done.is in
-      let p5 = optional-yes 12 _ p4 (sym c.kind_at.ensures ∙ c.if-kind_at-ne-COMMA.false) in
-      omega (arith, ahead_of c.expr-item.ensures c.in-Done.is, ahead_of (pass p5.is c.consume-comma.ensures (not-eof (λ k. eqb k 12) (eq-eqb _ _ (sym c.kind_at.ensures ∙ c.if-kind_at-ne-COMMA.false)) refl)) c.in-Done-comma.is)) (λ E e. let p0 = turn-own c.loop-lim.invariant.0 E e in
-      let p1 = read _ p0 in
-      let p2 = no _ _ p1 (test (λ k. eqb k 6) p1 (ne_eqb _ _ (λ z. c.if-k-eq-RIGHT_BRACKET.false (c.kind_at-k.ensures ∙ z)))) in
-      let p3 = no _ _ p2 (test (λ k. eqb k 47) p2 (ne_eqb _ _ (λ z. c.if-k-eq-EOF.false (c.kind_at-k.ensures ∙ z)))) in
-      let p4 = go 1 (λ x. (walkers x c.args.depth).assign) _ p3 refl c.expr-item.ensures (record { symbols = c.expr-item.auto.symbols; head = c.expr-item.auto.head; load = c.expr-item.auto.load }) c.in-Done.is in
-      let p5 = optional-yes 12 _ p4 (sym c.kind_at.ensures ∙ c.if-kind_at-ne-COMMA.false) in
-      let p6 = yes _ _ (go 1 (λ x. consume x) _ p5 refl (pass p5.is c.consume-comma.ensures (not-eof (λ k. eqb k 12) (eq-eqb _ _ (sym c.kind_at.ensures ∙ c.if-kind_at-ne-COMMA.false)) refl)) same c.in-Done-comma.is) refl in
-      p6)),
-  let E = blank c.args.w.errors in
-      let e = blanks c.args.w.errors in
-      let p0 = turn c.loop-lim.invariant.0 (begin 0 (λ x. comma_list x 6 (walkers x c.args.depth).assign (fuel x) 0) E e c.requires) in
-      let p1 = read _ p0 in
-      let p2 = no _ _ p1 (test (λ k. eqb k 6) p1 (ne_eqb _ _ (λ z. c.if-k-eq-RIGHT_BRACKET.false (c.kind_at-k.ensures ∙ z)))) in
-      let p3 = no _ _ p2 (test (λ k. eqb k 47) p2 (ne_eqb _ _ (λ z. c.if-k-eq-EOF.false (c.kind_at-k.ensures ∙ z)))) in
-      let p4 = go 1 (λ x. (walkers x c.args.depth).assign) _ p3 refl c.expr-item.ensures (record { symbols = c.expr-item.auto.symbols; head = c.expr-item.auto.head; load = c.expr-item.auto.load }) c.in-Done.is in
-      let p5 = optional-yes 12 _ p4 (sym c.kind_at.ensures ∙ c.if-kind_at-ne-COMMA.false) in
-      omega (arith, c.loop-lim.invariant.1, ahead_of c.expr-item.ensures c.in-Done.is, ahead_of (pass p5.is c.consume-comma.ensures (not-eof (λ k. eqb k 12) (eq-eqb _ _ (sym c.kind_at.ensures ∙ c.if-kind_at-ne-COMMA.false)) refl)) c.in-Done-comma.is),
-)
+pub loop-depth-preserved : goal.loop-depth-preserved
+loop-depth-preserved c =
+    let p1 = commas-item 6 (λ x. (walkers x c.args.depth).assign) _ _ (turn-own c.loop-depth.invariant.0) (λ z. c.if-k-eq-RIGHT_BRACKET.false (c.kind-k.ensures ∙ z)) (λ z. c.if-k-eq-EOF.false (c.kind-k.ensures ∙ z)) in
+    let p2 = go (λ x. (walkers x c.args.depth).assign) _ p1 c.in_ok-expr.ensures in
+    let p3 = optional-yes 12 _ p2 (sym c.kind.ensures ∙ c.if-kind-ne-COMMA.false) in
+    let p4 = yes _ _ (go (λ x. consume x) _ p3 c.in_ok-consume.ensures.does) refl in
+    (recount-commas 6 (λ x. (walkers x c.args.depth).assign) c.loop-depth.n (onward c.loop-depth.invariant.0 {loop' = λ x f. comma_list x 6 ((walkers x c.args.depth).assign) f (suc c.loop-depth.n)} (omega (arith, (c.in_ok-expr.ensures.fine p1.is).on, (c.in_ok-consume.ensures.does.fine p3.is).on)) p4), omega (arith, c.loop-depth.invariant.1, (c.in_ok-expr.ensures.fine p1.is).on, (c.in_ok-consume.ensures.does.fine p3.is).on))

@@ -1,88 +1,83 @@
-use native.Mathlib.Omega.{arith}
-use mathlib.Core.Path.{refl}
-use mathlib.Core.Bool.{false}
+use Rattle.std.specs.Prelude.{refl, false}
+use Rattle.std.proofs.Common.{arith}
 use Rattle.sifc_def.specs.declared.Why.TheVariants.{InvalidTknMsg}
-use Rattle.sifc_def.specs.State.{expect, ident, push}
+use Rattle.sifc_def.specs.State.{expect, push, ident}
 use Rattle.sifc_def.specs.Stmt.{table_item}
 use Rattle.sifc_def.specs.Walk.{walkers}
-use Rattle.sifc_step.specs.Steps.{same, begin, blank, blanks, gives, go, stop, last, ahead_of}
-use Rattle.sifc_step.specs.SmallLaws.{named, expected, pushed}
-use Rattle.sifc_stmt.proofs.Tags.{not_done}
-use Rattle.sifc_declare.proofs.Ends.{ahead-by, ahead_none, name-ahead}
+use Rattle.sifc_step.proofs.Steps.{begin, go, stop, last}
+use Rattle.sifc_step.proofs.Small.{conveyed, named, paired}
+use Rattle.sifc_step.proofs.Told.{name-next}
 use Rattle.sifc_stmt.proofs.decl.table_item.Goals as goal
 
-pub returns-in_default : goal.returns-in_default
+pub returns-in_err-key-clause-does : goal.returns-in_err-key-clause-does
 unfolding table_item
-returns-in_default c = (
-  gives (λ E e. let p0 = begin 0 (λ x. table_item x (walkers x c.args.depth)) E e c.requires in
-      stop 0 (λ x. ident x (λ i. InvalidTknMsg 3)) _ p0 refl (omega arith) (named (λ i. InvalidTknMsg 3) p0.is c.match_ident-named.ensures refl) (not_done _ c.in_default.not-Done)),
-  ahead_none c.match_ident-named.result c.args.w.at (not_done _ c.in_default.not-Done),
-)
+returns-in_err-key-clause-does c =
+    let p0 = begin 0 (λ x. table_item x (walkers x c.args.depth)) c.requires in
+    conveyed (stop (λ x. ident x (λ i. InvalidTknMsg 3)) _ (λ x. table_item x (walkers x c.args.depth)) p0 (omega arith) (named (λ i. InvalidTknMsg 3) c.in_err-key.ensures refl)) c.from_residual.ensures
 
-pub expect-arrow-requires : goal.expect-arrow-requires
+pub returns-in_err-expect-clause-does : goal.returns-in_err-expect-clause-does
 unfolding table_item
-expect-arrow-requires c =
-    let E = blank c.args.w.errors in
-    let e = blanks c.args.w.errors in
-    let p0 = begin 0 (λ x. table_item x (walkers x c.args.depth)) E e c.requires in
-    let p1 = go 0 (λ x. ident x (λ i. InvalidTknMsg 3)) _ p0 refl (named (λ i. InvalidTknMsg 3) p0.is c.match_ident-named.ensures refl) same c.in-Done.is in
+returns-in_err-expect-clause-does c =
+    let p0 = begin 0 (λ x. table_item x (walkers x c.args.depth)) c.requires in
+    let p1 = go (λ x. ident x (λ i. InvalidTknMsg 3)) _ p0 (named (λ i. InvalidTknMsg 3) c.in_ok-key.ensures refl) in
+    conveyed (stop (λ x. expect x 25) _ (λ x. table_item x (walkers x c.args.depth)) p1 (omega arith) c.in_err-expect.ensures.does) c.from_residual-in_err-expect.ensures
+
+pub returns-in_err-expr-clause-does : goal.returns-in_err-expr-clause-does
+unfolding table_item
+returns-in_err-expr-clause-does c =
+    let p0 = begin 0 (λ x. table_item x (walkers x c.args.depth)) c.requires in
+    let p1 = go (λ x. ident x (λ i. InvalidTknMsg 3)) _ p0 (named (λ i. InvalidTknMsg 3) c.in_ok-key.ensures refl) in
+    let p2 = go (λ x. expect x 25) _ p1 c.in_ok-expect.ensures.does in
+    conveyed (stop (λ x. (walkers x c.args.depth).assign) _ (λ x. table_item x (walkers x c.args.depth)) p2 (omega arith) c.in_err-expr.ensures) c.from_residual-in_err-expr.ensures
+
+pub returns-in_err-push_node-clause-does : goal.returns-in_err-push_node-clause-does
+unfolding table_item
+returns-in_err-push_node-clause-does c =
+    let p0 = begin 0 (λ x. table_item x (walkers x c.args.depth)) c.requires in
+    let p1 = go (λ x. ident x (λ i. InvalidTknMsg 3)) _ p0 (named (λ i. InvalidTknMsg 3) c.in_ok-key.ensures refl) in
+    let p2 = go (λ x. expect x 25) _ p1 c.in_ok-expect.ensures.does in
+    let p3 = go (λ x. (walkers x c.args.depth).assign) _ p2 c.in_ok-expr.ensures in
+    conveyed (last (λ x. push x 13 false 1 c.in_ok-key.key) (λ x. table_item x (walkers x c.args.depth)) p3 (omega arith) c.in_err-push_node.ensures.does) c.from_residual-in_err-push_node.ensures
+
+pub returns-clause-does : goal.returns-clause-does
+unfolding table_item
+returns-clause-does c =
+    let p0 = begin 0 (λ x. table_item x (walkers x c.args.depth)) c.requires in
+    let p1 = go (λ x. ident x (λ i. InvalidTknMsg 3)) _ p0 (named (λ i. InvalidTknMsg 3) c.in_ok-key.ensures refl) in
+    let p2 = go (λ x. expect x 25) _ p1 c.in_ok-expect.ensures.does in
+    let p3 = go (λ x. (walkers x c.args.depth).assign) _ p2 c.in_ok-expr.ensures in
+    last (λ x. push x 13 false 1 c.in_ok-key.key) (λ x. table_item x (walkers x c.args.depth)) p3 (omega arith) c.in_ok-push_node.ensures.does
+
+pub returns-clause-ahead : goal.returns-clause-ahead
+unfolding table_item
+returns-clause-ahead c =
+    let p1 = go (λ x. ident x (λ i. InvalidTknMsg 3)) _ (begin 0 (λ x. table_item x (walkers x c.args.depth)) c.requires) (named (λ i. InvalidTknMsg 3) c.in_ok-key.ensures refl) in
+    let p2 = go (λ x. expect x 25) _ p1 c.in_ok-expect.ensures.does in
+    let p3 = go (λ x. (walkers x c.args.depth).assign) _ p2 c.in_ok-expr.ensures in
+    omega (arith, (name-next (λ i. InvalidTknMsg 3) c.requires c.in_ok-key.ensures refl).at, (c.in_ok-expect.ensures.does.fine p1.is).on, (c.in_ok-expr.ensures.fine p2.is).on, (c.in_ok-push_node.ensures.does.fine p3.is).on)
+
+pub expect-requires : goal.expect-requires
+unfolding table_item
+expect-requires c =
+    let p1 = go (λ x. ident x (λ i. InvalidTknMsg 3)) _ (begin 0 (λ x. table_item x (walkers x c.args.depth)) c.requires) (named (λ i. InvalidTknMsg 3) c.in_ok-key.ensures refl) in
     p1.is.stands
 
-pub returns-in_default-arrow : goal.returns-in_default-arrow
+pub expr-requires : goal.expr-requires
 unfolding table_item
-returns-in_default-arrow c = (
-  gives (λ E e. let p0 = begin 0 (λ x. table_item x (walkers x c.args.depth)) E e c.requires in
-      let p1 = go 0 (λ x. ident x (λ i. InvalidTknMsg 3)) _ p0 refl (named (λ i. InvalidTknMsg 3) p0.is c.match_ident-named.ensures refl) same c.in-Done.is in
-      stop 0 (λ x. expect x 25) _ p1 refl (omega arith) (expected p1.is c.expect-arrow.ensures) (not_done _ c.in_default-arrow.not-Done)),
-  ahead_none c.expect-arrow.result c.args.w.at (not_done _ c.in_default-arrow.not-Done),
-)
-
-pub expr-value-requires : goal.expr-value-requires
-unfolding table_item
-expr-value-requires c =
-    let E = blank c.args.w.errors in
-    let e = blanks c.args.w.errors in
-    let p0 = begin 0 (λ x. table_item x (walkers x c.args.depth)) E e c.requires in
-    let p1 = go 0 (λ x. ident x (λ i. InvalidTknMsg 3)) _ p0 refl (named (λ i. InvalidTknMsg 3) p0.is c.match_ident-named.ensures refl) same c.in-Done.is in
-    let p2 = go 0 (λ x. expect x 25) _ p1 refl (expected p1.is c.expect-arrow.ensures) same c.in-Done-arrow.is in
+expr-requires c =
+    let p1 = go (λ x. ident x (λ i. InvalidTknMsg 3)) _ (begin 0 (λ x. table_item x (walkers x c.args.depth)) c.requires) (named (λ i. InvalidTknMsg 3) c.in_ok-key.ensures refl) in
+    let p2 = go (λ x. expect x 25) _ p1 c.in_ok-expect.ensures.does in
     p2.is
-
-pub returns-in_default-value : goal.returns-in_default-value
-unfolding table_item
-returns-in_default-value c = (
-  gives (λ E e. let p0 = begin 0 (λ x. table_item x (walkers x c.args.depth)) E e c.requires in
-      let p1 = go 0 (λ x. ident x (λ i. InvalidTknMsg 3)) _ p0 refl (named (λ i. InvalidTknMsg 3) p0.is c.match_ident-named.ensures refl) same c.in-Done.is in
-      let p2 = go 0 (λ x. expect x 25) _ p1 refl (expected p1.is c.expect-arrow.ensures) same c.in-Done-arrow.is in
-      stop 1 (λ x. (walkers x c.args.depth).assign) _ p2 refl (omega arith) c.expr-value.ensures (not_done _ c.in_default-value.not-Done)),
-  ahead_none c.expr-value.result c.args.w.at (not_done _ c.in_default-value.not-Done),
-)
-
-pub overflow_cast-key : goal.overflow_cast-key
-overflow_cast-key c = omega (arith, c.requires.stands.here, c.requires.stands.toks.few)
 
 pub push_node-requires : goal.push_node-requires
 unfolding table_item
 push_node-requires c =
-    let E = blank c.args.w.errors in
-    let e = blanks c.args.w.errors in
-    let p0 = begin 0 (λ x. table_item x (walkers x c.args.depth)) E e c.requires in
-    let p1 = go 0 (λ x. ident x (λ i. InvalidTknMsg 3)) _ p0 refl (named (λ i. InvalidTknMsg 3) p0.is c.match_ident-named.ensures refl) same c.in-Done.is in
-    let p2 = go 0 (λ x. expect x 25) _ p1 refl (expected p1.is c.expect-arrow.ensures) same c.in-Done-arrow.is in
-    let p3 = go 1 (λ x. (walkers x c.args.depth).assign) _ p2 refl c.expr-value.ensures (record { symbols = c.expr-value.auto.symbols; head = c.expr-value.auto.head; load = c.expr-value.auto.load }) c.in-Done-value.is in
-    (p3.is.even, p3.is.used)
+    let p1 = go (λ x. ident x (λ i. InvalidTknMsg 3)) _ (begin 0 (λ x. table_item x (walkers x c.args.depth)) c.requires) (named (λ i. InvalidTknMsg 3) c.in_ok-key.ensures refl) in
+    let p2 = go (λ x. expect x 25) _ p1 c.in_ok-expect.ensures.does in
+    let p3 = go (λ x. (walkers x c.args.depth).assign) _ p2 c.in_ok-expr.ensures in
+    paired p3.is
 
-pub returns : goal.returns
+pub overflow_cast-key : goal.overflow_cast-key
 unfolding table_item
-returns c = (
-  gives (λ E e. let p0 = begin 0 (λ x. table_item x (walkers x c.args.depth)) E e c.requires in
-      let p1 = go 0 (λ x. ident x (λ i. InvalidTknMsg 3)) _ p0 refl (named (λ i. InvalidTknMsg 3) p0.is c.match_ident-named.ensures refl) same c.in-Done.is in
-      let p2 = go 0 (λ x. expect x 25) _ p1 refl (expected p1.is c.expect-arrow.ensures) same c.in-Done-arrow.is in
-      let p3 = go 1 (λ x. (walkers x c.args.depth).assign) _ p2 refl c.expr-value.ensures (record { symbols = c.expr-value.auto.symbols; head = c.expr-value.auto.head; load = c.expr-value.auto.load }) c.in-Done-value.is in
-      last 0 (λ x. push x 13 false 1 c.args.w.at) p3 refl (omega arith) (pushed p3.is c.push_node.ensures)),
-  let E = blank c.args.w.errors in
-      let e = blanks c.args.w.errors in
-      let p0 = begin 0 (λ x. table_item x (walkers x c.args.depth)) E e c.requires in
-      let p1 = go 0 (λ x. ident x (λ i. InvalidTknMsg 3)) _ p0 refl (named (λ i. InvalidTknMsg 3) p0.is c.match_ident-named.ensures refl) same c.in-Done.is in
-      let p2 = go 0 (λ x. expect x 25) _ p1 refl (expected p1.is c.expect-arrow.ensures) same c.in-Done-arrow.is in
-      ahead-by c.push_node.result c.args.w.at c.in-Done-value.z.at (omega (arith, name-ahead (λ i. InvalidTknMsg 3) p0.is c.match_ident-named.ensures refl c.in-Done.is, ahead_of (expected p1.is c.expect-arrow.ensures) c.in-Done-arrow.is, ahead_of c.expr-value.ensures c.in-Done-value.is)) c.push_node.ensures.there,
-)
+overflow_cast-key c =
+    omega (arith, (name-next (λ i. InvalidTknMsg 3) c.requires c.in_ok-key.ensures refl).value, c.requires.stands.here, c.requires.stands.toks.few)

@@ -1,131 +1,85 @@
-use native.Mathlib.Omega.{arith}
-use mathlib.Core.Path.{refl, sym, ◌∙◌}
-use mathlib.Core.Bool.{false}
-use lib.Dec.{eqb}
-use borrow.Author.Tests.{eq-eqb, ne_eqb}
-use Rattle.sifc_def.specs.State.{consume, expect, push}
+use Rattle.std.specs.Prelude.{refl, false}
+use Rattle.std.proofs.Common.{arith, sym, ◌∙◌, eq-eqb, ne_eqb}
+use Rattle.sifc_def.specs.State.{expect, push, consume}
 use Rattle.sifc_def.specs.Stmt.{ret_stmt}
 use Rattle.sifc_def.specs.Walk.{walkers}
-use Rattle.sifc_step.specs.Steps.{same, begin, blank, blanks, gives, go, stop, last, read, yes, no, test}
-use Rattle.sifc_step.specs.SmallLaws.{pass-any, expected, taken, pushed}
-use Rattle.sifc_stmt.proofs.Tags.{not_done}
+use Rattle.sifc_step.proofs.Steps.{begin, go, stop, refused, last, kinded, yes, no}
+use Rattle.sifc_step.proofs.Small.{conveyed}
+use Rattle.sifc_stmt.proofs.Taken.{taken}
 use Rattle.sifc_stmt.proofs.stmt.ret_stmt.Goals as goal
 
-pub returns-in_default : goal.returns-in_default
+pub returns-in_err-expect : goal.returns-in_err-expect
 unfolding ret_stmt
-returns-in_default c =
-    gives (λ E e. let p0 = begin 1 (λ x. ret_stmt x (walkers x c.args.depth)) E e c.requires.0 in
-    stop 1 (λ x. expect x 36) _ p0 refl (omega arith) (taken c.requires.0 c.expect-begun.ensures c.requires.1 (λ z. omega arith)) (not_done _ c.in_default.not-Done))
+returns-in_err-expect c =
+    let p0 = begin 1 (λ x. ret_stmt x (walkers x c.args.depth)) c.requires.0 in
+    conveyed (stop (λ x. expect x 36) _ (λ x. ret_stmt x (walkers x c.args.depth)) p0 (omega arith) (taken 36 c.requires.1 (λ z. let v : ⊥ = omega (arith, z) in v) c.in_err-expect.ensures.does)) c.from_residual.ensures
 
-pub kind_at-requires : goal.kind_at-requires
+pub returns-in_err-consume : goal.returns-in_err-consume
 unfolding ret_stmt
-kind_at-requires c =
-    let E = blank c.args.w.errors in
-    let e = blanks c.args.w.errors in
-    let p0 = begin 1 (λ x. ret_stmt x (walkers x c.args.depth)) E e c.requires.0 in
-    let p1 = go 1 (λ x. expect x 36) _ p0 refl (taken c.requires.0 c.expect-begun.ensures c.requires.1 (λ z. omega arith)) same c.in-Done.is in
-    p1.is.stands.here
+returns-in_err-consume c =
+    let p0 = begin 1 (λ x. ret_stmt x (walkers x c.args.depth)) c.requires.0 in
+    let p1 = go (λ x. expect x 36) _ p0 (taken 36 c.requires.1 (λ z. let v : ⊥ = omega (arith, z) in v) c.in_ok-expect.ensures.does) in
+    let p2 = kinded _ p1 in
+    let p3 = yes _ _ p2 (eq-eqb _ 7 (sym c.kind.ensures ∙ c.if-kind-eq-SEMICOLON.true)) in
+    conveyed (refused (λ x. consume x) _ (λ x. ret_stmt x (walkers x c.args.depth)) p3 c.in_err-consume.ensures.does refl) c.from_residual-in_err-consume.ensures
 
-pub consume-passed-requires : goal.consume-passed-requires
+pub returns-in_err-push_node : goal.returns-in_err-push_node
 unfolding ret_stmt
-consume-passed-requires c =
-    let E = blank c.args.w.errors in
-    let e = blanks c.args.w.errors in
-    let p0 = begin 1 (λ x. ret_stmt x (walkers x c.args.depth)) E e c.requires.0 in
-    let p1 = go 1 (λ x. expect x 36) _ p0 refl (taken c.requires.0 c.expect-begun.ensures c.requires.1 (λ z. omega arith)) same c.in-Done.is in
-    p1.is.stands
+returns-in_err-push_node c =
+    let p0 = begin 1 (λ x. ret_stmt x (walkers x c.args.depth)) c.requires.0 in
+    let p1 = go (λ x. expect x 36) _ p0 (taken 36 c.requires.1 (λ z. let v : ⊥ = omega (arith, z) in v) c.in_ok-expect.ensures.does) in
+    let p2 = kinded _ p1 in
+    let p3 = yes _ _ p2 (eq-eqb _ 7 (sym c.kind.ensures ∙ c.if-kind-eq-SEMICOLON.true)) in
+    let p4 = go (λ x. consume x) _ p3 c.in_ok-consume.ensures.does in
+    conveyed (last (λ x. push x 6 false 0 0) (λ x. ret_stmt x (walkers x c.args.depth)) p4 (omega arith) c.in_err-push_node.ensures.does) c.from_residual-in_err-push_node.ensures
 
-pub returns-in_default-passed : goal.returns-in_default-passed
+pub returns-then-kind-eq-SEMICOLON : goal.returns-then-kind-eq-SEMICOLON
 unfolding ret_stmt
-returns-in_default-passed c =
-    gives (λ E e. let p0 = begin 1 (λ x. ret_stmt x (walkers x c.args.depth)) E e c.requires.0 in
-    let p1 = go 1 (λ x. expect x 36) _ p0 refl (taken c.requires.0 c.expect-begun.ensures c.requires.1 (λ z. omega arith)) same c.in-Done.is in
-    let p2 = read _ p1 in
-    let y3 = yes _ _ p2 (test (λ k. eqb k 7) p2 (eq-eqb _ _ (sym c.kind_at.ensures ∙ c.if-kind_at-eq-SEMICOLON.true))) in
-    stop 0 (λ x. consume x) _ y3 refl (omega arith) (pass-any y3.is c.consume-passed.ensures) (not_done _ c.in_default-passed.not-Done))
+returns-then-kind-eq-SEMICOLON c =
+    let p0 = begin 1 (λ x. ret_stmt x (walkers x c.args.depth)) c.requires.0 in
+    let p1 = go (λ x. expect x 36) _ p0 (taken 36 c.requires.1 (λ z. let v : ⊥ = omega (arith, z) in v) c.in_ok-expect.ensures.does) in
+    let p2 = kinded _ p1 in
+    let p3 = yes _ _ p2 (eq-eqb _ 7 (sym c.kind.ensures ∙ c.if-kind-eq-SEMICOLON.true)) in
+    let p4 = go (λ x. consume x) _ p3 c.in_ok-consume.ensures.does in
+    last (λ x. push x 6 false 0 0) (λ x. ret_stmt x (walkers x c.args.depth)) p4 (omega arith) c.in_ok-push_node.ensures.does
 
-pub push_node-requires : goal.push_node-requires
+pub returns-in_err-expr : goal.returns-in_err-expr
 unfolding ret_stmt
-push_node-requires c =
-    let E = blank c.args.w.errors in
-    let e = blanks c.args.w.errors in
-    let p0 = begin 1 (λ x. ret_stmt x (walkers x c.args.depth)) E e c.requires.0 in
-    let p1 = go 1 (λ x. expect x 36) _ p0 refl (taken c.requires.0 c.expect-begun.ensures c.requires.1 (λ z. omega arith)) same c.in-Done.is in
-    let p2 = read _ p1 in
-    let y3 = yes _ _ p2 (test (λ k. eqb k 7) p2 (eq-eqb _ _ (sym c.kind_at.ensures ∙ c.if-kind_at-eq-SEMICOLON.true))) in
-    let y4 = go 0 (λ x. consume x) _ y3 refl (pass-any y3.is c.consume-passed.ensures) same c.in-Done-passed.is in
-    (y4.is.even, y4.is.used)
+returns-in_err-expr c =
+    let p0 = begin 1 (λ x. ret_stmt x (walkers x c.args.depth)) c.requires.0 in
+    let p1 = go (λ x. expect x 36) _ p0 (taken 36 c.requires.1 (λ z. let v : ⊥ = omega (arith, z) in v) c.in_ok-expect.ensures.does) in
+    let p2 = kinded _ p1 in
+    let p3 = no _ _ p2 (ne_eqb _ 7 (λ z. c.if-kind-eq-SEMICOLON.false (c.kind.ensures ∙ z))) in
+    conveyed (stop (λ x. (walkers x c.args.depth).assign) _ (λ x. ret_stmt x (walkers x c.args.depth)) p3 (omega arith) c.in_err-expr.ensures) c.from_residual-in_err-expr.ensures
 
-pub returns-then-kind_at-eq-SEMICOLON : goal.returns-then-kind_at-eq-SEMICOLON
+pub returns-in_err-expect-2 : goal.returns-in_err-expect-2
 unfolding ret_stmt
-returns-then-kind_at-eq-SEMICOLON c =
-    gives (λ E e. let p0 = begin 1 (λ x. ret_stmt x (walkers x c.args.depth)) E e c.requires.0 in
-    let p1 = go 1 (λ x. expect x 36) _ p0 refl (taken c.requires.0 c.expect-begun.ensures c.requires.1 (λ z. omega arith)) same c.in-Done.is in
-    let p2 = read _ p1 in
-    let y3 = yes _ _ p2 (test (λ k. eqb k 7) p2 (eq-eqb _ _ (sym c.kind_at.ensures ∙ c.if-kind_at-eq-SEMICOLON.true))) in
-    let y4 = go 0 (λ x. consume x) _ y3 refl (pass-any y3.is c.consume-passed.ensures) same c.in-Done-passed.is in
-    last 0 (λ x. push x 6 false 0 0) y4 refl (omega arith) (pushed y4.is c.push_node.ensures))
+returns-in_err-expect-2 c =
+    let p0 = begin 1 (λ x. ret_stmt x (walkers x c.args.depth)) c.requires.0 in
+    let p1 = go (λ x. expect x 36) _ p0 (taken 36 c.requires.1 (λ z. let v : ⊥ = omega (arith, z) in v) c.in_ok-expect.ensures.does) in
+    let p2 = kinded _ p1 in
+    let p3 = no _ _ p2 (ne_eqb _ 7 (λ z. c.if-kind-eq-SEMICOLON.false (c.kind.ensures ∙ z))) in
+    let p4 = go (λ x. (walkers x c.args.depth).assign) _ p3 c.in_ok-expr.ensures in
+    conveyed (stop (λ x. expect x 7) _ (λ x. ret_stmt x (walkers x c.args.depth)) p4 (omega arith) c.in_err-expect-2.ensures.does) c.from_residual-in_err-expect-2.ensures
 
-pub expr-value-requires : goal.expr-value-requires
+pub returns-in_err-push_node-2 : goal.returns-in_err-push_node-2
 unfolding ret_stmt
-expr-value-requires c =
-    let E = blank c.args.w.errors in
-    let e = blanks c.args.w.errors in
-    let p0 = begin 1 (λ x. ret_stmt x (walkers x c.args.depth)) E e c.requires.0 in
-    let p1 = go 1 (λ x. expect x 36) _ p0 refl (taken c.requires.0 c.expect-begun.ensures c.requires.1 (λ z. omega arith)) same c.in-Done.is in
-    p1.is
-
-pub returns-in_default-value : goal.returns-in_default-value
-unfolding ret_stmt
-returns-in_default-value c =
-    gives (λ E e. let p0 = begin 1 (λ x. ret_stmt x (walkers x c.args.depth)) E e c.requires.0 in
-    let p1 = go 1 (λ x. expect x 36) _ p0 refl (taken c.requires.0 c.expect-begun.ensures c.requires.1 (λ z. omega arith)) same c.in-Done.is in
-    let p2 = read _ p1 in
-    let n3 = no _ _ p2 (test (λ k. eqb k 7) p2 (ne_eqb _ _ (λ z. c.if-kind_at-eq-SEMICOLON.false (c.kind_at.ensures ∙ z)))) in
-    stop 1 (λ x. (walkers x c.args.depth).assign) _ n3 refl (omega arith) c.expr-value.ensures (not_done _ c.in_default-value.not-Done))
-
-pub expect-ended-requires : goal.expect-ended-requires
-unfolding ret_stmt
-expect-ended-requires c =
-    let E = blank c.args.w.errors in
-    let e = blanks c.args.w.errors in
-    let p0 = begin 1 (λ x. ret_stmt x (walkers x c.args.depth)) E e c.requires.0 in
-    let p1 = go 1 (λ x. expect x 36) _ p0 refl (taken c.requires.0 c.expect-begun.ensures c.requires.1 (λ z. omega arith)) same c.in-Done.is in
-    let p2 = read _ p1 in
-    let n3 = no _ _ p2 (test (λ k. eqb k 7) p2 (ne_eqb _ _ (λ z. c.if-kind_at-eq-SEMICOLON.false (c.kind_at.ensures ∙ z)))) in
-    let n4 = go 1 (λ x. (walkers x c.args.depth).assign) _ n3 refl c.expr-value.ensures (record { symbols = c.expr-value.auto.symbols; head = c.expr-value.auto.head; load = c.expr-value.auto.load }) c.in-Done-value.is in
-    n4.is.stands
-
-pub returns-in_default-ended : goal.returns-in_default-ended
-unfolding ret_stmt
-returns-in_default-ended c =
-    gives (λ E e. let p0 = begin 1 (λ x. ret_stmt x (walkers x c.args.depth)) E e c.requires.0 in
-    let p1 = go 1 (λ x. expect x 36) _ p0 refl (taken c.requires.0 c.expect-begun.ensures c.requires.1 (λ z. omega arith)) same c.in-Done.is in
-    let p2 = read _ p1 in
-    let n3 = no _ _ p2 (test (λ k. eqb k 7) p2 (ne_eqb _ _ (λ z. c.if-kind_at-eq-SEMICOLON.false (c.kind_at.ensures ∙ z)))) in
-    let n4 = go 1 (λ x. (walkers x c.args.depth).assign) _ n3 refl c.expr-value.ensures (record { symbols = c.expr-value.auto.symbols; head = c.expr-value.auto.head; load = c.expr-value.auto.load }) c.in-Done-value.is in
-    stop 0 (λ x. expect x 7) _ n4 refl (omega arith) (expected n4.is c.expect-ended.ensures) (not_done _ c.in_default-ended.not-Done))
-
-pub push_node-requires-2 : goal.push_node-requires-2
-unfolding ret_stmt
-push_node-requires-2 c =
-    let E = blank c.args.w.errors in
-    let e = blanks c.args.w.errors in
-    let p0 = begin 1 (λ x. ret_stmt x (walkers x c.args.depth)) E e c.requires.0 in
-    let p1 = go 1 (λ x. expect x 36) _ p0 refl (taken c.requires.0 c.expect-begun.ensures c.requires.1 (λ z. omega arith)) same c.in-Done.is in
-    let p2 = read _ p1 in
-    let n3 = no _ _ p2 (test (λ k. eqb k 7) p2 (ne_eqb _ _ (λ z. c.if-kind_at-eq-SEMICOLON.false (c.kind_at.ensures ∙ z)))) in
-    let n4 = go 1 (λ x. (walkers x c.args.depth).assign) _ n3 refl c.expr-value.ensures (record { symbols = c.expr-value.auto.symbols; head = c.expr-value.auto.head; load = c.expr-value.auto.load }) c.in-Done-value.is in
-    let n5 = go 0 (λ x. expect x 7) _ n4 refl (expected n4.is c.expect-ended.ensures) same c.in-Done-ended.is in
-    (n5.is.even, n5.is.used)
+returns-in_err-push_node-2 c =
+    let p0 = begin 1 (λ x. ret_stmt x (walkers x c.args.depth)) c.requires.0 in
+    let p1 = go (λ x. expect x 36) _ p0 (taken 36 c.requires.1 (λ z. let v : ⊥ = omega (arith, z) in v) c.in_ok-expect.ensures.does) in
+    let p2 = kinded _ p1 in
+    let p3 = no _ _ p2 (ne_eqb _ 7 (λ z. c.if-kind-eq-SEMICOLON.false (c.kind.ensures ∙ z))) in
+    let p4 = go (λ x. (walkers x c.args.depth).assign) _ p3 c.in_ok-expr.ensures in
+    let p5 = go (λ x. expect x 7) _ p4 c.in_ok-expect-2.ensures.does in
+    conveyed (last (λ x. push x 6 false 1 0) (λ x. ret_stmt x (walkers x c.args.depth)) p5 (omega arith) c.in_err-push_node-2.ensures.does) c.from_residual-in_err-push_node-2.ensures
 
 pub returns : goal.returns
 unfolding ret_stmt
 returns c =
-    gives (λ E e. let p0 = begin 1 (λ x. ret_stmt x (walkers x c.args.depth)) E e c.requires.0 in
-    let p1 = go 1 (λ x. expect x 36) _ p0 refl (taken c.requires.0 c.expect-begun.ensures c.requires.1 (λ z. omega arith)) same c.in-Done.is in
-    let p2 = read _ p1 in
-    let n3 = no _ _ p2 (test (λ k. eqb k 7) p2 (ne_eqb _ _ (λ z. c.if-kind_at-eq-SEMICOLON.false (c.kind_at.ensures ∙ z)))) in
-    let n4 = go 1 (λ x. (walkers x c.args.depth).assign) _ n3 refl c.expr-value.ensures (record { symbols = c.expr-value.auto.symbols; head = c.expr-value.auto.head; load = c.expr-value.auto.load }) c.in-Done-value.is in
-    let n5 = go 0 (λ x. expect x 7) _ n4 refl (expected n4.is c.expect-ended.ensures) same c.in-Done-ended.is in
-    last 0 (λ x. push x 6 false 1 0) n5 refl (omega arith) (pushed n5.is c.push_node-2.ensures))
+    let p0 = begin 1 (λ x. ret_stmt x (walkers x c.args.depth)) c.requires.0 in
+    let p1 = go (λ x. expect x 36) _ p0 (taken 36 c.requires.1 (λ z. let v : ⊥ = omega (arith, z) in v) c.in_ok-expect.ensures.does) in
+    let p2 = kinded _ p1 in
+    let p3 = no _ _ p2 (ne_eqb _ 7 (λ z. c.if-kind-eq-SEMICOLON.false (c.kind.ensures ∙ z))) in
+    let p4 = go (λ x. (walkers x c.args.depth).assign) _ p3 c.in_ok-expr.ensures in
+    let p5 = go (λ x. expect x 7) _ p4 c.in_ok-expect-2.ensures.does in
+    last (λ x. push x 6 false 1 0) (λ x. ret_stmt x (walkers x c.args.depth)) p5 (omega arith) c.in_ok-push_node-2.ensures.does

@@ -17,12 +17,6 @@ loop-k-init c = look-start c.args.script.now c.args.offs.now c.args.words.now c.
 pub nearer-requires : goal.nearer-requires
 nearer-requires c = (rest-hashed c.args.script.now c.args.offs.now c.args.words.now c.args.symbols.now c.args.n c.args.low c.args.high c.args.hash c.args.sought.now c.requires.0 c.requires.1 c.loop-k.k c.loop-k-test.true, c.loop-k-test.true, c.loop-k.invariant.within, c.requires.0.room)
 
-pub overflow_add-k : goal.overflow_add-k
-overflow_add-k c = omega arith
-
-pub loop-k-smaller : goal.loop-k-smaller
-loop-k-smaller c = omega arith
-
 pub loop-k-preserved : goal.loop-k-preserved
 loop-k-preserved c =
     elim c.if-nearer.branch [

@@ -17,12 +17,6 @@ offset_bounds-symbols-b c = omega (arith, c.buckets-count.ensures)
 pub bounds-symbols-b : goal.bounds-symbols-b
 bounds-symbols-b c = omega (arith, c.buckets-count.ensures)
 
-pub overflow_add-b : goal.overflow_add-b
-overflow_add-b c = omega (arith, c.buckets-count.ensures)
-
-pub loop-b-smaller : goal.loop-b-smaller
-loop-b-smaller c = omega (arith, c.buckets-count.ensures)
-
 pub loop-b-preserved : goal.loop-b-preserved
 loop-b-preserved c = opening-more c.loop-b.invariant (omega (arith, c.buckets-count.ensures))
 

@@ -2,7 +2,7 @@ use native.Mathlib.Omega.{arith}
 use Prim.Native.Nat.{ℕ, ◌+◌}
 use mathlib.Core.Path.{sym, ◌∙◌, subst}
 use mathlib.Core.List.{List}
-use Rattle.sifc_symtab.specs.declared.symtab.Stored.TheVariants.{At}
+use Rattle.std.specs.Prelude.{Ok}
 use Rattle.sifc_symtab.specs.Table.{Stores}
 use Rattle.sifc_symtab.specs.Seek.{InsertAt, Inserts}
 use Rattle.sifc_symtab.proofs.Hash.{hash-small}
@@ -28,6 +28,6 @@ insert-requires c = subst (λ (x : List ℕ). InsertAt x c.args.n c.seek-spot.re
 pub returns : goal.returns
 returns c =
     elim c.if-n-lt-LINKED.branch [
-      | then-n-lt-LINKED w ↦ subst (Stores c.args.script.now c.args.offs.now c.args.words.now c.args.symbols.now c.args.n c.args.level c.args.i c.args.what (At (c.args.n + 1))) (sym w.symbols-is) (stored-linked c.args.script.now c.args.offs.now c.args.words.now c.args.symbols.now c.args.n c.args.level c.args.i c.look-k.result c.args.what c.hash_of-hash.result c.name-sought.result.now c.requires c.name-sought.ensures c.hash_of-hash.ensures c.look-k.ensures c.if-k-n.false (rw c.room.ensures at c.if-room-n.false) w.if-n-lt-LINKED.true c.seek-spot.result c.seek-spot.ensures _ (subst (λ (x : List ℕ). Inserts c.args.words.now x c.args.n c.hash_of-hash.result c.seek-spot.result.prev c.seek-spot.result.at w.insert.new.symbols) c.put-2.ensures w.insert.ensures))
-      | else-n-lt-LINKED w ↦ subst (Stores c.args.script.now c.args.offs.now c.args.words.now c.args.symbols.now c.args.n c.args.level c.args.i c.args.what (At (c.args.n + 1))) (sym (w.symbols-is ∙ c.put-2.ensures)) (stored_past c.args.script.now c.args.offs.now c.args.words.now c.args.symbols.now c.args.n c.args.level c.args.i c.look-k.result c.args.what c.hash_of-hash.result c.name-sought.result.now c.requires c.name-sought.ensures c.hash_of-hash.ensures c.look-k.ensures c.if-k-n.false (rw c.room.ensures at c.if-room-n.false) w.if-n-lt-LINKED.false)
+      | then-n-lt-LINKED w ↦ subst (Stores c.args.script.now c.args.offs.now c.args.words.now c.args.symbols.now c.args.n c.args.level c.args.i c.args.what (Ok (c.args.n + 1))) (sym w.symbols-is) (stored-linked c.args.script.now c.args.offs.now c.args.words.now c.args.symbols.now c.args.n c.args.level c.args.i c.look-k.result c.args.what c.hash_of-hash.result c.name-sought.result.now c.requires c.name-sought.ensures c.hash_of-hash.ensures c.look-k.ensures c.if-k-n.false (rw c.room.ensures at c.if-room-n.false) w.if-n-lt-LINKED.true c.seek-spot.result c.seek-spot.ensures _ (subst (λ (x : List ℕ). Inserts c.args.words.now x c.args.n c.hash_of-hash.result c.seek-spot.result.prev c.seek-spot.result.at w.insert.new.symbols) c.put-2.ensures w.insert.ensures))
+      | else-n-lt-LINKED w ↦ subst (Stores c.args.script.now c.args.offs.now c.args.words.now c.args.symbols.now c.args.n c.args.level c.args.i c.args.what (Ok (c.args.n + 1))) (sym (w.symbols-is ∙ c.put-2.ensures)) (stored_past c.args.script.now c.args.offs.now c.args.words.now c.args.symbols.now c.args.n c.args.level c.args.i c.look-k.result c.args.what c.hash_of-hash.result c.name-sought.result.now c.requires c.name-sought.ensures c.hash_of-hash.ensures c.look-k.ensures c.if-k-n.false (rw c.room.ensures at c.if-room-n.false) w.if-n-lt-LINKED.false)
     ]

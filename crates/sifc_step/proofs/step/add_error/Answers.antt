@@ -1,5 +1,0 @@
-use Rattle.sifc_step.specs.SmallLaws.{throw-here}
-use Rattle.sifc_step.proofs.step.add_error.Goals as goal
-
-pub returns : goal.returns
-returns c = throw-here c.add_error_w_pos.ensures
