@@ -16,7 +16,7 @@ use Rattle.sifc_step.specs.declared.walk.Parser.{Parser}
 use Rattle.sifc_step.specs.declared.walk.Stop.{Stop}
 use Rattle.sifc_step.specs.declared.walk.Stop.TheVariants.{Refused}
 use Rattle.sifc_step.specs.Abs.{ctx_at, listed_by, lifted, Ready, Does, Paired}
-use Rattle.sifc_step.specs.Small.{HeadWord, Counts, Declares, SameNodes}
+use Rattle.sifc_step.specs.Small.{HeadWord, OnlyLists, OnlyDeclares, SameNodes}
 use Rattle.sifc_step.specs.Book.{reason_of}
 use Rattle.sifc_step.proofs.Steps.{At, begin, by, fin, kept-same}
 use Rattle.sifc_step.proofs.Small.{handed}
@@ -60,7 +60,7 @@ module _ {p : Parser} {b : Book} {elses : ℕ} where
     }
 
 -- the end of an if statement, after the else's error
-pub paired-still : (p q : Parser) → Counts p q → Paired p → Paired q
+pub paired-still : (p q : Parser) → OnlyLists p q → Paired p → Paired q
 paired-still p q a h = subst Paired (sym a) h
 
 -- ── the errors of a failure ──
@@ -148,7 +148,7 @@ module _ (ns a : List ℕ) (k end : ℕ) {p q : Parser} (t : Binding ns p (betwe
   bind-end h = by t (λ s. ap (λ (l : List ℕ). bind (ctx_at p) l s) (between_none a k end h))
 
 -- a name that is stored leaves the nodes' words
-pub nodes-still : (p q : Parser) → Declares p q → SameNodes p q
+pub nodes-still : (p q : Parser) → OnlyDeclares p q → SameNodes p q
 nodes-still p q a = (ap (λ (y : Parser). y.head) a, ap (λ (y : Parser). y.load) a)
 
 pub nodes-on : (p q x : Parser) → SameNodes p q → SameNodes q x → SameNodes p x

@@ -3,7 +3,7 @@ ghost use Rattle.std.specs.Prelude.{◌≡◌, ◌+◌, ◌≤◌, ◌<◌, leng
 ghost use Rattle.sifc_def.specs.Error.{carried, carried_too};
 ghost use Rattle.sifc_step.specs.Book.{number_in, reason_of};
 ghost use Rattle.sifc_step.specs.Abs.{listed_by, by_message, Paired};
-ghost use Rattle.sifc_step.specs.Small.{Counts};
+ghost use Rattle.sifc_step.specs.Small.{OnlyLists};
 ghost use Rattle.sifc_block.specs.Lists.{Writes, Roomy, Lists, second_else, EndsIf, Noted, Noting};
 
 use sifc_def::{Err, Why};
@@ -112,7 +112,7 @@ impl<'a> Book<'a> {
     // InvalidIfStmt is listed where there are two else branches, and the reading goes on: refusal 9.
     fn second_else(&mut self, p: &mut Parser<'_>, elses: usize) -> Result<(), Stop>
         requires { (p.old.at < 65536) × Roomy p.old self.old }
-        ensures { Lists 0 (λ c. second_else c elses) p.old self.old result p.new self.new × Counts p.old p.new }
+        ensures { Lists 0 (λ c. second_else c elses) p.old self.old result p.new self.new × OnlyLists p.old p.new }
     {
         if elses <= 1 {
             return Ok(());

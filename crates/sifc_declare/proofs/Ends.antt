@@ -11,7 +11,7 @@ use Rattle.sifc_def.proofs.OutcomeLaws.{Holds, is-done, call}
 use Rattle.sifc_step.specs.declared.walk.Parser.{Parser}
 use Rattle.sifc_step.specs.declared.walk.Stop.{Stop}
 use Rattle.sifc_step.specs.Abs.{Inp, inp, Mem, Walk, ctx_at, abs_at, ReadyOf, Ready, Paired, Does}
-use Rattle.sifc_step.specs.Small.{Grows}
+use Rattle.sifc_step.specs.Small.{OnlyGrows}
 use Rattle.sifc_step.proofs.Steps.{nested, begin, go, stop, fin, blank, length-nodes}
 use Rattle.sifc_step.proofs.Told.{Any, told, ident-passes, push-grows}
 use Rattle.sifc_declare.specs.Promise.{freely, listed, node_and_name, array_and_name}
@@ -42,7 +42,7 @@ module _ {p q : Parser} (r : Ready p) where
   param-stops d = stop (λ c. ident_node c) _ (λ c. param c) (begin 0 (λ c. param c) r) (omega arith) d
 
 -- a parser that lists nothing, before and after a node more
-pub free-on : (p q : Parser) → Grows p q → Paired q → Ready (freely p) → Ready (freely q)
+pub free-on : (p q : Parser) → OnlyGrows p q → Paired q → Ready (freely p) → Ready (freely q)
 free-on p q a h r =
     subst (λ (y : Parser). Ready (freely y)) (sym a)
     (record { stands = record { toks = r.stands.toks; here = r.stands.here; calm = r.stands.calm }; even = h.0; used = h.1; holds = r.holds; level = r.level; room = r.room })

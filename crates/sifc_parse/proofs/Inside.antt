@@ -12,7 +12,7 @@ use Rattle.sifc_step.specs.declared.walk.Parser.{Parser}
 use Rattle.sifc_step.specs.declared.walk.Stop.{Stop}
 use Rattle.sifc_step.specs.Abs.{here, passes, inp_of, mem_of, walk_of, nodes_of, ctx_at, abs, abs_at, Ready, Kept, Does}
 use Rattle.sifc_step.proofs.Steps.{length-nodes, blank}
-use Rattle.sifc_step.specs.Small.{passes_if, Moves, Opens}
+use Rattle.sifc_step.specs.Small.{passes_if, OnlyMoves, InitsScope}
 use Rattle.sifc_step.proofs.Small.{passes-one, passes_if-yes}
 use Rattle.sifc_step.proofs.Told.{Any, told, nodes-same}
 use Rattle.sifc_block.specs.declared.block.Names.{Names}
@@ -52,10 +52,10 @@ module _ {j : ℕ} (k : ℕ) {p q : Parser} (ne : k ≡ Eof → ⊥) (d : Does j
   pub expect-level : Ready p → q.level < q.at
   expect-level r = omega (arith, (moves r).0, (moves r).1, r.level)
 
-pub moved-nodes : (p q : Parser) → Moves p q → nodes-at q ≡ nodes-at p
+pub moved-nodes : (p q : Parser) → OnlyMoves p q → nodes-at q ≡ nodes-at p
 moved-nodes p q a = ap nodes-at a
 
-pub scope-nodes : {p q : Parser} → Opens p q → nodes-at q ≡ nodes-at p
+pub scope-nodes : {p q : Parser} → InitsScope p q → nodes-at q ≡ nodes-at p
 scope-nodes a = ap nodes-at a.alone
 
 pub push-nodes : {j : ℕ} (k : ℕ) (f : Bool) (n t : ℕ) {p q : Parser} → Ready p → Does j (λ c. push c k f n t) p (Ok tt) q → nodes-at q ≡ node k f n t ∷ nodes-at p

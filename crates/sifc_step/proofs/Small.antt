@@ -20,7 +20,7 @@ use Rattle.sifc_step.specs.declared.walk.Stop.{Stop}
 use Rattle.sifc_step.specs.declared.walk.Stop.TheVariants.{Failed, Refused}
 use Rattle.sifc_step.specs.declared.walk.Target.{Target}
 use Rattle.sifc_step.specs.Abs.{Inp, Mem, Walk, inp_of, mem_of, walk_of, rooms_of, kind_in, flag_in, kids_in, node_in, nodes_of, ctx_at, abs, abs_at, kind_at, here, listed_by, with_err, ReadyOf, Ready, Fine, Broke, Kept, Does, passes, lifted, StandsAt}
-use Rattle.sifc_step.specs.Small.{Moves, Counts, Passes, Grows, GrowsPast, Consumes, Literals, Expects, passes_if, throw_at, Adds, ThrowsAt, Throws, Pasts, Pushes, newest, accesses, Idents, HeadWord, Accesses}
+use Rattle.sifc_step.specs.Small.{OnlyMoves, OnlyLists, OnlyPasses, OnlyGrows, OnlyGrowsPast, Consumes, Literals, Expects, passes_if, throw_at, Adds, ThrowsAt, Throws, Pasts, Pushes, newest, accesses, Idents, HeadWord, Accesses}
 use Rattle.sifc_step.proofs.Steps.{At, begin, go, last, kind-is, off-is, kind-here, length-nodes, nodes-more, kept-same, kept-on, ctx-kept, farther, not_last, blank, blanks}
 
 -- ── a parser that stays where it is, and one that moves ──
@@ -224,10 +224,10 @@ throw-here {p} {why} {s} {q} d = record { does = alike (throw_at p.at why) (λ r
 
 -- ── an error whose token is passed ──
 
-counts-pass : (p q : Parser) → Counts p q → Passes p q
+counts-pass : (p q : Parser) → OnlyLists p q → OnlyPasses p q
 counts-pass p q a = a ∙ ap (λ (y : Parser). record p { at = y.at; errors = q.errors }) (sym a)
 
-moves-pass : (p q : Parser) → Moves p q → Passes p q
+moves-pass : (p q : Parser) → OnlyMoves p q → OnlyPasses p q
 moves-pass p q a = a ∙ ap (λ (y : Parser). record p { at = q.at; errors = y.errors }) (sym a)
 
 at_of : {A : Type 0} → Out A → ℕ
@@ -266,7 +266,7 @@ pub past-full : {p : Parser} (why : Why) {q : Parser} {g : Refusal} → Throws p
 past-full {p} why {q} t = record { does = past_full why t; alone = counts-pass p q t.alone }
 
 -- two steps that leave all but the token and how many errors are listed
-passes-on : (p q x : Parser) → Counts p q → Moves q x → Passes p x
+passes-on : (p q x : Parser) → OnlyLists p q → OnlyMoves q x → OnlyPasses p x
 passes-on p q x a b = b ∙ ap (λ (y : Parser). record y { at = x.at }) a ∙ ap (λ (y : Parser). record p { at = x.at; errors = y.errors }) (sym b)
 
 -- where it stood it stands
@@ -344,7 +344,7 @@ pub fits : {I : Inp} {M : Mem} {w : Walk} {i : ℕ} {what : What} → ReadyOf I 
 fits r a b = record { holds = r.holds; level-fits = omega (arith, r.level, r.stands.here, r.stands.toks.few); name-fits = a; value-fits = b }
 
 -- the names are as they were where only nodes are more
-pub fits-grown : (p q : Parser) {i : ℕ} {what : What} → Grows p q → Fits p.script.now p.offs.now p.words.now p.symbols.now p.stored p.level i what → Fits q.script.now q.offs.now q.words.now q.symbols.now q.stored q.level i what
+pub fits-grown : (p q : Parser) {i : ℕ} {what : What} → OnlyGrows p q → Fits p.script.now p.offs.now p.words.now p.symbols.now p.stored p.level i what → Fits q.script.now q.offs.now q.words.now q.symbols.now q.stored q.level i what
 fits-grown p q {i} {what} a h = subst (λ (y : Parser). Fits y.script.now y.offs.now y.words.now y.symbols.now y.stored y.level i what) (sym a) h
 
 -- ── symbols ──
@@ -467,7 +467,7 @@ module _ {p q : Parser} (k : ℕ) (f : Bool) (n t : ℕ) (r : Ready p) (d : Does
 
 -- ── a node for the token in front, which is passed ──
 
-grown-past : (p q z : Parser) → Grows p q → Moves q z → GrowsPast p z
+grown-past : (p q z : Parser) → OnlyGrows p q → OnlyMoves q z → OnlyGrowsPast p z
 grown-past p q z a b = b ∙ ap (λ (y : Parser). record y { at = z.at }) a ∙ ap (λ (y : Parser). record p { at = z.at; head = y.head; load = y.load; nodes = y.nodes }) (sym b)
 
 pub stands-grown : {p : Parser} {h t : ℕ} {r : Result (Unit {0}) Refusal} {q : Parser} → Pushes p h t r q → StandsAt p → StandsAt q

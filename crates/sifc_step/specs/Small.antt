@@ -17,35 +17,35 @@ use Rattle.sifc_step.specs.Abs.{kind_in, flag_in, kids_in, node_in, nodes_of, ct
 -- ── what is left as it was, whatever else is lent ──
 
 -- all but the token in front
-abbrev pub Moves : Parser → Parser → Type 0
-Moves p q = q ≡ record p { at = q.at }
+abbrev pub OnlyMoves : Parser → Parser → Type 0
+OnlyMoves p q = q ≡ record p { at = q.at }
 
 -- all but how many errors are listed
-abbrev pub Counts : Parser → Parser → Type 0
-Counts p q = q ≡ record p { errors = q.errors }
+abbrev pub OnlyLists : Parser → Parser → Type 0
+OnlyLists p q = q ≡ record p { errors = q.errors }
 
 -- all but these two
-abbrev pub Passes : Parser → Parser → Type 0
-Passes p q = q ≡ record p { at = q.at; errors = q.errors }
+abbrev pub OnlyPasses : Parser → Parser → Type 0
+OnlyPasses p q = q ≡ record p { at = q.at; errors = q.errors }
 
 -- all but the nodes
-abbrev pub Grows : Parser → Parser → Type 0
-Grows p q = q ≡ record p { head = q.head; load = q.load; nodes = q.nodes }
+abbrev pub OnlyGrows : Parser → Parser → Type 0
+OnlyGrows p q = q ≡ record p { head = q.head; load = q.load; nodes = q.nodes }
 
 -- all but the token in front and the nodes
-abbrev pub GrowsPast : Parser → Parser → Type 0
-GrowsPast p q = q ≡ record p { at = q.at; head = q.head; load = q.load; nodes = q.nodes }
+abbrev pub OnlyGrowsPast : Parser → Parser → Type 0
+OnlyGrowsPast p q = q ≡ record p { at = q.at; head = q.head; load = q.load; nodes = q.nodes }
 
 -- all but the names
-abbrev pub Declares : Parser → Parser → Type 0
-Declares p q = q ≡ record p { symbols = q.symbols; stored = q.stored }
+abbrev pub OnlyDeclares : Parser → Parser → Type 0
+OnlyDeclares p q = q ≡ record p { symbols = q.symbols; stored = q.stored }
 
 -- ── the steps ──
 
 -- a token passed: by one where it is not Eof
 pub record Consumes (p : Parser) (r : Result (Unit {0}) Refusal) (q : Parser) : Type 0 where
   pub does : Does (passes p) (λ c. consume c) p (lifted r) q
-  pub alone : Moves p q
+  pub alone : OnlyMoves p q
   pub stays : here p ≡ Eof → (r ≡ Ok tt) × (q ≡ p)
 
 -- how far a token is passed that is asked for
@@ -55,11 +55,11 @@ passes_if ty p = elim (eqb (here p) ty) [ true ↦ passes p | false ↦ 0 ]
 -- the same of a given kind: by one where it is there and not Eof
 pub record Expects (p : Parser) (ty : ℕ) (r : Result (Unit {0}) Stop) (q : Parser) : Type 0 where
   pub does : Does (passes_if ty p) (λ c. expect c ty) p r q
-  pub alone : Moves p q
+  pub alone : OnlyMoves p q
 
 pub record Separates (p : Parser) (r : Result (Unit {0}) Stop) (q : Parser) : Type 0 where
   pub does : Does 0 (λ c. separator c) p r q
-  pub alone : Moves p q
+  pub alone : OnlyMoves p q
 
 -- `Err(self.add_error_w_pos(..))`
 abbrev pub throw_at : {A : Type 0} → ℕ → Why → Ctx → M A
@@ -81,29 +81,29 @@ pub record ThrowsAt (p : Parser) (i : ℕ) (why : Why) (stop : Stop) (q : Parser
   pub does : Does {A = Unit {0}} 0 (throw_at i why) p (Stopped stop) q
   pub counts : Does {A = ℕ} 0 (throw_at i why) p (Stopped stop) q
   pub adds : Adds (λ c. add_error_w_pos c i why) why p stop q
-  pub alone : Counts p q
+  pub alone : OnlyLists p q
 
 pub record Throws (p : Parser) (why : Why) (stop : Stop) (q : Parser) : Type 0 where
   pub does : Does {A = Unit {0}} 0 (λ c. throw c why) p (Stopped stop) q
   pub counts : Does {A = ℕ} 0 (λ c. throw c why) p (Stopped stop) q
   pub adds : Adds (λ c. add_error c why) why p stop q
-  pub alone : Counts p q
+  pub alone : OnlyLists p q
 
 -- an error that is listed, and whose token is passed
 pub record Pasts (p : Parser) (why : Why) (stop : Stop) (q : Parser) : Type 0 where
   pub does : Does {A = Unit {0}} 1 (λ c. throw_past c why) p (Stopped stop) q
-  pub alone : Passes p q
+  pub alone : OnlyPasses p q
 
 -- a node appended
 pub record Pushes (p : Parser) (word pay : ℕ) (r : Result (Unit {0}) Refusal) (q : Parser) : Type 0 where
   pub does : Does 0 (λ c. push c (kind_in word) (flag_in word) (kids_in word) pay) p (lifted r) q
-  pub alone : Grows p q
+  pub alone : OnlyGrows p q
   pub holds : Paired p → Paired q
 
 -- a node for the token in front, and the token passed
 pub record Literals (p : Parser) (r : Result (Unit {0}) Refusal) (q : Parser) : Type 0 where
   pub does : Does (passes p) (λ c. literal c p.at) p (lifted r) q
-  pub alone : GrowsPast p q
+  pub alone : OnlyGrowsPast p q
 
 -- the node that a target stands for, and the newest node
 abbrev pub node_of : Target → Node
@@ -118,12 +118,12 @@ accesses t h fault i c s = go_on (single c (node_of t) fault i s) (λ a. push c 
 
 pub record Accesses (p : Parser) (t : Target) (h fault i : ℕ) (r : Result (Unit {0}) Refusal) (q : Parser) : Type 0 where
   pub does : Does 0 (accesses t h fault i) p (lifted r) q
-  pub alone : Grows p q
+  pub alone : OnlyGrows p q
 
 -- a name, whose token is the one in front; or two errors
 pub record Idents (p : Parser) (why : Why) (r : Result ℕ Stop) (q : Parser) : Type 0 where
   pub does : (y : ℕ → Why) → y p.at ≡ why → Does (elim (eqb (here p) Ident) [ true ↦ 1 | false ↦ 0 ]) (λ c. ident c y) p r q
-  pub alone : Passes p q
+  pub alone : OnlyPasses p q
 
 -- a node's first word
 pub record HeadWord (k : ℕ) (f : Bool) (n r : ℕ) : Type 0 where
@@ -134,7 +134,7 @@ pub record HeadWord (k : ℕ) (f : Bool) (n r : ℕ) : Type 0 where
 -- a symbol stored
 pub record Puts (p : Parser) (i : ℕ) (what : What) (r : Result (Unit {0}) Refusal) (q : Parser) : Type 0 where
   pub does : Does 0 (λ c. store c i what) p (lifted r) q
-  pub alone : Declares p q
+  pub alone : OnlyDeclares p q
 
 -- the words of the nodes, which a name that is stored leaves as they are
 abbrev pub SameNodes : Parser → Parser → Type 0
@@ -144,10 +144,10 @@ SameNodes p q = (q.head ≡ p.head) × (q.load ≡ p.load)
 abbrev pub leveled_by : Parser → ℕ → Parser
 leveled_by p n = record p { level = n }
 
-pub record Opens (p q : Parser) : Type 0 where
+pub record InitsScope (p q : Parser) : Type 0 where
   pub does : p.level < p.at → Does 0 (λ c. init_scope c) p (Ok tt) q
   pub alone : q ≡ leveled_by p (p.level + 1)
 
-pub record Closes (p q : Parser) : Type 0 where
+pub record ClosesScope (p q : Parser) : Type 0 where
   pub does : Does 0 (λ c. close_scope c) p (Ok tt) q
   pub alone : q ≡ leveled_by p (p.level - 1)

@@ -4,7 +4,7 @@ ghost use Rattle.std.specs.Prelude.{◌≡◌, true, ◌<◌, ◌≤◌, ◌+◌
 ghost use Rattle.sifc_def.specs.Expr.{looseness as looseness_of, is_unary, is_literal};
 ghost use Rattle.sifc_symtab.specs.Table.{Fits};
 ghost use Rattle.sifc_step.specs.Abs.{here, listed_by, StandsAt, Paired};
-ghost use Rattle.sifc_step.specs.Small.{Consumes, Expects, Separates, Throws, ThrowsAt, Pasts, Pushes, Literals, node_of, newest, Accesses, Idents, HeadWord, Puts, Opens, Closes};
+ghost use Rattle.sifc_step.specs.Small.{Consumes, Expects, Separates, Throws, ThrowsAt, Pasts, Pushes, Literals, node_of, newest, Accesses, Idents, HeadWord, Puts, InitsScope, ClosesScope};
 
 use crate::walk::{Parser, Stop, Target};
 use sifc_def::{What, Why};
@@ -261,14 +261,14 @@ impl<'a> Parser<'a> {
     // init_scope of symtab.rs.
     pub fn init_scope(&mut self)
         requires { self.old.level < 65536 }
-        ensures { Opens self.old self.new }
+        ensures { InitsScope self.old self.new }
     {
         self.level += 1;
     }
 
     // close_scope of symtab.rs, which forgets nothing.
     pub fn close_scope(&mut self)
-        ensures { Closes self.old self.new }
+        ensures { ClosesScope self.old self.new }
     {
         self.level = self.level.saturating_sub(1);
     }
