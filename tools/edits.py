@@ -53,6 +53,8 @@ class Function:
         self.crate, self.name, self.public, self.exported = crate, name, public, exported
         self.short = name.split("::")[-1]
         head, self.body = re.split(r"\{$", text, maxsplit=1, flags=re.M)
+        # (also one of an `impl` with lifetimes, whose name here has no type, and one with a type parameter that is a function)
+        self.method = re.search(r"\(\s*&?(?:'\w+ )?(?:mut )?self\b", head) is not None
         self.promises = "ensures" in head
         # (what prints to a writer that it is lent answers whether the writer failed, and no more than that)
         prints = re.search(r"\bout: &mut W\b", head) and re.search(r"\)\s*->\s*io::Result<\(\)>\s*$", head)
@@ -80,7 +82,7 @@ def functions_of(crate):
 
 def owner_at(text, place):
     """The type whose `impl` holds the method at a place, as a path."""
-    owners = re.findall(r"^impl (\w+)", text[:place], re.M)
+    owners = re.findall(r"^impl(?:<[A-Z][^>]*>)? (\w+)", text[:place], re.M)
     return owners[-1] + "::" if owners else ""
 
 
@@ -122,7 +124,7 @@ def called_elsewhere(crates):
             if not function.public:
                 continue
             path = f"{crate}::{aliases.get(function.short, function.short)}"
-            if "::" in function.name:
+            if function.method:
                 used = re.compile(r"\.%s\(" % function.short)
             else:
                 used = re.compile(r"\b%s\b" % path)

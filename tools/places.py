@@ -45,10 +45,12 @@ def requires(text):
 
 POINTS = [
     ("1a own enums of the shape of Option or Result", enums),
-    ("1b constants that stand for a kind, a sign or a message", lines(r"^const \w+: (?:u8|u32) = [^;]*;")),
+    ("1b constants that stand for a kind, a sign or a message", lines(r"^(?:pub )?const \w+: (?:u8|u32) = (?:\d|b')[^;]*;")),
+    ("1b constants that are made of an enum's variant", lines(r"^(?:pub )?const \w+: u32 = [A-Za-z][^;]*;")),
     ("1c kinds and signs as numerals", lines(r"(?:==|!=|<=?) \d+\b(?! \*)|^ *\d+(?: \| \d+)* =>|=> \d+,$|return \d+;|Word\(\d+|Panic\(\d+|kind: \d+")),
     ("3a while loops", lines(r"^ *while .*")),
     ("3b loops with several ends", lines(r"^ *loop \{")),
+    ("3c for loops over numbers", lines(r"^ *for \w+ in [^{]*\.\.[^{\]]*\{")),
     ("4 equality, order and printing by hand", lines(r"^(?:pub )?fn (?:same|print\w*|wide|digit|bit_of|one_less|capped|within|clip)\b.*")),
     ("5 and 6 functions that take the token arrays one by one", pair_functions),
     ("6 tables and lists with a place and a length", lines(r"^const \w+: \[.*")),
@@ -58,7 +60,7 @@ POINTS = [
 
 def main():
     counts = collections.OrderedDict((name, collections.Counter()) for name, _ in POINTS)
-    facts = collections.Counter()
+    facts, parts = collections.Counter(), collections.Counter()
     for crate, path, text in sources():
         for name, find in POINTS:
             for at, what in find(text):
@@ -67,12 +69,18 @@ def main():
                     print(f"{name[:2].strip()} {os.path.relpath(path, root)}:{text.count(chr(10), 0, at) + 1}: {what}")
         for at, what in requires(text):
             facts[what] += 1
+            for part in what.strip().strip("{}").split("×"):
+                parts[part.strip().strip("()")] += 1
     for name, by in counts.items():
         print(f"{sum(by.values()):5} {name}")
         if by:
             print("      " + ", ".join(f"{crate} {n}" for crate, n in sorted(by.items())))
     often = [n for n in facts.values() if n >= 3]
     print(f"{len(often):5} 5 requires that stand in three or more contracts, {sum(often)} times in all")
+    often = {part: n for part, n in parts.items() if n >= 3}
+    print(f"{len(often):5} 5 facts that stand in three or more contracts, each clause cut at ×, {sum(often.values())} times in all")
+    if "--list" in sys.argv:
+        print("      " + "; ".join(f"{part} {n}" for part, n in sorted(often.items(), key=lambda x: -x[1])))
     proofs = glob.glob(os.path.join(root, "crates/*/proofs/**/*.antt"), recursive=True)
     print(f"{sum(open(p).read().count(chr(10)) for p in proofs):5} 8 lines of proofs")
     print(f"{sum(t.count(chr(10)) for _, _, t in sources()):5} lines of source")

@@ -1,11 +1,12 @@
 // The errors of a script, out of error records that one function owns.
 ghost use Rattle.std.specs.Prelude.{◌≡◌};
-ghost use Rattle.sifc_lent.specs.Parts.{arrays};
+ghost use Rattle.sifc_lent.specs.Parts.{arrays_of, KeptLent};
 ghost use Rattle.sifc_records.specs.Records.{reading_records, blank_records, errors_of, call_of};
 ghost use Rattle.sifc_def.specs.Read.{called};
 
 use sifc_def::Summary;
 use sifc_err::{ParseErr, ParseErrTy, Refusal, Token};
+use sifc_lent::Lent;
 use sifc_record::blank;
 use sifc_records::reading_records;
 use std::io;
@@ -17,9 +18,9 @@ fn print_token<W: Write>(out: &mut W, token: Token) -> io::Result<()> {
 }
 
 // What a reason carries: a token, an expected kind before it, a message or counts.
-fn print_carried<W: Write>(out: &mut W, ty: ParseErrTy) -> io::Result<()> {
+fn print_carried<W: Write>(out: &mut W, ty: ParseErrTy<Token>) -> io::Result<()> {
     match ty {
-        ParseErrTy::NoReason | ParseErrTy::InvalidForStmt | ParseErrTy::InvalidIfStmt => Ok(()),
+        ParseErrTy::InvalidForStmt | ParseErrTy::InvalidIfStmt => Ok(()),
         ParseErrTy::InvalidIdent(token)
         | ParseErrTy::InvalidTkn(token)
         | ParseErrTy::InvalidAssign(token)
@@ -40,9 +41,11 @@ fn print_carried<W: Write>(out: &mut W, ty: ParseErrTy) -> io::Result<()> {
 fn print_error<W: Write>(out: &mut W, e: ParseErr) -> io::Result<()> {
     let line = e.line;
     let column = e.pos;
-    let number = e.ty.number();
+    let number = e.number();
     write!(out, "{line} {column} {number}")?;
-    print_carried(out, e.ty)?;
+    if let Some(ty) = e.ty {
+        print_carried(out, ty)?;
+    }
     writeln!(out)
 }
 
@@ -69,28 +72,13 @@ fn print_errors<W: Write>(out: &mut W, errors: &[ParseErr], n: usize) -> io::Res
 pub fn show_errors<W: Write>(
     out: &mut W,
     script: &[u8],
-    offs: &mut [u32],
-    words: &mut [u32],
-    heads: &mut [u32],
-    loads: &mut [u32],
-    symbols: &mut [u32],
-    places: &mut [u32],
-    reasons: &mut [u32],
+    lent: &mut Lent<'_>,
 ) -> (Result<Summary, Refusal>, io::Result<()>)
-    ensures { called result.0 (arrays offs.new words.new heads.new loads.new symbols.new places.new reasons.new) ≡ call_of (reading_records script.now (arrays offs.old words.old heads.old loads.old symbols.old places.old reasons.old) (blank_records 1024)) }
+    ensures kept { KeptLent lent.old lent.new }
+    ensures answer { called result.0 (arrays_of lent.new) ≡ call_of (reading_records script.now (arrays_of lent.old) (blank_records 1024)) }
 {
     let mut errors = [blank(); 1024];
-    let said = reading_records(
-        script,
-        offs,
-        words,
-        heads,
-        loads,
-        symbols,
-        places,
-        reasons,
-        &mut errors,
-    );
+    let said = reading_records(script, lent, &mut errors);
     let printed = print_errors(out, &errors, listed(said));
     (said, printed)
 }

@@ -1,9 +1,8 @@
 // The kinds of a script's tokens, by stepping a lexing view.
 use sifc_view::Lexer;
+use sifc_word::kind::EOF;
 use std::io;
 use std::io::Write;
-
-const EOF: u32 = 47;
 
 // A script of 4,096 bytes has at most so many tokens.
 const MOST: usize = 4097;

@@ -8,6 +8,7 @@ mod kinds;
 use sif_show::{Buffers, print_refusal};
 use sifc_def::Summary;
 use sifc_err::Refusal;
+use sifc_lent::Lent;
 use std::io;
 use std::io::{BufWriter, Read, Write};
 
@@ -33,19 +34,18 @@ fn answer<W: Write>(out: &mut W, script: &[u8]) -> io::Result<()> {
     if MOST < script.len() {
         return print_answer(out, Err(Refusal::LongScript));
     }
-    let mut lent = Buffers::new();
+    let mut buffers = Buffers::new();
+    let mut lent = Lent {
+        offs: &mut buffers.offs,
+        words: &mut buffers.words,
+        heads: &mut buffers.heads,
+        loads: &mut buffers.loads,
+        symbols: &mut buffers.symbols,
+        places: &mut buffers.places,
+        reasons: &mut buffers.reasons,
+    };
     kinds::print_kinds(out, script)?;
-    let (said, printed) = errors::show_errors(
-        out,
-        script,
-        &mut lent.offs,
-        &mut lent.words,
-        &mut lent.heads,
-        &mut lent.loads,
-        &mut lent.symbols,
-        &mut lent.places,
-        &mut lent.reasons,
-    );
+    let (said, printed) = errors::show_errors(out, script, &mut lent);
     printed?;
     print_answer(out, said)
 }

@@ -4,6 +4,7 @@
 #![tactic(auto)]
 
 use sif_show::{Buffers, Scripts};
+use sifc_lent::Lent;
 use std::io;
 use std::io::{BufWriter, Read, Write};
 
@@ -20,20 +21,19 @@ fn main(rt: HostRuntime) -> io::Result<()> {
 
 // Prints the answer for one script.
 fn answer<W: Write>(out: &mut W, script: &[u8]) -> io::Result<()> {
-    let mut lent = Buffers::new();
-    let (said, printed) = read_show::list(
-        out,
-        script,
-        &mut lent.offs,
-        &mut lent.words,
-        &mut lent.heads,
-        &mut lent.loads,
-        &mut lent.symbols,
-        &mut lent.places,
-        &mut lent.reasons,
-    );
+    let mut buffers = Buffers::new();
+    let mut lent = Lent {
+        offs: &mut buffers.offs,
+        words: &mut buffers.words,
+        heads: &mut buffers.heads,
+        loads: &mut buffers.loads,
+        symbols: &mut buffers.symbols,
+        places: &mut buffers.places,
+        reasons: &mut buffers.reasons,
+    };
+    let (said, printed) = read_show::list(out, script, &mut lent);
     printed?;
-    read_show::print_rest(out, said, &lent.reasons)
+    read_show::print_rest(out, said, lent.reasons)
 }
 
 // The scripts one after the other.

@@ -3,12 +3,13 @@
 
 ghost use Rattle.std.specs.Prelude.{◌≡◌};
 ghost use Rattle.sifc_def.specs.Read.{called};
-ghost use Rattle.sifc_lent.specs.Parts.{arrays};
+ghost use Rattle.sifc_lent.specs.Parts.{arrays_of, KeptLent};
 ghost use Rattle.read_show.specs.Listing.{listed};
 
 use sif_show::print_refusal;
 use sifc_def::Summary;
 use sifc_err::{ParseErr, ParseErrTy, Refusal};
+use sifc_lent::Lent;
 use std::io;
 use std::io::Write;
 
@@ -54,17 +55,14 @@ fn print_counts<W: Write>(out: &mut W, summary: Summary) -> io::Result<()> {
 fn print_answer<W: Write>(
     out: &mut W,
     said: Result<Summary, Refusal>,
-    heads: &[u32],
-    loads: &[u32],
-    places: &[u32],
-    reasons: &[u32],
+    lent: &Lent<'_>,
 ) -> io::Result<()> {
     match said {
         Ok(summary) => {
             print_counts(out, summary)?;
-            print_words(out, heads, summary.nodes)?;
-            print_words(out, loads, summary.nodes)?;
-            print_errors(out, places, reasons, summary.errors)
+            print_words(out, lent.heads, summary.nodes)?;
+            print_words(out, lent.loads, summary.nodes)?;
+            print_errors(out, lent.places, lent.reasons, summary.errors)
         }
         Err(refusal) => {
             print_refusal(out, refusal)?;
@@ -74,25 +72,14 @@ fn print_answer<W: Write>(
 }
 
 // Reads a script of at most 4,096 bytes into the lent arrays.
-fn read(
-    script: &[u8],
-    offs: &mut [u32],
-    words: &mut [u32],
-    heads: &mut [u32],
-    loads: &mut [u32],
-    symbols: &mut [u32],
-    places: &mut [u32],
-    reasons: &mut [u32],
-) -> Result<Summary, Refusal>
-    ensures { called result (arrays offs.new words.new heads.new loads.new
-        symbols.new places.new reasons.new)
-        ≡ listed script.now (arrays offs.old words.old heads.old
-        loads.old symbols.old places.old reasons.old) }
+fn read(script: &[u8], lent: &mut Lent<'_>) -> Result<Summary, Refusal>
+    ensures kept { KeptLent lent.old lent.new }
+    ensures answer { called result (arrays_of lent.new) ≡ listed script.now (arrays_of lent.old) }
 {
     if MOST < script.len() {
         return Err(Refusal::LongScript);
     }
-    sifc_read::reading(script, offs, words, heads, loads, symbols, places, reasons)
+    sifc_read::reading(script, lent)
 }
 
 // Lists a script: the counts and the flag; the first words of the nodes; their second words; and for
@@ -101,21 +88,13 @@ fn read(
 pub fn list<W: Write>(
     out: &mut W,
     script: &[u8],
-    offs: &mut [u32],
-    words: &mut [u32],
-    heads: &mut [u32],
-    loads: &mut [u32],
-    symbols: &mut [u32],
-    places: &mut [u32],
-    reasons: &mut [u32],
+    lent: &mut Lent<'_>,
 ) -> (Result<Summary, Refusal>, io::Result<()>)
-    ensures { called result.0 (arrays offs.new words.new heads.new loads.new
-        symbols.new places.new reasons.new)
-        ≡ listed script.now (arrays offs.old words.old heads.old
-        loads.old symbols.old places.old reasons.old) }
+    ensures kept { KeptLent lent.old lent.new }
+    ensures answer { called result.0 (arrays_of lent.new) ≡ listed script.now (arrays_of lent.old) }
 {
-    let said = read(script, offs, words, heads, loads, symbols, places, reasons);
-    let printed = print_answer(out, said, heads, loads, places, reasons);
+    let said = read(script, lent);
+    let printed = print_answer(out, said, lent);
     (said, printed)
 }
 
@@ -124,11 +103,11 @@ pub fn list<W: Write>(
 fn print_ending<W: Write>(out: &mut W, err: ParseErr) -> io::Result<()> {
     let line = err.line;
     let column = err.pos;
-    let number = err.ty.number();
+    let number = err.number();
     write!(out, "{line} {column} {number}")?;
     match err.ty {
-        ParseErrTy::TknMismatch(kind, token) => write!(out, " {} {kind}", token.off)?,
-        ParseErrTy::FnParmCntExceeded(count) => write!(out, " 0 {count}")?,
+        Some(ParseErrTy::TknMismatch(kind, token)) => write!(out, " {} {kind}", token.off)?,
+        Some(ParseErrTy::FnParmCntExceeded(count)) => write!(out, " 0 {count}")?,
         _ => {}
     }
     writeln!(out)

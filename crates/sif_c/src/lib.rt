@@ -8,6 +8,7 @@ ghost use Rattle.sifc_lent.specs.Parts.{arrays};
 ghost use Rattle.sifc_told.specs.Hosts.{answer, early_numbers, read_answer, text_answer, TokensSaid, ReadingSaid, TextSaid};
 
 pub use deepest::sif_deepest;
+use sifc_lent::Lent;
 use sifc_told::{told, told_text};
 pub use value::sif_value;
 
@@ -68,9 +69,16 @@ pub fn sif_reading(
         (read_answer tokens.new nodes.new errors.new flag.new (early_numbers early_line.new early_pos.new early_number.new early_offset.new early_value.new) result kind.new offset.new)
         (arrays offs.new words.new heads.new loads.new symbols.new places.new reasons.new) }
 {
-    let numbers = told(sifc_read::reading(
-        script, offs, words, heads, loads, symbols, places, reasons,
-    ));
+    let mut lent = Lent {
+        offs,
+        words,
+        heads,
+        loads,
+        symbols,
+        places,
+        reasons,
+    };
+    let numbers = told(sifc_read::reading(script, &mut lent));
     let early = numbers.early;
     *tokens = numbers.tokens;
     *nodes = numbers.nodes;
@@ -106,9 +114,16 @@ pub fn sif_text(
         (text_answer count.new result kind.new offset.new)
         (arrays offs.new words.new heads.new loads.new symbols.new places.new reasons.new) text.new }
 {
-    let written = told_text(sifc_text::text(
-        script, offs, words, heads, loads, symbols, places, reasons, text,
-    ));
+    let mut lent = Lent {
+        offs,
+        words,
+        heads,
+        loads,
+        symbols,
+        places,
+        reasons,
+    };
+    let written = told_text(sifc_text::text(script, &mut lent, text));
     *count = written.count;
     *kind = written.kind;
     *offset = written.offset;

@@ -4,6 +4,7 @@
 
 use sif_show::{Buffers, print_refusal};
 use sifc_err::Refusal;
+use sifc_lent::Lent;
 use sifc_word::part;
 use std::io;
 use std::io::{BufWriter, Read, Write};
@@ -20,28 +21,27 @@ fn main(rt: HostRuntime) -> io::Result<()> {
 }
 
 // The text of a script of at most 4,096 bytes.
-fn text_of(script: &[u8], lent: &mut Buffers, text: &mut [u8]) -> Result<usize, Refusal> {
+fn text_of(script: &[u8], buffers: &mut Buffers, text: &mut [u8]) -> Result<usize, Refusal> {
     if MOST < script.len() {
         return Err(Refusal::LongScript);
     }
-    sifc_text::text(
-        script,
-        &mut lent.offs,
-        &mut lent.words,
-        &mut lent.heads,
-        &mut lent.loads,
-        &mut lent.symbols,
-        &mut lent.places,
-        &mut lent.reasons,
-        text,
-    )
+    let mut lent = Lent {
+        offs: &mut buffers.offs,
+        words: &mut buffers.words,
+        heads: &mut buffers.heads,
+        loads: &mut buffers.loads,
+        symbols: &mut buffers.symbols,
+        places: &mut buffers.places,
+        reasons: &mut buffers.reasons,
+    };
+    sifc_text::text(script, &mut lent, text)
 }
 
 // Prints the text of a script, or its refusal.
 fn answer<W: Write>(out: &mut W, script: &[u8]) -> io::Result<()> {
-    let mut lent = Buffers::new();
+    let mut buffers = Buffers::new();
     let mut text = [0; 16384];
-    match text_of(script, &mut lent, &mut text) {
+    match text_of(script, &mut buffers, &mut text) {
         Ok(n) => out.write_all(part(&text, 0, n)),
         Err(refusal) => {
             print_refusal(out, refusal)?;

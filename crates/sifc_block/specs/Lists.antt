@@ -1,7 +1,7 @@
 -- Functions that list errors and go on: what they promise, beside the parser's state, of the errors' words.
 use Rattle.std.specs.Prelude.{ℕ, ◌+◌, ◌≤◌, ◌<◌, ◌≡◌, List, length, set, ltb, Result, Ok, Err as Stopped}
 use Rattle.sifc_def.specs.declared.Err.{Err}
-use Rattle.sifc_def.specs.declared.Why.TheVariants.{InvalidIfStmt}
+use Rattle.sifc_err.specs.declared.parse_err.ParseErrTy.TheVariants.{InvalidIfStmt}
 use Rattle.sifc_def.specs.Error.{carried, carried_too}
 use Rattle.sifc_def.specs.State.{Ctx, St, Out, Void, ◌>>◌, ok, when, add_error}
 use Rattle.sifc_def.specs.Stmt.{end_if}

@@ -7,15 +7,10 @@ ghost use Rattle.sifc_block.specs.Bound.{names_of, NamesFit, between, end_block}
 ghost use Rattle.sifc_block.specs.Lists.{SameSymbols};
 
 use sifc_def::What;
+use sifc_def::ast::{BLOCK, RETURN_STMT};
 use sifc_err::Refusal;
 use sifc_step::{Parser, Stop, head_word};
-
-const RIGHT_BRACE: u32 = 4;
-
-// Kinds of nodes.
-const BLOCK: u32 = 2;
-
-const RETURN_STMT: u32 = 6;
+use sifc_word::kind::RIGHT_BRACE;
 
 // The tokens of the names that a block binds: none, the two of a loop, or the payloads of so many nodes
 // from a number on, which are the parameters of a function.

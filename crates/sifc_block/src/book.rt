@@ -1,41 +1,21 @@
 // The errors in their lent words: an error's first word is its token's index until the walk has ended.
 ghost use Rattle.std.specs.Prelude.{◌≡◌, ◌+◌, ◌≤◌, ◌<◌, length};
 ghost use Rattle.sifc_def.specs.Error.{carried, carried_too};
-ghost use Rattle.sifc_step.specs.Book.{number_in, reason_of};
+ghost use Rattle.sifc_step.specs.Book.{reason_of};
 ghost use Rattle.sifc_step.specs.Abs.{listed_by, by_message, Paired};
 ghost use Rattle.sifc_step.specs.Small.{OnlyLists};
 ghost use Rattle.sifc_block.specs.Lists.{Writes, Roomy, Lists, second_else, EndsIf, Noted, Noting};
 
+use sifc_def::ast::IF_STMT;
 use sifc_def::{Err, Why};
 use sifc_err::Refusal;
 use sifc_step::{Parser, Stop, head_word};
-
-const IF_STMT: u32 = 3;
 
 // The two words of each error, lent to be written.
 #[derive(Drop)]
 pub struct Book<'a> {
     pub places: &'a mut [u32],
     pub reasons: &'a mut [u32],
-}
-
-// A reason's number.
-fn number(why: Why) -> u32
-    ensures { result ≡ number_in why }
-{
-    match why {
-        Why::InvalidIdent(_) => 1,
-        Why::InvalidTkn(_) | Why::InvalidTknMsg(_) => 2,
-        Why::InvalidAssign(_) => 3,
-        Why::InvalidForStmt => 4,
-        Why::InvalidIfStmt => 5,
-        Why::TknMismatch(_, _) => 6,
-        Why::FnParmCntExceeded(_) => 7,
-        Why::WrongFnParmCnt(_, _) => 8,
-        Why::UndeclSym(_) => 9,
-        Why::UnassignedVar(_) => 10,
-        Why::ExpectedIdent(_) => 11,
-    }
 }
 
 // The token or the first count that a reason carries.
@@ -74,7 +54,7 @@ fn reason_word(why: Why) -> u32
 {
     let first = first_carried(why) as u32;
     let second = second_carried(why) as u32;
-    number(why) + 16 * first + 1048576 * second
+    why.number() + 16 * first + 1048576 * second
 }
 
 // How many errors a failure has listed by a message.

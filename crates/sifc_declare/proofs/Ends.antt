@@ -1,8 +1,8 @@
 -- What the proofs of the declarations cite.
-use Rattle.std.specs.Prelude.{ℕ, suc, ◌<◌, ◌≡◌, refl, List, length, false, Result, Ok, Err as Stopped, IsErr, IsErrAnd, IfOk}
+use Rattle.std.specs.Prelude.{ℕ, suc, ◌≤◌, ◌<◌, ◌≡◌, refl, List, length, false, Result, Ok, Err as Stopped, IsErr, IsErrAnd, IfOk}
 use Rattle.std.proofs.Common.{subst, arith, sym, ap, ◌∙◌, eq-eqb, ne_eqb}
 use Rattle.sifc_word.specs.Base.{if◌then◌otherwise◌}
-use Rattle.sifc_def.specs.declared.Why.TheVariants.{ExpectedIdent}
+use Rattle.sifc_err.specs.declared.parse_err.ParseErrTy.TheVariants.{ExpectedIdent}
 use Rattle.sifc_def.specs.declared.What.TheVariants.{Other}
 use Rattle.sifc_def.specs.State.{Node, Ctx, St, Out, M, go_on, push}
 use Rattle.sifc_def.specs.Symbols.{store}
@@ -55,6 +55,11 @@ pub pair-stops : {f : Ctx → St → Out (List ℕ)} {p q : Parser} {s : Stop} (
     → Does 0 f p (Stopped s) q → IsErr x × IsErrAnd x (λ t. t ≡ s) → Does 0 f p (listed x) q × IfOk x (λ y. (y.0 < 65536) × (y.1 < 65536))
 pair-stops (Ok a) d h = absurd h.1
 pair-stops (Stopped t) d h = (rw h.1 d, tt)
+
+-- how many parameters there are: both bounds
+pub few-nodes : (m : ℕ) (x : Result ℕ Stop) → IfOk x (λ n. n ≤ 64) → IfOk x (λ n. n ≤ m) → IfOk x (λ n. (n ≤ 64) × (n ≤ m))
+few-nodes m (Ok n) a b = (a, b)
+few-nodes m (Stopped s) a b = tt
 
 -- how far the name and its node of a parameter have come
 pub node-next : {p q : Parser} {i : ℕ} → Ready p → Does 0 (λ c. ident_node c) p (Ok i) q → Noded p i q

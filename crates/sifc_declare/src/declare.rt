@@ -5,17 +5,14 @@ ghost use Rattle.sifc_step.specs.Abs.{Ready, Does, lifted};
 ghost use Rattle.sifc_declare.specs.Promise.{freely, node_and_name, array_and_name};
 
 use sifc_def::What;
+use sifc_def::ast::{self, ARRAY_ITEMS, CHILD, VAR_DECL};
 use sifc_err::Refusal;
 use sifc_step::{Parser, head_word};
 
-// Kinds of nodes.
-const VAR_DECL: u32 = 8;
+// The head words of an array: without items, and over the node of its items.
+const EMPTY_ARRAY: u32 = ast::ARRAY;
 
-const ARRAY_ITEMS: u32 = 17;
-
-const EMPTY_ARRAY: u32 = 16;
-
-const ARRAY: u32 = 80;
+const ARRAY: u32 = ast::ARRAY + CHILD;
 
 // The end of var_decl: token i is declared, with n initial values.
 pub fn declare_var(p: &mut Parser<'_>, i: usize, n: usize) -> Result<(), Refusal>

@@ -6,23 +6,12 @@ ghost use Rattle.sifc_step.specs.Abs.{Ready, Does};
 ghost use Rattle.sifc_declare.specs.Promise.{listed};
 
 use sifc_def::Why;
+use sifc_def::ast::{self, CHILD, PRIMARY_EXPR};
 use sifc_step::{Parser, Stop};
+use sifc_word::kind::COMMA;
 
-const RIGHT_PAREN: u32 = 2;
-
-const COMMA: u32 = 12;
-
-const EOF: u32 = 47;
-
-const IDENT_PAIR: u32 = 139;
-
-const PRIMARY_EXPR: u32 = 24;
-
-// FN_PARAM_MAX_LEN
-const FN_PARAM_MAX_LEN: usize = 64;
-
-// The message "unexpected end of file" of InvalidTkn.
-const END_OF_FILE: u32 = 2;
+// The head word of the two names of a loop.
+const IDENT_PAIR: u32 = ast::IDENT_PAIR + 2 * CHILD;
 
 // A name, whose token it answers, and its node, the token taken first: a parameter, or one of ident_pair.
 fn ident_node(p: &mut Parser<'_>) -> Result<usize, Stop>
@@ -34,28 +23,22 @@ fn ident_node(p: &mut Parser<'_>) -> Result<usize, Stop>
     Ok(i)
 }
 
+// A parameter.
+fn param(p: &mut Parser<'_>) -> Result<(), Stop>
+    requires { Ready p.old }
+    ensures does { Does 0 (λ c. param c) p.old result p.new }
+    ensures more { IfOk result (λ _. (p.old.at < p.new.at) × (p.old.nodes < p.new.nodes)) }
+{
+    ident_node(p)?;
+    Ok(())
+}
+
 // The parameters of a function: how many there are.
 pub fn param_list(p: &mut Parser<'_>) -> Result<usize, Stop>
     requires { Ready p.old }
     ensures { Does 0 (λ c. param_list c (param c) (fuel c) 0) p.old result p.new × IfOk result (λ n. (n ≤ 64) × (n ≤ p.new.nodes)) }
 {
-    // The tokens end the loop, in three ways, and not a number of turns: a `for` would be no plainer.
-    let mut n: usize = 0;
-    loop {
-        let k = p.kind();
-        if k == RIGHT_PAREN {
-            return Ok(n);
-        }
-        if n >= FN_PARAM_MAX_LEN {
-            return Err(p.add_error(Why::FnParmCntExceeded(FN_PARAM_MAX_LEN)));
-        }
-        if k == EOF {
-            return Err(p.add_error(Why::InvalidTknMsg(END_OF_FILE)));
-        }
-        ident_node(p)?;
-        p.separator()?;
-        n += 1;
-    }
+    sifc_step::param_list(p, param)
 }
 
 // The two names of a loop, by their tokens.

@@ -15,7 +15,7 @@ use Rattle.sifc_err.specs.declared.Refusal.TheVariants.{LongScript, NotAscii, Un
 use Rattle.sifc_word.specs.Base.{if◌then◌otherwise◌}
 use Rattle.sifc_word.specs.Kind.{LeftParen, LeftBrace, LeftBracket, Period, Eq, At, Eof, LexPanic}
 use Rattle.sifc_def.specs.declared.Err.{Err}
-use Rattle.sifc_def.specs.declared.Why.{Why}
+use Rattle.sifc_def.specs.Why.{Why}
 use Rattle.sifc_def.specs.declared.What.{What}
 use Rattle.sifc_def.specs.declared.What.TheVariants.{Placeholder, Function, Variable, Other}
 use Rattle.sifc_def.specs.Error.{continuable}

@@ -29,7 +29,7 @@ table =
     (listed 2 0 5 0 0 ∷ []) false None)
     ∷ reads "5 5;"
     (answers (token Val 0 1 ∷ token Val 2 1 ∷ token Semicolon 3 1 ∷ token Eof 4 0 ∷ []) (node Program false 0 0 ∷ []) [] true
-    (Some (record { line = 1; pos = 2; ty = TknMismatch Semicolon (token Val 2 1) })))
+    (Some (record { line = 1; pos = 2; ty = Some (TknMismatch Semicolon (token Val 2 1)) })))
     ∷ reads "var 1 = 2;"
     (answers (token Var 0 3 ∷ token Val 4 1 ∷ token Eq 6 1 ∷ token Val 8 1 ∷ token Semicolon 9 1 ∷ token Eof 10 0 ∷ []) (node Program false 0 0 ∷ [])
     (listed 1 4 1 1 0 ∷ listed 1 4 11 1 0 ∷ listed 1 9 3 1 0 ∷ listed 1 9 2 4 0 ∷ []) true None)

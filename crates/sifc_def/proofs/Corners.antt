@@ -91,7 +91,7 @@ corners =
     [] false None)
     ∷ reads "5 5 // c"
     (answers (token Val 0 1 ∷ token Val 2 1 ∷ token LexPanic 4 0 ∷ []) (node Program false 0 0 ∷ []) [] true
-    (Some (record { line = 1; pos = 2; ty = TknMismatch Semicolon (token Val 2 1) })))
+    (Some (record { line = 1; pos = 2; ty = Some (TknMismatch Semicolon (token Val 2 1)) })))
     ∷ reads "\"print\"(1);"
     (answers (token Str 0 7 ∷ token LeftParen 7 1 ∷ token Val 8 1 ∷ token RightParen 9 1 ∷ token Semicolon 10 1 ∷ token Eof 11 0 ∷ [])
     (node PrimaryExpr false 0 0 ∷ node PrimaryExpr false 0 2 ∷ node FnCallExpr true 2 0 ∷ node ExprStmt false 1 0 ∷ node Program false 1 0 ∷ []) [] false None)

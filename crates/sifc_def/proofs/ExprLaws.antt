@@ -14,8 +14,8 @@ use Rattle.std.proofs.lemmas.Bool.{not-false}
 use Rattle.sifc_word.specs.Base.{if◌then◌otherwise◌, member}
 use Rattle.sifc_word.specs.Kind.{LeftParen, RightParen, LeftBracket, RightBracket, Eq, Period, Comma, At, Ident, Eof}
 use Rattle.sifc_word.specs.Reserved.{is_std_lib_fn}
-use Rattle.sifc_def.specs.declared.Why.{Why}
-use Rattle.sifc_def.specs.declared.Why.TheVariants.{InvalidTkn, InvalidAssign, WrongFnParmCnt, UndeclSym}
+use Rattle.sifc_def.specs.Why.{Why}
+use Rattle.sifc_err.specs.declared.parse_err.ParseErrTy.TheVariants.{InvalidTkn, InvalidAssign, WrongFnParmCnt, UndeclSym}
 use Rattle.sifc_def.specs.declared.What.{What}
 use Rattle.sifc_def.specs.declared.What.TheVariants.{Placeholder, Function, Variable, Other}
 use Rattle.sifc_def.specs.Ast.{TableAccess, ArrayAccess, ArrayMutExpr, FnCallExpr, VarAssignExpr, BinaryExpr, UnaryExpr, PrimaryExpr}

@@ -14,8 +14,8 @@ use Rattle.sifc_lex.proofs.LexLaws.{lex-count}
 use Rattle.sifc_tokens.specs.Place.{place_of, walked_to, next_place}
 use Rattle.sifc_tokens.proofs.PlaceLaws.{walked_none, walked_more, walked_line, walked-pos, place_inside, place-even, place-ragged}
 use Rattle.sifc_def.specs.declared.Err.{Err}
-use Rattle.sifc_def.specs.declared.Why.{Why}
-use Rattle.sifc_def.specs.declared.Why.TheVariants.{InvalidIdent, InvalidTkn, InvalidTknMsg, InvalidAssign, InvalidForStmt, InvalidIfStmt, TknMismatch, FnParmCntExceeded, WrongFnParmCnt, UndeclSym, UnassignedVar, ExpectedIdent}
+use Rattle.sifc_def.specs.Why.{Why}
+use Rattle.sifc_err.specs.declared.parse_err.ParseErrTy.TheVariants.{InvalidIdent, InvalidTkn, InvalidTknMsg, InvalidAssign, InvalidForStmt, InvalidIfStmt, TknMismatch, FnParmCntExceeded, WrongFnParmCnt, UndeclSym, UnassignedVar, ExpectedIdent}
 use Rattle.sifc_def.specs.Error.{ty_of, carried, carried_too, place_at, err_place, err_reason, PlaceFits}
 use Rattle.sifc_def.specs.Label.{labels}
 use Rattle.sifc_def.specs.State.{Node, Ctx, Out, done, fail, refuse, tok_at}

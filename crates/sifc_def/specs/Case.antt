@@ -3,7 +3,7 @@ use Rattle.std.specs.Prelude.{ℕ, suc, ◌+◌, ◌-◌, ◌*◌, ◌/◌, ◌%
 use Prim.Native.String.{String}
 use Rattle.sifc_err.specs.declared.Token.{Token}
 use Rattle.sifc_err.specs.declared.Refusal.{Refusal}
-use Rattle.sifc_err.specs.ParseErr.{values_of}
+use Rattle.sifc_err.specs.ParseErr.{values_in}
 use Rattle.sifc_tokens.specs.declared.place.Place.{Place}
 use Rattle.sifc_word.specs.Kind.{Eof}
 use Rattle.sifc_lex.specs.Lex.{token, lex}
@@ -85,7 +85,7 @@ errors (suc n) (p ∷ ps) (w ∷ ws) = listed (suc (p / 65536)) (p % 65536) (w %
 
 unfoldable pub short_end : ℕ → List Listed → Bool → Early → Short
 short_end n es f None = ok n es f
-short_end n es f (Some x) = early n es x.line x.pos (values_of x.ty).number
+short_end n es f (Some x) = early n es x.line x.pos (values_in x.ty).number
 
 unfoldable pub short_of : Arrays → Reading → Short
 unfolding errors short_end

@@ -1,15 +1,15 @@
 -- What an error of the walk stands for: a ParseErr, and its two words. "An error is a line, a column and a reason that carries its token, counts or fixed
 -- message."
-use Rattle.std.specs.Prelude.{ℕ, ◌+◌, ◌-◌, ◌*◌, ◌≤◌, Bool}
+use Rattle.std.specs.Prelude.{ℕ, ◌+◌, ◌-◌, ◌*◌, ◌≤◌, Bool, Some}
 use Rattle.sifc_err.specs.declared.parse_err.ParseErr.{ParseErr}
 use Rattle.sifc_err.specs.declared.parse_err.ParseErrTy.{ParseErrTy}
-use Rattle.sifc_err.specs.declared.parse_err.ParseErrTy.TheVariants as Ty
-use Rattle.sifc_err.specs.ParseErr.{values_of, continuable_of}
+use Rattle.sifc_err.specs.declared.Token.{Token}
+use Rattle.sifc_err.specs.ParseErr.{values_of, continuable_of, mapped}
 use Rattle.sifc_tokens.specs.declared.place.Place.{Place}
 use Rattle.sifc_tokens.specs.Place.{place_of}
 use Rattle.sifc_def.specs.declared.Err.{Err}
-use Rattle.sifc_def.specs.declared.Why.{Why}
-use Rattle.sifc_def.specs.declared.Why.TheVariants.{InvalidIdent, InvalidTkn, InvalidTknMsg, InvalidAssign, InvalidForStmt, InvalidIfStmt, TknMismatch, FnParmCntExceeded, WrongFnParmCnt, UndeclSym, UnassignedVar, ExpectedIdent}
+use Rattle.sifc_def.specs.Why.{Why}
+use Rattle.sifc_err.specs.declared.parse_err.ParseErrTy.TheVariants.{InvalidIdent, InvalidTkn, InvalidTknMsg, InvalidAssign, InvalidForStmt, InvalidIfStmt, TknMismatch, FnParmCntExceeded, WrongFnParmCnt, UndeclSym, UnassignedVar, ExpectedIdent}
 use Rattle.sifc_def.specs.State.{Ctx, tok_at}
 
 -- A token's place in a script of at most 65,535 bytes: the line is at most 65,536, the column at most 65,535.
@@ -20,19 +20,8 @@ pub record PlaceFits (q : Place) : Type 0 where
 
 module _ (c : Ctx) where
   -- the tokens at their indices
-  abbrev pub ty_of : Why → ParseErrTy
-  ty_of (InvalidIdent i) = Ty.InvalidIdent (tok_at c i)
-  ty_of (InvalidTkn i) = Ty.InvalidTkn (tok_at c i)
-  ty_of (InvalidTknMsg m) = Ty.InvalidTknMsg m
-  ty_of (InvalidAssign i) = Ty.InvalidAssign (tok_at c i)
-  ty_of InvalidForStmt = Ty.InvalidForStmt
-  ty_of InvalidIfStmt = Ty.InvalidIfStmt
-  ty_of (TknMismatch k i) = Ty.TknMismatch k (tok_at c i)
-  ty_of (FnParmCntExceeded n) = Ty.FnParmCntExceeded n
-  ty_of (WrongFnParmCnt n m) = Ty.WrongFnParmCnt n m
-  ty_of (UndeclSym i) = Ty.UndeclSym (tok_at c i)
-  ty_of (UnassignedVar i) = Ty.UnassignedVar (tok_at c i)
-  ty_of (ExpectedIdent i) = Ty.ExpectedIdent (tok_at c i)
+  abbrev pub ty_of : Why → ParseErrTy Token
+  ty_of w = mapped (tok_at c) w
 
   abbrev pub continuable : Why → Bool
   continuable w = continuable_of (ty_of w)
@@ -44,7 +33,7 @@ module _ (c : Ctx) where
 
   unfoldable pub parse_err : Err → ParseErr
   unfolding place_at
-  parse_err e = record { line = (place_at e.place).line; pos = (place_at e.place).pos; ty = ty_of e.why }
+  parse_err e = record { line = (place_at e.place).line; pos = (place_at e.place).pos; ty = Some (ty_of e.why) }
 
 -- the token or the first count that a reason carries
 abbrev pub carried : Why → ℕ

@@ -1,5 +1,6 @@
 pub mod Ast
 pub mod Ascii
+pub mod Why
 pub mod State
 pub mod Symbols
 pub mod Expr

@@ -9,8 +9,8 @@ use Rattle.sifc_word.specs.Base.{if◌then◌otherwise◌, part}
 use Rattle.sifc_word.specs.Kind.{Ident, Str, Eof, LexPanic}
 use Rattle.sifc_lex.specs.Lex.{token}
 use Rattle.sifc_def.specs.declared.Err.{Err}
-use Rattle.sifc_def.specs.declared.Why.{Why}
-use Rattle.sifc_def.specs.declared.Why.TheVariants.{InvalidIdent, TknMismatch}
+use Rattle.sifc_def.specs.Why.{Why}
+use Rattle.sifc_err.specs.declared.parse_err.ParseErrTy.TheVariants.{InvalidIdent, TknMismatch}
 use Rattle.sifc_def.specs.declared.What.{What}
 
 infixr 20 ◌>>=◌

@@ -1,25 +1,12 @@
 // The types that the reading's definition (specs/) and its code share.
 #![tactic(auto)]
 
-use sifc_err::ParseErr;
+pub mod ast;
 
-// Why a declaration fails, in terms of token indices: ParseErrTy, with the index of a token where that
-// has the token.
-#[derive(Clone, Copy)]
-pub enum Why {
-    InvalidIdent(usize),
-    InvalidTkn(usize),
-    InvalidTknMsg(u32),
-    InvalidAssign(usize),
-    InvalidForStmt,
-    InvalidIfStmt,
-    TknMismatch(u32, usize),
-    FnParmCntExceeded(usize),
-    WrongFnParmCnt(usize, usize),
-    UndeclSym(usize),
-    UnassignedVar(usize),
-    ExpectedIdent(usize),
-}
+use sifc_err::{ParseErr, ParseErrTy};
+
+// Why a declaration fails, in terms of token indices.
+pub type Why = ParseErrTy<usize>;
 
 // An error of the walk: the index of the token at whose place it stands, and why.
 #[derive(Clone, Copy)]

@@ -7,7 +7,7 @@ mod parse_err;
 ghost use Rattle.std.specs.Prelude.{◌≡◌};
 ghost use Rattle.sifc_err.specs.Refusal.{number_of, kind_of, offset_of};
 
-pub use parse_err::{ParseErr, ParseErrTy};
+pub use parse_err::{Message, ParseErr, ParseErrTy};
 
 // A token: its kind (the order of TokenTy, from 1), where its text begins in the script, and how
 // many bytes the text has. 47 is Eof, 48 a lexing panic; both have length 0. The kind stays a number,
@@ -19,9 +19,20 @@ pub struct Token {
     pub len: usize,
 }
 
+// The panics of the Rust, by the numbers that hosts are told. The first two end the tokens: `//` with no
+// newline after it, and a number with a point that runs to the script's end. The others are a call of what
+// is no name or string, and an access to a table or an array of what is no single token.
+#[derive(Clone, Copy)]
+pub enum Fault {
+    Comment = 1,
+    Number = 2,
+    Call = 3,
+    TableAccess = 4,
+    ArrayAccess = 5,
+}
+
 // Why the tokens of a script end. UnknownChar and UnterminatedString are the cases of LexErrTy.
-// Panic holds the kind of the lexing panic: 1 is `//` with no newline after it, 2 a number with a
-// point that runs to the script's end; a number, since hosts are told it as one.
+// Panic holds the number of a Fault, since hosts are told it as one.
 #[derive(Clone, Copy)]
 pub enum Ending {
     TrueEnd,

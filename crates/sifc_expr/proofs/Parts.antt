@@ -1,7 +1,7 @@
 -- What primary_expr and the part after it come to, by the kind in front.
 use Rattle.std.specs.Prelude.{ℕ, ◌≡◌, true, false}
 use Rattle.std.proofs.Common.{eq-eqb, ne_eqb}
-use Rattle.sifc_def.specs.declared.Why.TheVariants.{InvalidTkn}
+use Rattle.sifc_err.specs.declared.parse_err.ParseErrTy.TheVariants.{InvalidTkn}
 use Rattle.sifc_def.specs.State.{Node, done, Void, go_on, consume, throw_past}
 use Rattle.sifc_def.specs.Expr.{is_literal, literal, ident_expr, group_expr, at_expr, primary_expr, call_part, dot, index, postfix}
 use Rattle.sifc_def.specs.Walk.{walkers}

@@ -8,38 +8,18 @@ ghost use Rattle.sifc_step.specs.Small.{node_of};
 ghost use Rattle.sifc_expr.specs.Rest.{rest, binds_in};
 
 use sifc_def::Why;
+use sifc_def::ast::{self, CHILD};
 use sifc_err::Refusal;
 use sifc_name::{assign_to, call_named, ident_expr};
-use sifc_step::{Parser, Stop, Target, is_literal, is_unary, looseness};
+use sifc_step::{Parser, Stop, Target, is_literal, is_unary, looseness, param_list};
+use sifc_word::kind::{
+    AT, EQ, IDENT, LEFT_BRACKET, LEFT_PAREN, PERIOD, RIGHT_BRACKET, RIGHT_PAREN,
+};
 
-const LEFT_PAREN: u32 = 1;
+// The head words of an operator with two operands and of one with one.
+const BINARY_EXPR: u32 = ast::BINARY_EXPR + 2 * CHILD;
 
-const RIGHT_PAREN: u32 = 2;
-
-const LEFT_BRACKET: u32 = 5;
-
-const RIGHT_BRACKET: u32 = 6;
-
-const EQ: u32 = 8;
-
-const PERIOD: u32 = 11;
-
-const AT: u32 = 21;
-
-const IDENT: u32 = 31;
-
-const EOF: u32 = 47;
-
-// Head words: kind + 64 × children.
-const BINARY_EXPR: u32 = 150;
-
-const UNARY_EXPR: u32 = 87;
-
-// FN_PARAM_MAX_LEN
-const FN_PARAM_MAX_LEN: usize = 64;
-
-// The message "unexpected end of file" of InvalidTkn.
-const END_OF_FILE: u32 = 2;
+const UNARY_EXPR: u32 = ast::UNARY_EXPR + CHILD;
 
 // An expression.
 pub fn expr(p: &mut Parser<'_>, depth: usize) -> Result<(), Stop>
@@ -238,7 +218,13 @@ fn call(p: &mut Parser<'_>, depth: usize, target: Target) -> Result<(), Stop>
 {
     let at = p.at;
     p.consume()?;
-    let n = param_list(p, depth)?;
+    let n = param_list(
+        p,
+        |p|
+            requires { Ready p.old }
+            ensures { Does 1 (λ c. (walkers c depth).assign) p.old result p.new }
+        { assign_expr(p, depth) },
+    )?;
     p.expect(RIGHT_PAREN)?;
     call_named(p, target, at, n)
 }
@@ -270,31 +256,6 @@ fn index(p: &mut Parser<'_>, depth: usize, target: Target) -> Result<(), Stop>
     p.expect(RIGHT_BRACKET)?;
     p.end_index(target, at)?;
     Ok(())
-}
-
-// The arguments of a call: how many there are.
-#[cycle(expressions)]
-fn param_list(p: &mut Parser<'_>, depth: usize) -> Result<usize, Stop>
-    requires { Ready p.old }
-    ensures does { Does 0 (λ c. param_list c (walkers c depth).assign (fuel c) 0) p.old result p.new }
-    ensures few { IfOk result (λ n. n ≤ 64) }
-{
-    let mut n = 0;
-    loop {
-        let k = p.kind();
-        if k == RIGHT_PAREN {
-            return Ok(n);
-        }
-        if n >= FN_PARAM_MAX_LEN {
-            return Err(p.add_error(Why::FnParmCntExceeded(FN_PARAM_MAX_LEN)));
-        }
-        if k == EOF {
-            return Err(p.add_error(Why::InvalidTknMsg(END_OF_FILE)));
-        }
-        assign_expr(p, depth)?;
-        p.separator()?;
-        n += 1;
-    }
 }
 
 // A literal, a name, a group or what follows `@`.

@@ -1,6 +1,6 @@
 -- What the tests of entry let pass.
-use Rattle.std.specs.Prelude.{ℕ, ◌<◌, ◌≡◌, refl, List, [], Bool, ◌&&◌, ltb, length, Ok, Err}
-use Rattle.std.proofs.Common.{sym, ◌∙◌, arith}
+use Rattle.std.specs.Prelude.{ℕ, ◌<◌, ◌≡◌, refl, List, Bool, ◌&&◌, ltb, length, Ok, Err}
+use Rattle.std.proofs.Common.{arith}
 use Rattle.std.proofs.Math.Bool.{true, false}
 use borrow.Author.Tests.{ltb-false, eqb-true}
 use Rattle.std.proofs.Math.Dec.{eqb}
@@ -10,16 +10,11 @@ use Rattle.sifc_word.specs.Base.{if◌then◌otherwise◌, span}
 use Rattle.sifc_lex.specs.Lex.{ascii}
 use Rattle.sifc_tokens.specs.Tokens.{Checked, passed, check_of}
 use Rattle.sifc_def.specs.Read.{Arrays, even, entry}
-use Rattle.sifc_lent.specs.Parts.{arrays, Entered}
+use Rattle.sifc_lent.specs.Parts.{Entered}
 
 -- A refusal is none.
 never-refused : {X : Type 0} (f : Refusal) → Err f ≡ passed → X
 never-refused f p = absurd (let z : ◌≡◌ {A = ℕ} 0 1 = cc in let y : ⊥ = omega arith in y)
-
--- the tests of entry look at no symbol word
-pub entry-same : (s o w h l y p r : List ℕ) → entry s (arrays o w h l [] p r) ≡ entry s (arrays o w h l y p r)
-unfolding entry even
-entry-same s o w h l y p r = refl
 
 -- the tests of the script, by their results
 abbrev check_by : Bool → Bool → List ℕ → Checked
@@ -62,7 +57,3 @@ module _ (s : List ℕ) (a : Arrays) where
   -- The tests of entry let this pass.
   pub entered-is : entry s a ≡ passed → Entered s a
   entered-is e = entry-even (entry-both e).1 (check-short s (entry-both e).0)
-
--- The tests look at no symbol word: what they let pass, with the symbol words that are lent.
-pub entered : (s o w h l y p r : List ℕ) {k : Checked} → k ≡ entry s (arrays o w h l [] p r) → k ≡ passed → Entered s (arrays o w h l y p r)
-entered s o w h l y p r e f = entered-is s (arrays o w h l y p r) (sym (e ∙ entry-same s o w h l y p r) ∙ f)

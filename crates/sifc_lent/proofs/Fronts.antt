@@ -2,7 +2,7 @@
 use Rattle.std.specs.Prelude.{Ok, Err}
 use Prim.Native.Nat.{ℕ, ◌+◌, ◌-◌, ◌/◌, ◌%◌, ◌≤◌, ◌<◌}
 use mathlib.Core.Path.{◌≡◌, refl, sym, ap, ap₂, ◌∙◌}
-use mathlib.Core.List.{List, [], ◌++◌, map, append-nil}
+use mathlib.Core.List.{List, ◌++◌, map, append-nil}
 use mathlib.Core.Bool.{Bool, true, false}
 use native.Mathlib.Omega.{arith}
 use lib.ListN.{length, take, drop, get_or, replicate, length-append, length-drop, length-map}
@@ -14,10 +14,8 @@ use Rattle.sifc_word.specs.Base.{if◌then◌otherwise◌}
 use Rattle.sifc_lex.specs.Lex.{token}
 use Rattle.sifc_tokens.specs.Tokens.{Checked, passed, padded, zeroed, check_of}
 use Rattle.sifc_def.specs.State.{token_at}
-use Rattle.sifc_def.specs.Read.{Arrays, cleared_arrays, even, entry}
+use Rattle.sifc_def.specs.Read.{Arrays, even, entry}
 use Rattle.sifc_symtab.specs.Toks.{toks_of, toks-at}
-use Rattle.sifc_lent.specs.Parts.{arrays}
-use Rattle.sifc_lent.proofs.PartLaws.{same-arrays}
 
 -- what is left of a list whose end is filled
 pub fill_tail : {X : Type 0} (n : ℕ) (xs ys : List X) (v : X) → n ≤ length xs → ys ≡ replicate (length (take (length xs - n) (drop n xs))) v → put_mid n (length xs - n) xs ys ≡ take n xs ++ replicate (length xs - n) v
@@ -39,12 +37,6 @@ front-mapped f a a' a'' n h e g =
     let l : length (map f (take n a)) ≡ n = length-map (take n a) f ∙ length-take-le n a h in
     let m : length a' ≡ length a = ap length e ∙ length-append (map f (take n a)) (drop n a) ∙ (let z : length (map f (take n a)) + length (drop n a) ≡ length a = omega (arith, length-drop n a) in z) in
     g ∙ ap₂ padded (ap (take n) e ∙ take_at (map f (take n a)) (drop n a) n l) m
-
--- what is left of the six arrays besides the symbol words, of which there are none
-pub six-cleared : (o w h l p r : List ℕ) {o' w' h' l' p' r' : List ℕ} → o' ≡ zeroed o → w' ≡ zeroed w → h' ≡ zeroed h → l' ≡ zeroed l → p' ≡ zeroed p → r' ≡ zeroed r
-    → arrays o' w' h' l' [] p' r' ≡ cleared_arrays (arrays o w h l [] p r)
-unfolding zeroed
-six-cleared o w h l p r eo ew eh el ep er = same-arrays eo ew eh el refl ep er
 
 -- what the tests of entry come to, by that of the script and that of the lengths
 abbrev by_tests : Checked → Bool → Checked

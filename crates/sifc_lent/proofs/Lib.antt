@@ -3,3 +3,4 @@ pub mod Spots
 pub mod EntryLaws
 pub mod LexedLaws
 pub mod PartLaws
+pub mod Kept

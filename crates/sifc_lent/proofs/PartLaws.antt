@@ -18,8 +18,7 @@ use Rattle.sifc_tokens.specs.Loaded.{Used}
 use Rattle.sifc_tokens.proofs.TokensLaws.{padded-used}
 use Rattle.sifc_def.specs.declared.Err.{Err as WalkErr}
 use Rattle.sifc_def.specs.declared.Summary.{Summary}
-use Rattle.sifc_def.specs.declared.Why.{Why}
-use Rattle.sifc_def.specs.declared.Why.TheVariants.{InvalidIdent, InvalidTkn, InvalidTknMsg, InvalidAssign, InvalidForStmt, InvalidIfStmt, TknMismatch, FnParmCntExceeded, WrongFnParmCnt, UndeclSym, UnassignedVar, ExpectedIdent}
+use Rattle.sifc_def.specs.Why.{Why}
 use Rattle.sifc_def.specs.Error.{ty_of, place_at, parse_err, err_place, err_reason}
 use Rattle.sifc_def.specs.State.{Node, Ctx, Out, refuse, tok_at, token_at}
 use Rattle.sifc_def.specs.Walk.{End, walk}
@@ -111,28 +110,17 @@ places-back c os ws ps rs (e ∷ E) l t a h =
 
 -- a reason looks at the tokens alone
 ty_same : (c c' : Ctx) (w : Why) → c.toks ≡ c'.toks → ty_of c w ≡ ty_of c' w
-ty_same c c' (InvalidIdent i) e = rw e
-ty_same c c' (InvalidTkn i) e = rw e
-ty_same c c' (InvalidTknMsg m) e = refl
-ty_same c c' (InvalidAssign i) e = rw e
-ty_same c c' InvalidForStmt e = refl
-ty_same c c' InvalidIfStmt e = refl
-ty_same c c' (TknMismatch k i) e = rw e
-ty_same c c' (FnParmCntExceeded n) e = refl
-ty_same c c' (WrongFnParmCnt n m) e = refl
-ty_same c c' (UndeclSym i) e = rw e
-ty_same c c' (UnassignedVar i) e = rw e
-ty_same c c' (ExpectedIdent i) e = rw e
+ty_same c c' w e = rw e
 
-parsed-err : (c : Ctx) (e : WalkErr) (t : Token) (q : Place) (ty : ParseErrTy) → t ≡ tok_at c e.place → q ≡ place_of c.script t.off → ty ≡ ty_of c e.why → record { line = q.line; pos = q.pos; ty = ty } ≡ parse_err c e
+parsed-err : (c : Ctx) (e : WalkErr) (t : Token) (q : Place) (ty : ParseErrTy Token) → t ≡ tok_at c e.place → q ≡ place_of c.script t.off → ty ≡ ty_of c e.why → record { line = q.line; pos = q.pos; ty = Some ty } ≡ parse_err c e
 unfolding parse_err place_at
 parsed-err c e t q ty et eq ey =
     let at : q ≡ place_of c.script (tok_at c e.place).off = eq ∙ ap (λ (x : Token). place_of c.script x.off) et in
-    ap₂ (λ (p : Place) (y : ParseErrTy). record { line = p.line; pos = p.pos; ty = y }) at ey
+    ap₂ (λ (p : Place) (y : ParseErrTy Token). record { line = p.line; pos = p.pos; ty = Some y }) at ey
 
 -- the same of what was read off the script and the tokens
-pub parsed-bare : (s : List ℕ) (ts : List Token) (e : WalkErr) (t : Token) (q : Place) (ty : ParseErrTy) → t ≡ token_at ts e.place → q ≡ place_of s t.off → ty ≡ ty_of (bare [] ts) e.why
-    → record { line = q.line; pos = q.pos; ty = ty } ≡ parse_err (bare s ts) e
+pub parsed-bare : (s : List ℕ) (ts : List Token) (e : WalkErr) (t : Token) (q : Place) (ty : ParseErrTy Token) → t ≡ token_at ts e.place → q ≡ place_of s t.off → ty ≡ ty_of (bare [] ts) e.why
+    → record { line = q.line; pos = q.pos; ty = Some ty } ≡ parse_err (bare s ts) e
 parsed-bare s ts e t q ty et eq ey = parsed-err (bare s ts) e t q ty et eq (ey ∙ ty_same (bare [] ts) (bare s ts) e.why refl)
 
 early-same : (c : Ctx) (s : List ℕ) (ts : List Token) (o : Option WalkErr) → c.script ≡ s → c.toks ≡ ts → early_of (bare s ts) o ≡ early_of c o

@@ -14,10 +14,50 @@ use Rattle.sifc_err.specs.declared.Refusal.{Refusal}
 use Rattle.sifc_step.specs.declared.walk.Walked.{Walked}
 use Rattle.sifc_step.specs.Book.{last_of}
 use Rattle.sifc_lent.specs.declared.place.Spot.{Spot}
+use Rattle.sifc_lent.specs.declared.lent.Lent.{Lent}
+use Rattle.sifc_lent.specs.declared.error.Toks.{Toks}
 
 -- the seven arrays that are lent
 abbrev pub arrays : List ℕ → List ℕ → List ℕ → List ℕ → List ℕ → List ℕ → List ℕ → Arrays
 arrays o w h l y p r = record { offs = o; words = w; heads = h; loads = l; symbols = y; places = p; reasons = r }
+
+-- those behind what a call is lent
+abbrev pub arrays_of : Lent → Arrays
+arrays_of l = arrays l.offs.now l.words.now l.heads.now l.loads.now l.symbols.now l.places.now l.reasons.now
+
+-- arrays that are as long as others
+pub record SameLong (b a : Arrays) : Type 0 where
+  pub offs : length b.offs ≡ length a.offs
+  pub words : length b.words ≡ length a.words
+  pub heads : length b.heads ≡ length a.heads
+  pub loads : length b.loads ≡ length a.loads
+  pub symbols : length b.symbols ≡ length a.symbols
+  pub places : length b.places ≡ length a.places
+  pub reasons : length b.reasons ≡ length a.reasons
+
+-- b is the same memory as a, and each array of it is as long
+pub record KeptLent (a b : Lent) : Type 0 where
+  pub offs_name : b.offs.ghost_name ≡ a.offs.ghost_name
+  pub words_name : b.words.ghost_name ≡ a.words.ghost_name
+  pub heads_name : b.heads.ghost_name ≡ a.heads.ghost_name
+  pub loads_name : b.loads.ghost_name ≡ a.loads.ghost_name
+  pub symbols_name : b.symbols.ghost_name ≡ a.symbols.ghost_name
+  pub places_name : b.places.ghost_name ≡ a.places.ghost_name
+  pub reasons_name : b.reasons.ghost_name ≡ a.reasons.ghost_name
+  pub long : SameLong (arrays_of b) (arrays_of a)
+
+-- all of them set to 0 but the symbol words
+abbrev pub cleared_beside : Arrays → Arrays
+cleared_beside a = record (cleared_arrays a) { symbols = a.symbols }
+
+-- so many tokens are there
+pub record TokensIn (n : ℕ) (l : Lent) : Type 0 where
+  pub offs : n ≤ length l.offs.now
+  pub words : n ≤ length l.words.now
+
+-- the tokens of two words each
+abbrev pub toks_in : Toks → List Token
+toks_in t = toks_of t.offs.now t.words.now
 
 -- the script and the tokens: all of a context that an error's record looks at
 abbrev pub bare : List ℕ → List Token → Ctx
@@ -80,6 +120,12 @@ pub record Fits (s : List ℕ) (a : Arrays) (n : ℕ) (r : Result Walked Refusal
   pub offs : Used n a.offs
   pub words : Used n a.words
   pub within : WithinOf a r
+
+-- what a walk over the first n tokens came to lies in the arrays
+pub record Settles (s : List ℕ) (a : Arrays) (n : ℕ) (w : Walked) : Type 0 where
+  pub short : length s < 65536
+  pub offs : n ≤ length a.offs
+  pub within : Within w.nodes w.errors a.heads a.loads a.places a.reasons
 
 -- the answer of a walk over all of these tokens
 unfoldable pub summary_of : List ℕ → List ℕ → List ℕ → Walked → Summary

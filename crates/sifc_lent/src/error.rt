@@ -4,79 +4,69 @@ ghost use Rattle.std.specs.Prelude.{◌≡◌, []};
 ghost use Rattle.sifc_def.specs.State.{token_at};
 ghost use Rattle.sifc_def.specs.Error.{ty_of, parse_err};
 ghost use Rattle.sifc_def.specs.Read.{early_of};
-ghost use Rattle.sifc_symtab.specs.Toks.{toks_of};
 ghost use Rattle.sifc_step.specs.Book.{last_of};
-ghost use Rattle.sifc_lent.specs.Parts.{bare};
+ghost use Rattle.sifc_lent.specs.Parts.{bare, toks_in};
 
 use sifc_def::{Err, Why};
 use sifc_err::{ParseErr, ParseErrTy, Token};
 use sifc_tokens::place_at;
+use sifc_word::kind::EOF;
 
-const EOF: u32 = 47;
-
-// The token at an index; past the tokens an Eof.
-fn token_at(offs: &[u32], words: &[u32], i: usize) -> Token
-    ensures { result ≡ token_at (toks_of offs.now words.now) i }
-{
-    if i >= offs.len() || i >= words.len() {
-        return Token {
-            kind: EOF,
-            off: 0,
-            len: 0,
-        };
-    }
-    let word = words[i];
-    Token {
-        kind: word % 64,
-        off: offs[i] as usize,
-        len: (word / 64) as usize,
-    }
+// The two words of each token.
+#[derive(Clone, Copy)]
+pub struct Toks<'a> {
+    pub offs: &'a [u32],
+    pub words: &'a [u32],
 }
 
-// A reason with its tokens.
-pub fn ty_of(offs: &[u32], words: &[u32], why: Why) -> ParseErrTy
-    ensures { result ≡ ty_of (bare [] (toks_of offs.now words.now)) why }
-{
-    match why {
-        Why::InvalidIdent(i) => ParseErrTy::InvalidIdent(token_at(offs, words, i)),
-        Why::InvalidTkn(i) => ParseErrTy::InvalidTkn(token_at(offs, words, i)),
-        Why::InvalidTknMsg(m) => ParseErrTy::InvalidTknMsg(m),
-        Why::InvalidAssign(i) => ParseErrTy::InvalidAssign(token_at(offs, words, i)),
-        Why::InvalidForStmt => ParseErrTy::InvalidForStmt,
-        Why::InvalidIfStmt => ParseErrTy::InvalidIfStmt,
-        Why::TknMismatch(k, i) => ParseErrTy::TknMismatch(k, token_at(offs, words, i)),
-        Why::FnParmCntExceeded(n) => ParseErrTy::FnParmCntExceeded(n),
-        Why::WrongFnParmCnt(n, m) => ParseErrTy::WrongFnParmCnt(n, m),
-        Why::UndeclSym(i) => ParseErrTy::UndeclSym(token_at(offs, words, i)),
-        Why::UnassignedVar(i) => ParseErrTy::UnassignedVar(token_at(offs, words, i)),
-        Why::ExpectedIdent(i) => ParseErrTy::ExpectedIdent(token_at(offs, words, i)),
+impl<'a> Toks<'a> {
+    // The token at an index; past the tokens an Eof.
+    fn token_at(&self, i: usize) -> Token
+        ensures { result ≡ token_at (toks_in self.now) i }
+    {
+        if i >= self.offs.len() || i >= self.words.len() {
+            return Token {
+                kind: EOF,
+                off: 0,
+                len: 0,
+            };
+        }
+        let word = self.words[i];
+        Token {
+            kind: word % 64,
+            off: self.offs[i] as usize,
+            len: (word / 64) as usize,
+        }
     }
-}
 
-// An error of the walk as the answer has it.
-fn parse_err(script: &[u8], offs: &[u32], words: &[u32], e: Err) -> ParseErr
-    ensures { result ≡ parse_err (bare script.now (toks_of offs.now words.now)) e }
-{
-    let why = e.why;
-    let token = token_at(offs, words, e.place);
-    let place = place_at(script, token.off);
-    let ty = ty_of(offs, words, why);
-    ParseErr {
-        line: place.line,
-        pos: place.pos,
-        ty,
+    // A reason with its tokens.
+    pub fn ty_of(&self, why: Why) -> ParseErrTy<Token>
+        ensures { result ≡ ty_of (bare [] (toks_in self.now)) why }
+    {
+        let Toks { offs, words } = *self;
+        why.map(|i| Toks { offs, words }.token_at(i))
     }
-}
 
-// The error that ended the reading, if one did.
-pub fn early_of(
-    script: &[u8],
-    offs: &[u32],
-    words: &[u32],
-    last: Option<sifc_def::Err>,
-) -> Option<ParseErr>
-    ensures { result ≡ early_of (bare script.now (toks_of offs.now words.now)) (last_of last) }
-{
-    let e = last?;
-    Some(parse_err(script, offs, words, e))
+    // An error of the walk over the tokens of a script, as the answer has it.
+    fn parse_err(&self, script: &[u8], e: Err) -> ParseErr
+        ensures { result ≡ parse_err (bare script.now (toks_in self.now)) e }
+    {
+        let why = e.why;
+        let token = self.token_at(e.place);
+        let place = place_at(script, token.off);
+        let ty = self.ty_of(why);
+        ParseErr {
+            line: place.line,
+            pos: place.pos,
+            ty: Some(ty),
+        }
+    }
+
+    // The error that ended the reading, if one did.
+    pub fn early_of(&self, script: &[u8], last: Option<sifc_def::Err>) -> Option<ParseErr>
+        ensures { result ≡ early_of (bare script.now (toks_in self.now)) (last_of last) }
+    {
+        let e = last?;
+        Some(self.parse_err(script, e))
+    }
 }

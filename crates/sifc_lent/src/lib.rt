@@ -3,11 +3,11 @@
 #![tactic(auto)]
 
 mod clear;
-mod entry;
 mod error;
+mod lent;
 mod place;
 
-pub use clear::{clear as clear_array, clear_all, clear_used, keep};
-pub use entry::entry as entry_tests;
-pub use error::{early_of, ty_of};
+pub use clear::{clear as clear_array, keep};
+pub use error::Toks;
+pub use lent::Lent;
 pub use place::set_places;

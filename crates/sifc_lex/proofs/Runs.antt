@@ -1,107 +1,102 @@
--- The steps of Lex.antt on the bytes from an index on, by where a run of bytes ends.
-use Prim.Native.Nat.{ℕ, zero, suc, ◌+◌, ◌-◌, ◌≤◌, ◌<◌}
+-- The steps of Lex.antt, by how long a run of bytes at the beginning is.
+use Prim.Native.Nat.{ℕ, zero, suc, ◌+◌, ◌≤◌, ◌<◌}
 use mathlib.Core.Path.{◌≡◌, refl, sym, ap, ap₂, ◌∙◌}
 use mathlib.Core.List.{List, [], ◌∷◌}
-use mathlib.Core.Bool.{Bool, true, false}
+use mathlib.Core.Bool.{true, false}
 use native.Mathlib.Omega.{arith}
-use native.Mathlib.Numerals.{add-one}
-use borrow.Author.Tests.{eq-eqb, ne_eqb, ltb-true, ltb-false}
-use lib.Dec.{ltb}
-use lib.ListN.{take, drop, length, get_or, drop_of_length-le, get_or-eq_default}
-use lib.Seq.{drop-cons, drop-drop}
+use borrow.Author.Tests.{eq-eqb, ne_eqb}
+use lib.ListN.{take, drop, length, get_or, drop_of_length-le}
+use lib.Seq.{drop-cons}
 use Rattle.std.specs.Prelude.{Some, None}
 use Rattle.sifc_err.specs.declared.Ending.TheVariants.{TrueEnd, UnknownChar, UnterminatedString, Panic}
 use Rattle.sifc_lex.specs.declared.lex.Step.TheVariants.{Skip, Word, Stop}
 use Rattle.sifc_word.specs.Base.{if◌then◌otherwise◌, within, span}
-use Rattle.sifc_word.specs.BaseLaws.{and-false}
 use Rattle.sifc_word.specs.Reserved.{name_kind}
 use Rattle.sifc_lex.specs.Lex.{white, letter, step, alnum, digit, in_line, in_str, hash_comment, line_end, slash_comment, next_is, lex_slash, closed, lex_str, pointed, fraction, lex_num, lex_ident, one_sign, singles, single_kind, doubles, double_kind, lex_sign}
 use Rattle.sifc_lex.specs.Bytes.{kind_if_any}
 
--- what is left after a run
-run-rest : (p : ℕ → Bool) (s : List ℕ) (at end : ℕ) → end ≡ at + span p (drop at s) → drop (span p (drop at s)) (drop at s) ≡ drop end s
-run-rest p s at end e = drop-drop (span p (drop at s)) at s ∙ ap (λ (k : ℕ). drop k s) (sym e)
-
-rest_more : (p : ℕ → Bool) (s : List ℕ) (at end : ℕ) → end ≡ at + span p (drop at s) → end < length s → drop (span p (drop at s)) (drop at s) ≡ get_or s end 0 ∷ drop (suc end) s
-rest_more p s at end e h = run-rest p s at end e ∙ drop-cons s end 0 h
-
-rest-none : (p : ℕ → Bool) (s : List ℕ) (at end : ℕ) → end ≡ at + span p (drop at s) → length s ≤ end → drop (span p (drop at s)) (drop at s) ≡ []
-rest-none p s at end e h = run-rest p s at end e ∙ drop_of_length-le s h
-
-pub hash-run : (s : List ℕ) (at end : ℕ) → end ≡ at + span in_line (drop at s) → hash_comment (drop at s) ≡ Skip (1 + (end - at))
+-- a comment to the line's end
+pub hash-run : (s : List ℕ) (n : ℕ) → n ≡ span in_line s → Skip (1 + n) ≡ hash_comment s
 unfolding hash_comment
-hash-run s at end e = ap Skip (let z : 1 + span in_line (drop at s) ≡ 1 + (end - at) = omega arith in z)
+hash-run s n e = rw e refl
 
-pub slash-more : (s : List ℕ) (at end : ℕ) → end ≡ at + span in_line (drop at s) → end < length s → slash_comment (drop at s) ≡ Skip (1 + (end - at))
+pub slash-more : (s : List ℕ) (n : ℕ) → n ≡ span in_line s → n < length s → Skip (1 + n) ≡ slash_comment s
 unfolding slash_comment line_end
-slash-more s at end e h = rw (rest_more in_line s at end e h) (ap Skip (let z : 1 + span in_line (drop at s) ≡ 1 + (end - at) = omega arith in z))
+slash-more s n e h = rw (← e, drop-cons s n 0 h) refl
 
-pub slash-none : (s : List ℕ) (at end : ℕ) → end ≡ at + span in_line (drop at s) → length s ≤ end → slash_comment (drop at s) ≡ Stop 0 (Panic 1)
+pub slash-none : (s : List ℕ) (n : ℕ) → n ≡ span in_line s → length s ≤ n → Stop 0 (Panic 1) ≡ slash_comment s
 unfolding slash_comment line_end
-slash-none s at end e h = rw (rest-none in_line s at end e h) refl
+slash-none s n e h = rw (← e, drop_of_length-le s h) refl
 
-pub str-more : (s : List ℕ) (at end : ℕ) → end ≡ at + span in_str (drop at s) → end < length s → lex_str (drop at s) ≡ Word 32 (2 + (end - at))
+-- a string
+pub str-more : (s : List ℕ) (n : ℕ) → n ≡ span in_str s → n < length s → Word 32 (2 + n) ≡ lex_str s
 unfolding lex_str closed
-str-more s at end e h = rw (rest_more in_str s at end e h) (ap (Word 32) (let z : 2 + span in_str (drop at s) ≡ 2 + (end - at) = omega arith in z))
+str-more s n e h = rw (← e, drop-cons s n 0 h) refl
 
-pub str-none : (s : List ℕ) (at end : ℕ) → end ≡ at + span in_str (drop at s) → length s ≤ end → lex_str (drop at s) ≡ Stop (1 + (end - at)) UnterminatedString
+pub str-none : (s : List ℕ) (n : ℕ) → n ≡ span in_str s → length s ≤ n → Stop (1 + n) UnterminatedString ≡ lex_str s
 unfolding lex_str closed
-str-none s at end e h = rw (rest-none in_str s at end e h) (ap (λ (n : ℕ). Stop n UnterminatedString) (let z : 1 + span in_str (drop at s) ≡ 1 + (end - at) = omega arith in z))
+str-none s n e h = rw (← e, drop_of_length-le s h) refl
 
--- a number: no byte after its digits, another byte than a point, a point and a byte after it, a point and none
-num-length : (s : List ℕ) (at whole : ℕ) → whole ≡ at + span digit (drop at s) → Word 33 (1 + span digit (drop at s)) ≡ Word 33 (1 + (whole - at))
-num-length s at whole e = ap (Word 33) (let z : 1 + span digit (drop at s) ≡ 1 + (whole - at) = omega arith in z)
+-- what follows the digits of a number: nothing, another byte than a point, a point and a byte after the digits behind it, a point and none
+frac-none : (k : ℕ) (r : List ℕ) → length r < 1 → Word 33 k ≡ fraction k r
+unfolding fraction
+frac-none k [] h = refl
+frac-none k (c ∷ r) h = absurd (omega arith)
 
-pub num-none : (s : List ℕ) (at whole : ℕ) → whole ≡ at + span digit (drop at s) → length s ≤ whole → lex_num (drop at s) ≡ Word 33 (1 + (whole - at))
-unfolding lex_num fraction
-num-none s at whole e h = rw (rest-none digit s at whole e h) (num-length s at whole e)
+frac-other : (k : ℕ) (r : List ℕ) → 1 ≤ length r → (get_or r 0 0 ≡ 46 → ⊥) → Word 33 k ≡ fraction k r
+unfolding fraction if◌then◌otherwise◌
+frac-other k [] h n = absurd (omega arith)
+frac-other k (c ∷ r) h n = rw (ne_eqb c 46 n) refl
 
-pub num-whole : (s : List ℕ) (at whole : ℕ) → whole ≡ at + span digit (drop at s) → whole < length s → (get_or s whole 0 ≡ 46 → ⊥) → lex_num (drop at s) ≡ Word 33 (1 + (whole - at))
-unfolding lex_num fraction if◌then◌otherwise◌
-num-whole s at whole e h n = rw (rest_more digit s at whole e h) (rw (ne_eqb (get_or s whole 0) 46 n) (num-length s at whole e))
+frac-more : (k n : ℕ) (r : List ℕ) → 1 ≤ length r → get_or r 0 0 ≡ 46 → n ≡ span digit (drop 1 r) → n < length (drop 1 r) → Word 33 (k + 1 + n) ≡ fraction k r
+unfolding fraction pointed if◌then◌otherwise◌
+frac-more k n [] h e f l = absurd (omega arith)
+frac-more k n (c ∷ r) h e f l = rw (eq-eqb c 46 e, ← f, drop-cons r n 0 l) refl
 
-num-point : (s : List ℕ) (at whole : ℕ) → whole ≡ at + span digit (drop at s) → whole < length s → get_or s whole 0 ≡ 46
-    → lex_num (drop at s) ≡ pointed (1 + span digit (drop at s) + 1 + span digit (drop (suc whole) s)) (drop (span digit (drop (suc whole) s)) (drop (suc whole) s))
-unfolding lex_num fraction if◌then◌otherwise◌
-num-point s at whole e h y = rw (rest_more digit s at whole e h) (rw (eq-eqb (get_or s whole 0) 46 y) refl)
+frac-fault : (k n : ℕ) (r : List ℕ) → 1 ≤ length r → get_or r 0 0 ≡ 46 → n ≡ span digit (drop 1 r) → length (drop 1 r) ≤ n → Stop 0 (Panic 2) ≡ fraction k r
+unfolding fraction pointed if◌then◌otherwise◌
+frac-fault k n [] h e f l = absurd (omega arith)
+frac-fault k n (c ∷ r) h e f l = rw (eq-eqb c 46 e, ← f, drop_of_length-le r l) refl
 
-pub num-more : (s : List ℕ) (at whole end : ℕ) → whole ≡ at + span digit (drop at s) → whole < length s → get_or s whole 0 ≡ 46
-    → end ≡ suc whole + span digit (drop (suc whole) s) → end < length s → lex_num (drop at s) ≡ Word 33 (1 + (end - at))
-unfolding pointed
-num-more s at whole end e h y f l =
-    num-point s at whole e h y ∙ rw (rest_more digit s (suc whole) end f l)
-    (ap (Word 33) (let z : 1 + span digit (drop at s) + 1 + span digit (drop (suc whole) s) ≡ 1 + (end - at) = omega arith in z))
+pub num-none : (s : List ℕ) (w : ℕ) → w ≡ span digit s → length (drop w s) < 1 → Word 33 (1 + w) ≡ lex_num s
+unfolding lex_num
+num-none s w e h = rw (← e) (frac-none (1 + w) (drop w s) h)
 
-pub num-fault : (s : List ℕ) (at whole end : ℕ) → whole ≡ at + span digit (drop at s) → whole < length s → get_or s whole 0 ≡ 46
-    → end ≡ suc whole + span digit (drop (suc whole) s) → length s ≤ end → lex_num (drop at s) ≡ Stop 0 (Panic 2)
-unfolding pointed
-num-fault s at whole end e h y f l = num-point s at whole e h y ∙ rw (rest-none digit s (suc whole) end f l) refl
+pub num-whole : (s : List ℕ) (w : ℕ) → w ≡ span digit s → 1 ≤ length (drop w s) → (get_or (drop w s) 0 0 ≡ 46 → ⊥) → Word 33 (1 + w) ≡ lex_num s
+unfolding lex_num
+num-whole s w e h n = rw (← e) (frac-other (1 + w) (drop w s) h n)
 
--- a name: its bytes are a part of the script
-pub ident-part : (s : List ℕ) (at end : ℕ) → at < length s → end ≡ suc at + span alnum (drop (suc at) s) → take (end - at) (drop at s) ≡ get_or s at 0 ∷ take (span alnum (drop (suc at) s)) (drop (suc at) s)
-ident-part s at end h e = rw (let z : end - at ≡ suc (span alnum (drop (suc at) s)) = omega arith in z, drop-cons s at 0 h) refl
+pub num-more : (s : List ℕ) (w n : ℕ) → w ≡ span digit s → 1 ≤ length (drop w s) → get_or (drop w s) 0 0 ≡ 46 → n ≡ span digit (drop 1 (drop w s)) → n < length (drop 1 (drop w s)) → Word 33 (1 + w + 1 + n) ≡ lex_num s
+unfolding lex_num
+num-more s w n e h p f l = rw (← e) (frac-more (1 + w) n (drop w s) h p f l)
 
-pub ident-run : (s : List ℕ) (at end kind : ℕ) → at < length s → end ≡ suc at + span alnum (drop (suc at) s) → kind ≡ name_kind (take (end - at) (drop at s)) → Word kind (end - at) ≡ lex_ident (get_or s at 0) (drop (suc at) s)
+pub num-fault : (s : List ℕ) (w n : ℕ) → w ≡ span digit s → 1 ≤ length (drop w s) → get_or (drop w s) 0 0 ≡ 46 → n ≡ span digit (drop 1 (drop w s)) → length (drop 1 (drop w s)) ≤ n → Stop 0 (Panic 2) ≡ lex_num s
+unfolding lex_num
+num-fault s w n e h p f l = rw (← e) (frac-fault (1 + w) n (drop w s) h p f l)
+
+-- a name
+pub ident-run : (s : List ℕ) (n kind : ℕ) → 0 < length s → n ≡ span alnum (drop 1 s) → kind ≡ name_kind (take (1 + n) s) → Word kind (1 + n) ≡ lex_ident (get_or s 0 0) (drop 1 s)
 unfolding lex_ident
-ident-run s at end kind h e k = ap₂ Word (k ∙ ap name_kind (ident-part s at end h e)) (let z : end - at ≡ 1 + span alnum (drop (suc at) s) = omega arith in z)
+ident-run [] n kind h e k = absurd (omega arith)
+ident-run (b ∷ s) n kind h e k =
+    let z : 1 + n ≡ suc n = omega arith in
+    ap₂ Word (k ∙ ap (λ (m : ℕ). name_kind (take m (b ∷ s))) z ∙ ap (λ (m : ℕ). name_kind (b ∷ take m s)) e) (ap (λ (m : ℕ). 1 + m) e)
 
--- a slash: another next byte, or none
-pub slash-alone : (s : List ℕ) (at : ℕ) → length s ≤ at → lex_slash (drop at s) ≡ Word 17 1
+-- a slash: no next byte, another one, a slash
+pub slash-alone : (s : List ℕ) → length s < 1 → Word 17 1 ≡ lex_slash s
 unfolding lex_slash next_is if◌then◌otherwise◌
-slash-alone s at h = rw (drop_of_length-le s h) refl
+slash-alone [] h = refl
+slash-alone (c ∷ s) h = absurd (omega arith)
 
-pub slash-other : (s : List ℕ) (at : ℕ) → at < length s → (get_or s at 0 ≡ 47 → ⊥) → lex_slash (drop at s) ≡ Word 17 1
+pub slash-other : (s : List ℕ) → 1 ≤ length s → (get_or s 0 0 ≡ 47 → ⊥) → Word 17 1 ≡ lex_slash s
 unfolding lex_slash next_is if◌then◌otherwise◌
-slash-other s at h n = rw (drop-cons s at 0 h) (rw (ne_eqb (get_or s at 0) 47 n) refl)
+slash-other [] h n = absurd (omega arith)
+slash-other (c ∷ s) h n = rw (ne_eqb c 47 n) refl
 
-pub slash-two : (s : List ℕ) (at : ℕ) → at < length s → get_or s at 0 ≡ 47 → lex_slash (drop at s) ≡ slash_comment (drop at s)
+pub slash-two : (s : List ℕ) → 1 ≤ length s → get_or s 0 0 ≡ 47 → slash_comment s ≡ lex_slash s
 unfolding lex_slash next_is if◌then◌otherwise◌
-slash-two s at h e = rw (drop-cons s at 0 h) (rw (eq-eqb (get_or s at 0) 47 e) refl)
-
--- a sign: no next byte, one that makes no sign of two, one that does
-pub none-at : (s : List ℕ) (at b : ℕ) → length s ≤ at → double_kind doubles b (get_or s at 0) ≡ 0
-unfolding double_kind doubles if◌then◌otherwise◌
-none-at s at b h = rw (get_or-eq_default s 0 h) (simp (and-false))
+slash-two [] h e = absurd (omega arith)
+slash-two (c ∷ s) h e = rw (eq-eqb c 47 e) refl
 
 -- what the code answers for a kind: none where it is 0, else the kind
 none-is : (k : ℕ) → None ≡ kind_if_any k → k ≡ 0
@@ -120,62 +115,60 @@ pub sign-unknown : (b : ℕ) → None ≡ kind_if_any (single_kind singles b) �
 unfolding one_sign if◌then◌otherwise◌
 sign-unknown b e = rw (eq-eqb (single_kind singles b) 0 (none-is (single_kind singles b) e)) refl
 
-pub sign-one : (s : List ℕ) (at b : ℕ) → None ≡ kind_if_any (double_kind doubles b (get_or s at 0)) → lex_sign b (drop at s) ≡ one_sign b
+-- a sign: no next byte, one that makes no sign of two, one that does
+pub sign-last : (s : List ℕ) (b : ℕ) → length s < 1 → one_sign b ≡ lex_sign b s
+unfolding lex_sign
+sign-last [] b h = refl
+sign-last (c ∷ s) b h = absurd (omega arith)
+
+pub sign-one : (s : List ℕ) (b : ℕ) → 1 ≤ length s → None ≡ kind_if_any (double_kind doubles b (get_or s 0 0)) → one_sign b ≡ lex_sign b s
 unfolding lex_sign if◌then◌otherwise◌
-sign-one s at b e = go (ltb at (length s)) refl
-  where
-    go : (t : Bool) → ltb at (length s) ≡ t → lex_sign b (drop at s) ≡ one_sign b
-    go true z = rw (drop-cons s at 0 (ltb-true at (length s) z)) (rw (eq-eqb (double_kind doubles b (get_or s at 0)) 0 (none-is (double_kind doubles b (get_or s at 0)) e)) refl)
-    go false z = rw (drop_of_length-le s (ltb-false at (length s) z)) refl
+sign-one [] b h e = absurd (omega arith)
+sign-one (c ∷ s) b h e = rw (eq-eqb (double_kind doubles b c) 0 (none-is (double_kind doubles b c) e)) refl
 
-pub sign-two : (s : List ℕ) (at b kind : ℕ) → Some kind ≡ kind_if_any (double_kind doubles b (get_or s at 0)) → Word kind 2 ≡ lex_sign b (drop at s)
+pub sign-two : (s : List ℕ) (b kind : ℕ) → 1 ≤ length s → Some kind ≡ kind_if_any (double_kind doubles b (get_or s 0 0)) → Word kind 2 ≡ lex_sign b s
 unfolding lex_sign if◌then◌otherwise◌
-sign-two s at b kind e = go (ltb at (length s)) refl
-  where
-    n : (double_kind doubles b (get_or s at 0) ≡ kind) × (double_kind doubles b (get_or s at 0) ≡ 0 → ⊥)
-    n = some-is kind (double_kind doubles b (get_or s at 0)) e
+sign-two [] b kind h e = absurd (omega arith)
+sign-two (c ∷ s) b kind h e = let z = some-is kind (double_kind doubles b c) e in rw (ne_eqb (double_kind doubles b c) 0 z.1) (ap (λ (k : ℕ). Word k 2) (sym z.0))
 
-    go : (t : Bool) → ltb at (length s) ≡ t → Word kind 2 ≡ lex_sign b (drop at s)
-    go true z = rw (drop-cons s at 0 (ltb-true at (length s) z)) (rw (ne_eqb (double_kind doubles b (get_or s at 0)) 0 n.1) (ap (λ (k : ℕ). Word k 2) (sym n.0)))
-    go false z = absurd (n.1 (none-at s at b (ltb-false at (length s) z)))
-
--- The turn at an index of the script, arm by arm.
-pub turn_end : (s : List ℕ) (at : ℕ) → length s ≤ at → step (drop at s) ≡ Stop 0 TrueEnd
+-- One turn on the bytes that are left, arm by arm.
+pub turn_end : (s : List ℕ) → length s < 1 → Stop 0 TrueEnd ≡ step s
 unfolding step
-turn_end s at h = rw (drop_of_length-le s h) refl
+turn_end [] h = refl
+turn_end (c ∷ s) h = absurd (omega arith)
 
-module _ (s : List ℕ) (at b : ℕ) (h : at < length s) (e : get_or s at 0 ≡ b) where
-  turn-cons : step (drop at s) ≡ step (b ∷ drop (at + 1) s)
-  turn-cons = ap step (drop-cons s at 0 h ∙ ap₂ (λ (x : ℕ) (i : ℕ). x ∷ drop i s) e (sym (add-one at)))
+module _ (s : List ℕ) (b : ℕ) (h : 1 ≤ length s) (e : get_or s 0 0 ≡ b) where
+  turn-cons : step (b ∷ drop 1 s) ≡ step s
+  turn-cons = ap step (ap (λ (x : ℕ). x ∷ drop 1 s) (sym e) ∙ sym (drop-cons s 0 0 h))
 
-  pub turn-white : white b ≡ true → step (drop at s) ≡ Skip 1
+  pub turn-white : white b ≡ true → Skip 1 ≡ step s
   unfolding step if◌then◌otherwise◌
-  turn-white w = turn-cons ∙ rw w refl
+  turn-white w = rw (← turn-cons, w) refl
 
-  pub turn-hash : b ≡ 35 → step (drop at s) ≡ hash_comment (drop (at + 1) s)
+  pub turn-hash : b ≡ 35 → hash_comment (drop 1 s) ≡ step s
   unfolding step white within if◌then◌otherwise◌
-  turn-hash f = turn-cons ∙ rw f refl
+  turn-hash f = rw (← turn-cons, f) refl
 
-  pub turn-slash : b ≡ 47 → step (drop at s) ≡ lex_slash (drop (at + 1) s)
+  pub turn-slash : b ≡ 47 → lex_slash (drop 1 s) ≡ step s
   unfolding step white within if◌then◌otherwise◌
-  turn-slash f = turn-cons ∙ rw f refl
+  turn-slash f = rw (← turn-cons, f) refl
 
-  pub turn-str : b ≡ 34 → step (drop at s) ≡ lex_str (drop (at + 1) s)
+  pub turn-str : b ≡ 34 → lex_str (drop 1 s) ≡ step s
   unfolding step white within if◌then◌otherwise◌
-  turn-str f = turn-cons ∙ rw f refl
+  turn-str f = rw (← turn-cons, f) refl
 
   -- no `#`, `/`, quote or white space
   abbrev pub Plain : Type 0
   Plain = (b ≡ 35 → ⊥) × (b ≡ 47 → ⊥) × (b ≡ 34 → ⊥) × (white b ≡ false)
 
-  pub turn-num : Plain → digit b ≡ true → step (drop at s) ≡ lex_num (drop (at + 1) s)
+  pub turn-num : Plain → digit b ≡ true → lex_num (drop 1 s) ≡ step s
   unfolding step if◌then◌otherwise◌
-  turn-num p d = turn-cons ∙ rw (p.3, ne_eqb b 35 p.0, ne_eqb b 47 p.1, ne_eqb b 34 p.2, d) refl
+  turn-num p d = rw (← turn-cons, p.3, ne_eqb b 35 p.0, ne_eqb b 47 p.1, ne_eqb b 34 p.2, d) refl
 
-  pub turn-ident : Plain → digit b ≡ false → letter b ≡ true → step (drop at s) ≡ lex_ident b (drop (at + 1) s)
+  pub turn-ident : Plain → digit b ≡ false → letter b ≡ true → lex_ident b (drop 1 s) ≡ step s
   unfolding step if◌then◌otherwise◌
-  turn-ident p d l = turn-cons ∙ rw (p.3, ne_eqb b 35 p.0, ne_eqb b 47 p.1, ne_eqb b 34 p.2, d, l) refl
+  turn-ident p d l = rw (← turn-cons, p.3, ne_eqb b 35 p.0, ne_eqb b 47 p.1, ne_eqb b 34 p.2, d, l) refl
 
-  pub turn-sign : Plain → digit b ≡ false → letter b ≡ false → step (drop at s) ≡ lex_sign b (drop (at + 1) s)
+  pub turn-sign : Plain → digit b ≡ false → letter b ≡ false → lex_sign b (drop 1 s) ≡ step s
   unfolding step if◌then◌otherwise◌
-  turn-sign p d l = turn-cons ∙ rw (p.3, ne_eqb b 35 p.0, ne_eqb b 47 p.1, ne_eqb b 34 p.2, d, l) refl
+  turn-sign p d l = rw (← turn-cons, p.3, ne_eqb b 35 p.0, ne_eqb b 47 p.1, ne_eqb b 34 p.2, d, l) refl

@@ -1,11 +1,11 @@
 // lex.rs: from bytes to tokens.
-ghost use Rattle.std.specs.Prelude.{◌≡◌, ℕ, Bool, ◌+◌, ◌≤◌, ◌<◌, length, drop, get_or};
+ghost use Rattle.std.specs.Prelude.{◌≡◌, ℕ, Bool, ◌≤◌, ◌<◌, length, drop, get_or};
 ghost use Rattle.sifc_word.specs.Base.{span};
-ghost use Rattle.sifc_lex.specs.Lex.{white, digit, letter, singles, doubles, single_kind, double_kind, one_sign, hash_comment, slash_comment, lex_slash, lex_str, lex_num, lex_ident, lex_sign, end_kind, step as step_of};
+ghost use Rattle.sifc_lex.specs.Lex.{white, digit, letter, singles, doubles, single_kind, double_kind, one_sign, hash_comment, slash_comment, lex_slash, lex_str, lex_num, lex_ident, lex_sign, end_kind, step};
 ghost use Rattle.sifc_lex.specs.Bytes.{kind_if_any};
 
-use sifc_err::Ending;
-use sifc_word::name_kind;
+use sifc_err::{Ending, Fault};
+use sifc_word::{kind, name_kind};
 
 // What the next bytes are: bytes to skip, a token's kind and length, or the end, with how many bytes
 // on it stands.
@@ -46,88 +46,80 @@ fn is_letter(b: u8) -> bool
     matches!(b, b'A'..=b'Z' | b'a'..=b'z')
 }
 
-// Where the run of bytes that pass a test and that begins at `from` ends.
-pub fn run_end<F: Fn(u8) -> bool>(s: &[u8], from: usize, passes: F) -> usize
-    requires from_in { from ≤ length s.now }
+// How many bytes at the beginning pass a test.
+pub fn run<F: Fn(u8) -> bool>(s: &[u8], passes: F) -> usize
     requires callable { F.IsAlwaysCallable passes }
-    ensures in_range { (from ≤ result) × (result ≤ length s.now) }
-    ensures run { (test : ℕ → Bool) → ((b : ℕ) (r : Bool) → b < 256 → F.post passes b r → r ≡ test b) → result ≡ from + span test (drop from s.now) }
+    ensures in_range { result ≤ length s.now }
+    ensures run { (test : ℕ → Bool) → ((b : ℕ) (r : Bool) → b < 256 → F.post passes b r → r ≡ test b) → result ≡ span test s.now }
 {
-    for i in from..s.len() {
-        if !passes(s[i]) {
-            return i;
+    for n in 0..s.len() {
+        if !passes(s[n]) {
+            return n;
         }
     }
     s.len()
 }
 
-// `#` to the line's end; at stands after it.
-fn hash_comment(s: &[u8], at: usize) -> Step
-    requires { at ≤ length s.now }
-    ensures { result ≡ hash_comment (drop at s.now) }
+// `#` to the line's end; rest is what follows it.
+fn hash_comment(rest: &[u8]) -> Step
+    ensures { result ≡ hash_comment rest.now }
 {
-    let end = run_end(s, at, |b| b != b'\n');
-    Step::Skip(1 + (end - at))
+    Step::Skip(1 + run(rest, |b| b != b'\n'))
 }
 
-// `//` to the line's end; at stands after the first slash.
-fn slash_comment(s: &[u8], at: usize) -> Step
-    requires { at ≤ length s.now }
-    ensures { result ≡ slash_comment (drop at s.now) }
+// `//` to the line's end; rest begins with the second slash.
+fn slash_comment(rest: &[u8]) -> Step
+    ensures { result ≡ slash_comment rest.now }
 {
-    let end = run_end(s, at, |b| b != b'\n');
-    if end < s.len() {
-        return Step::Skip(1 + (end - at));
+    let n = run(rest, |b| b != b'\n');
+    if n < rest.len() {
+        return Step::Skip(1 + n);
     }
-    Step::Stop(0, Ending::Panic(1))
+    Step::Stop(0, Ending::Panic(Fault::Comment as u32))
 }
 
-// A string; at stands after the opening quote.
-fn lex_str(s: &[u8], at: usize) -> Step
-    requires { at ≤ length s.now }
-    ensures { result ≡ lex_str (drop at s.now) }
+// A string; rest is what follows the opening quote.
+fn lex_str(rest: &[u8]) -> Step
+    ensures { result ≡ lex_str rest.now }
 {
-    let end = run_end(s, at, |b| b != b'"');
-    if end < s.len() {
-        return Step::Word(32, 2 + (end - at));
+    let n = run(rest, |b| b != b'"');
+    if n < rest.len() {
+        return Step::Word(kind::STR, 2 + n);
     }
-    Step::Stop(1 + (end - at), Ending::UnterminatedString)
+    Step::Stop(1 + n, Ending::UnterminatedString)
 }
 
-// A number; at stands after its first digit.
-fn lex_num(s: &[u8], at: usize) -> Step
-    requires { at ≤ length s.now }
-    ensures { result ≡ lex_num (drop at s.now) }
+// A number; rest is what follows its first digit.
+fn lex_num(rest: &[u8]) -> Step
+    ensures { result ≡ lex_num rest.now }
 {
-    let whole = run_end(s, at, is_digit);
-    let Some(b'.') = s.get(whole) else {
-        return Step::Word(33, 1 + (whole - at));
+    let whole = run(rest, is_digit);
+    let [b'.', after @ ..] = &rest[whole..] else {
+        return Step::Word(kind::VAL, 1 + whole);
     };
-    let end = run_end(s, whole + 1, is_digit);
-    if end < s.len() {
-        return Step::Word(33, 1 + (end - at));
+    let n = run(after, is_digit);
+    if n < after.len() {
+        return Step::Word(kind::VAL, 1 + whole + 1 + n);
     }
-    Step::Stop(0, Ending::Panic(2))
+    Step::Stop(0, Ending::Panic(Fault::Number as u32))
 }
 
-// A name or a reserved word; at stands on its first letter.
-fn lex_ident(s: &[u8], at: usize) -> Step
-    requires { at < length s.now }
-    ensures { result ≡ lex_ident (get_or s.now at 0) (drop (at + 1) s.now) }
+// A name or a reserved word; s begins with its first letter.
+fn lex_ident(s: &[u8]) -> Step
+    requires { 0 < length s.now }
+    ensures { result ≡ lex_ident (get_or s.now 0 0) (drop 1 s.now) }
 {
-    let end = run_end(s, at + 1, |b| is_letter(b) || is_digit(b));
-    let kind = name_kind(&s[at..end]);
-    Step::Word(kind, end - at)
+    let n = 1 + run(&s[1..], |b| is_letter(b) || is_digit(b));
+    Step::Word(name_kind(&s[..n]), n)
 }
 
-// The arm '/'; at stands after the slash.
-fn lex_slash(s: &[u8], at: usize) -> Step
-    requires { at ≤ length s.now }
-    ensures { result ≡ lex_slash (drop at s.now) }
+// The arm '/'; rest is what follows it.
+fn lex_slash(rest: &[u8]) -> Step
+    ensures { result ≡ lex_slash rest.now }
 {
-    match s.get(at) {
-        Some(b'/') => slash_comment(s, at),
-        _ => Step::Word(17, 1),
+    match rest {
+        [b'/', ..] => slash_comment(rest),
+        _ => Step::Word(kind::SLASH, 1),
     }
 }
 
@@ -137,26 +129,26 @@ fn single_kind(b: u8) -> Option<u32>
     ensures { result ≡ kind_if_any (single_kind singles b) }
 {
     Some(match b {
-        b'(' => 1,
-        b')' => 2,
-        b'{' => 3,
-        b'}' => 4,
-        b'[' => 5,
-        b']' => 6,
-        b';' => 7,
-        b'=' => 8,
-        b'<' => 9,
-        b'>' => 10,
-        b'.' => 11,
-        b',' => 12,
-        b'!' => 13,
-        b'+' => 14,
-        b'-' => 15,
-        b'*' => 16,
-        b'%' => 18,
-        b'&' => 19,
-        b'|' => 20,
-        b'@' => 21,
+        b'(' => kind::LEFT_PAREN,
+        b')' => kind::RIGHT_PAREN,
+        b'{' => kind::LEFT_BRACE,
+        b'}' => kind::RIGHT_BRACE,
+        b'[' => kind::LEFT_BRACKET,
+        b']' => kind::RIGHT_BRACKET,
+        b';' => kind::SEMICOLON,
+        b'=' => kind::EQ,
+        b'<' => kind::LT,
+        b'>' => kind::GT,
+        b'.' => kind::PERIOD,
+        b',' => kind::COMMA,
+        b'!' => kind::BANG,
+        b'+' => kind::PLUS,
+        b'-' => kind::MINUS,
+        b'*' => kind::STAR,
+        b'%' => kind::PERCENT,
+        b'&' => kind::AMP,
+        b'|' => kind::PIPE,
+        b'@' => kind::AT,
         _ => return None,
     })
 }
@@ -167,15 +159,15 @@ fn double_kind(b: u8, c: u8) -> Option<u32>
     ensures { result ≡ kind_if_any (double_kind doubles b c) }
 {
     Some(match (b, c) {
-        (b'=', b'=') => 22,
-        (b'<', b'=') => 23,
-        (b'>', b'=') => 24,
-        (b'=', b'>') => 25,
-        (b'!', b'=') => 26,
-        (b'&', b'&') => 27,
-        (b'|', b'|') => 28,
-        (b'[', b'[') => 29,
-        (b']', b']') => 30,
+        (b'=', b'=') => kind::EQ_EQ,
+        (b'<', b'=') => kind::LT_EQ,
+        (b'>', b'=') => kind::GT_EQ,
+        (b'=', b'>') => kind::EQ_ARROW,
+        (b'!', b'=') => kind::BANG_EQ,
+        (b'&', b'&') => kind::AMP_AMP,
+        (b'|', b'|') => kind::PIPE_PIPE,
+        (b'[', b'[') => kind::DOUBLE_LEFT_BRACKET,
+        (b']', b']') => kind::DOUBLE_RIGHT_BRACKET,
         _ => return None,
     })
 }
@@ -190,41 +182,41 @@ fn one_sign(b: u8) -> Step
     }
 }
 
-// The kind of the sign that b makes with the byte at an offset.
-fn double_at(s: &[u8], at: usize, b: u8) -> Option<u32>
-    ensures { result ≡ kind_if_any (double_kind doubles b (get_or s.now at 0)) }
+// A sign b; rest is what follows it.
+fn lex_sign(b: u8, rest: &[u8]) -> Step
+    ensures { result ≡ lex_sign b rest.now }
 {
-    double_kind(b, *s.get(at)?)
-}
-
-// A sign b; at stands after it.
-fn lex_sign(s: &[u8], at: usize, b: u8) -> Step
-    requires { at ≤ length s.now }
-    ensures { result ≡ lex_sign b (drop at s.now) }
-{
-    match double_at(s, at, b) {
+    let [c, ..] = rest else {
+        return one_sign(b);
+    };
+    match double_kind(b, *c) {
         Some(kind) => Step::Word(kind, 2),
         None => one_sign(b),
     }
 }
 
-// One turn of lexing: what stands at an offset of the script.
+// One turn of lexing: what stands at the beginning of the bytes that are left.
+fn next_step(left: &[u8]) -> Step
+    ensures { result ≡ step left.now }
+{
+    match left {
+        [] => Step::Stop(0, Ending::TrueEnd),
+        [b'#', rest @ ..] => hash_comment(rest),
+        [b'/', rest @ ..] => lex_slash(rest),
+        [b'"', rest @ ..] => lex_str(rest),
+        [b, ..] if is_white(*b) => Step::Skip(1),
+        [b, rest @ ..] if is_digit(*b) => lex_num(rest),
+        [b, ..] if is_letter(*b) => lex_ident(left),
+        [b, rest @ ..] => lex_sign(*b, rest),
+    }
+}
+
+// What stands at an offset of the script.
 pub fn step_at(s: &[u8], at: usize) -> Step
     requires { at ≤ length s.now }
-    ensures { result ≡ step_of (drop at s.now) }
+    ensures { result ≡ step (drop at s.now) }
 {
-    let Some(&b) = s.get(at) else {
-        return Step::Stop(0, Ending::TrueEnd);
-    };
-    match b {
-        b'#' => hash_comment(s, at + 1),
-        b'/' => lex_slash(s, at + 1),
-        b'"' => lex_str(s, at + 1),
-        _ if is_white(b) => Step::Skip(1),
-        _ if is_digit(b) => lex_num(s, at + 1),
-        _ if is_letter(b) => lex_ident(s, at),
-        _ => lex_sign(s, at + 1, b),
-    }
+    next_step(&s[at..])
 }
 
 // The kind of the token that ends a list.
@@ -233,7 +225,7 @@ pub fn end_kind(e: Ending) -> u32
     ensures { result ≡ end_kind e }
 {
     match e {
-        Ending::Panic(_) => 48,
-        _ => 47,
+        Ending::Panic(_) => kind::LEX_PANIC,
+        _ => kind::EOF,
     }
 }

@@ -3,4 +3,4 @@
 
 mod lex;
 
-pub use lex::{Ended, Step, end_kind, run_end, step_at};
+pub use lex::{Ended, Step, end_kind, run, step_at};

@@ -1,8 +1,9 @@
 -- What the proofs of the functions that ask the symbol table cite.
-use Rattle.std.specs.Prelude.{Option as Found, Some, None, is_some, ℕ, zero, suc, ◌+◌, ◌-◌, ◌%◌, ◌≤◌, ◌<◌, ◌≡◌, refl, List, [], ◌∷◌, ◌++◌, Bool, true, false, eqb, length, get_or, set, take, drop, Result, Ok, Err as Stopped}
-use Rattle.std.proofs.Common.{add-one, arith, sym, ap, ap₂, ◌∙◌, length-set, get_or-set_same, get_or-set_other, eqb→eq, eq-eqb, ne_eqb}
+use Rattle.std.specs.Prelude.{Option as Found, Some, None, is_some, ℕ, zero, suc, ◌+◌, ◌-◌, ◌%◌, ◌≤◌, ◌<◌, ◌≡◌, refl, List, [], ◌∷◌, ◌++◌, Bool, true, false, eqb, length, get_or, take, drop, Result, Ok, Err as Stopped}
+use Rattle.std.proofs.Common.{add-one, arith, sym, ap, ap₂, ◌∙◌, eqb→eq, eq-eqb, ne_eqb}
 use Rattle.std.proofs.Math.Path.{subst}
 use Rattle.std.proofs.Math.Option.{Option, none, some}
+use Rattle.std.specs.List.{CopiedTo, SameBelow}
 use Rattle.sifc_err.specs.declared.Refusal.TheVariants.{SourceFault}
 use Rattle.sifc_err.specs.declared.Token.{Token}
 use Rattle.sifc_word.specs.Base.{if◌then◌otherwise◌}
@@ -10,7 +11,7 @@ use Rattle.sifc_word.specs.Reserved.{is_std_lib_fn}
 use Rattle.sifc_def.specs.declared.Err.{Err}
 use Rattle.sifc_def.specs.declared.What.{What}
 use Rattle.sifc_def.specs.declared.What.TheVariants.{Placeholder, Function, Variable, Other}
-use Rattle.sifc_def.specs.declared.Why.TheVariants.{UndeclSym, WrongFnParmCnt}
+use Rattle.sifc_err.specs.declared.parse_err.ParseErrTy.TheVariants.{UndeclSym, WrongFnParmCnt}
 use Rattle.sifc_def.specs.State.{Node, Ctx, St, Out, done, refuse, go_on, name_at, panic_at, throw, throw_past, push, set_nodes, without}
 use Rattle.sifc_def.specs.Symbols.{find, retrieve}
 use Rattle.sifc_def.specs.Expr.{assign_var, is_named, call_counted, call_declared, known, check_name}
@@ -24,7 +25,7 @@ use Rattle.sifc_step.specs.Abs.{node_in, nodes_of, ctx_at, abs_at, kind_at, Read
 use Rattle.sifc_step.specs.Small.{node_of}
 use Rattle.sifc_step.proofs.Steps.{At, off-is, length-nodes, kept-same, ctx-kept}
 use Rattle.sifc_step.proofs.Small.{alike, least, refuses, stays}
-use Rattle.sifc_name.specs.Name.{kind_of, found_at, Looks, is_known, Shifts}
+use Rattle.sifc_name.specs.Name.{kind_of, found_at, Looks, is_known}
 
 -- ── tokens ──
 
@@ -93,42 +94,18 @@ none-known p i None d e en = ap is_std_lib_fn en ∙ ap (λ (o : Option What). i
 
 -- ── a node taken out: those after it move down ──
 
--- elements that stand where they stood, and those that have moved, when number i is next
-pub record Shifting (a₀ : List ℕ) (from to : ℕ) (a : List ℕ) (i : ℕ) : Type 0 where
-  pub long : length a ≡ length a₀
-  pub begun : from ≤ i
-  pub within : i < to
-  pub low : (k : ℕ) → k < from → get_or a k 0 ≡ get_or a₀ k 0
-  pub moved : (k : ℕ) → from ≤ k → k < i → get_or a k 0 ≡ get_or a₀ (k + 1) 0
-  pub rest : (k : ℕ) → i ≤ k → get_or a k 0 ≡ get_or a₀ k 0
+-- the elements after number `from` and before number `to` stand one lower
+pub record Shifts (a : List ℕ) (from to : ℕ) (a' : List ℕ) : Type 0 where
+  pub low : (k : ℕ) → k < from → get_or a' k 0 ≡ get_or a k 0
+  pub moved : (k : ℕ) → from ≤ k → k + 1 < to → get_or a' k 0 ≡ get_or a (k + 1) 0
 
-pub shifting : (a : List ℕ) (from to : ℕ) → from < to → Shifting a from to a from
-shifting a from to h = record { long = refl; begun = omega arith; within = h; low = λ k z. refl; moved = λ k z y. absurd (omega arith); rest = λ k z. refl }
-
-pub shifted-on : {a₀ : List ℕ} {from to : ℕ} {a : List ℕ} {i : ℕ} → Shifting a₀ from to a i → i < length a → i + 1 < to → Shifting a₀ from to (set a i (get_or a (i + 1) 0)) (i + 1)
-shifted-on {a₀} {from} {to} {a} {i} t h lt =
+-- they do after they are copied to number `from`
+pub shifted : {a a' : List ℕ} {from to : ℕ} → CopiedTo a a' (from + 1) from (to - (from + 1)) → SameBelow a a' from → Shifts a from to a'
+shifted {a} {a'} {from} {to} c s =
     record {
-      long = simp length-set t.long;
-      begun = omega (arith, t.begun);
-      within = lt;
-      low = λ k z. get_or-set_other a i k (get_or a (i + 1) 0) 0 (λ e. omega (arith, t.begun)) ∙ t.low k z;
-      moved = λ k z y. pick k z y (eqb k i) refl;
-      rest = λ k z. get_or-set_other a i k (get_or a (i + 1) 0) 0 (λ e. omega arith) ∙ t.rest k (omega arith);
+      low = λ k h. s k 0 h;
+      moved = λ k h g. c k 0 h (omega arith) ∙ ap (λ (i : ℕ). get_or a i 0) (let e : from + 1 + (k - from) ≡ k + 1 = omega arith in e);
     }
-  where
-    less : (k i : ℕ) → k < i + 1 → (k ≡ i → ⊥) → k < i
-    less k i y ne = omega (arith, ne)
-
-    pick : (k : ℕ) → from ≤ k → k < i + 1 → (b : Bool) → eqb k i ≡ b → get_or (set a i (get_or a (i + 1) 0)) k 0 ≡ get_or a₀ (k + 1) 0
-    pick k z y true e =
-        let ki : k ≡ i = eqb→eq k i (rw e tt) in
-        ap (λ (j : ℕ). get_or (set a i (get_or a (i + 1) 0)) j 0) ki ∙ get_or-set_same a i (get_or a (i + 1) 0) 0 h ∙ t.rest (i + 1) (omega arith) ∙ ap (λ (j : ℕ). get_or a₀ (j + 1) 0) (sym ki)
-    pick k z y false e =
-        let ne : k ≡ i → ⊥ = λ q. let x : ◌≡◌ {A = Bool} true false = sym (eq-eqb k i q) ∙ e in let v : ◌≡◌ {A = ℕ} 0 1 = cc in omega arith in
-        get_or-set_other a i k (get_or a (i + 1) 0) 0 ne ∙ t.moved k z (less k i y ne)
-
-pub shifted : {a₀ : List ℕ} {from to : ℕ} {a : List ℕ} {i : ℕ} → Shifting a₀ from to a i → to ≤ i + 1 → Shifts a₀ from to a
-shifted t h = record { low = t.low; moved = λ k z y. t.moved k z (omega (arith, t.within)) }
 
 nodes-same : (m : ℕ) (hs ls hs' ls' : List ℕ) → ((k : ℕ) → k < m → get_or hs' k 0 ≡ get_or hs k 0) → ((k : ℕ) → k < m → get_or ls' k 0 ≡ get_or ls k 0) → nodes_of m hs' ls' ≡ nodes_of m hs ls
 unfolding nodes_of

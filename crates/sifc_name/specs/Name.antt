@@ -1,5 +1,5 @@
 -- What the functions that ask the symbol table promise, and those that they call.
-use Rattle.std.specs.Prelude.{Option as Found, ℕ, ◌+◌, ◌≤◌, ◌<◌, ◌≡◌, List, Bool, true, get_or}
+use Rattle.std.specs.Prelude.{Option as Found, ℕ, ◌<◌, ◌≡◌, List, Bool, true}
 use Rattle.std.proofs.Math.Option.{Option, none, some}
 use Rattle.sifc_word.specs.Reserved.{is_std_lib_fn}
 use Rattle.sifc_def.specs.declared.What.{What}
@@ -26,8 +26,3 @@ pub record Looks (p : Parser) (i : ℕ) (r : Found What) : Type 0 where
 unfoldable pub is_known : Option What → List ℕ → Bool
 is_known (some w) n = true
 is_known none n = is_std_lib_fn n
-
--- the elements after number `from` and before number `to` stand one lower
-pub record Shifts (a : List ℕ) (from to : ℕ) (a' : List ℕ) : Type 0 where
-  pub low : (k : ℕ) → k < from → get_or a' k 0 ≡ get_or a k 0
-  pub moved : (k : ℕ) → from ≤ k → k + 1 < to → get_or a' k 0 ≡ get_or a (k + 1) 0

@@ -5,30 +5,15 @@ ghost use Rattle.sifc_def.specs.Expr.{assign_var, ident_expr, assign_token, assi
 ghost use Rattle.sifc_symtab.specs.Table.{name_in, found_of, value_in};
 ghost use Rattle.sifc_step.specs.Abs.{ctx_at, here, Ready, Does, lifted};
 ghost use Rattle.sifc_step.specs.Small.{node_of, HeadWord};
-ghost use Rattle.sifc_name.specs.Name.{kind_of, found_at, Looks, is_known, Shifts};
+ghost use Rattle.sifc_name.specs.Name.{kind_of, found_at, Looks, is_known};
 
+use sifc_def::ast::{ARRAY_ACCESS, ARRAY_MUT_EXPR, FN_CALL_EXPR, PRIMARY_EXPR, VAR_ASSIGN_EXPR};
 use sifc_def::{What, Why};
-use sifc_err::Refusal;
+use sifc_err::{Fault, Refusal};
 use sifc_step::{Parser, Stop, Target, head_word};
-use sifc_symtab::{name, retrieve};
+use sifc_symtab::{SymTab, Tokens};
 use sifc_word::is_std_lib_fn;
-
-const IDENT: u32 = 31;
-
-const STR: u32 = 32;
-
-const EOF: u32 = 47;
-
-// Kinds of nodes.
-const ARRAY_ACCESS: u32 = 18;
-
-const ARRAY_MUT_EXPR: u32 = 19;
-
-const FN_CALL_EXPR: u32 = 20;
-
-const VAR_ASSIGN_EXPR: u32 = 21;
-
-const PRIMARY_EXPR: u32 = 24;
+use sifc_word::kind::{EOF, IDENT, STR};
 
 // The kind of token i; Eof past the tokens.
 fn token_kind(p: &Parser<'_>, i: usize) -> u32
@@ -41,12 +26,33 @@ fn token_kind(p: &Parser<'_>, i: usize) -> u32
     EOF
 }
 
+// Token i's name.
+fn name<'a>(p: &Parser<'a>, i: usize) -> &'a [u8]
+    ensures { result.now ≡ name_in p.now.script.now p.now.offs.now p.now.words.now i }
+{
+    let tokens = Tokens {
+        script: p.script,
+        offs: p.offs,
+        words: p.words,
+    };
+    tokens.name(i)
+}
+
 // What token i's name was declared as.
 fn look_up(p: &Parser<'_>, i: usize) -> Option<What>
     requires { Ready p.now }
     ensures { Looks p.now i result }
 {
-    retrieve(p.script, p.offs, p.words, p.symbols, p.stored, p.level, i)
+    let table = SymTab {
+        tokens: Tokens {
+            script: p.script,
+            offs: p.offs,
+            words: p.words,
+        },
+        symbols: p.symbols,
+        stored: p.stored,
+    };
+    table.retrieve(p.level, i)
 }
 
 // Whether token i's name is declared, or that of a standard function.
@@ -54,7 +60,7 @@ fn sym_exists(p: &Parser<'_>, i: usize) -> bool
     requires { Ready p.now }
     ensures { result ≡ is_known (found_at p.now i) (name_in p.now.script.now p.now.offs.now p.now.words.now i) }
 {
-    look_up(p, i).is_some() || is_std_lib_fn(name(p.script, p.offs, p.words, i))
+    look_up(p, i).is_some() || is_std_lib_fn(name(p, i))
 }
 
 // The arm of Ident: the name is checked, if names are.
@@ -113,18 +119,6 @@ fn assign_var(p: &mut Parser<'_>, i: usize, found: Option<What>) -> Result<(), S
     Ok(())
 }
 
-// The elements from number `from` + 1 to number `to` - 1 move down by one.
-fn shift_down(a: &mut [u32], from: usize, to: usize)
-    requires { (from < to) × (to ≤ length a.old) }
-    ensures { Shifts a.old from to a.new }
-{
-    let mut i = from;
-    while i + 1 < to {
-        a[i] = a[i + 1];
-        i += 1;
-    }
-}
-
 // Takes out node number `slot`: the nodes after it move down by one. Each enclosing assignment moves a
 // node once at most, so all moves of a reading together are at most the depth limit times the nodes.
 fn take_out(p: &mut Parser<'_>, slot: usize)
@@ -135,8 +129,8 @@ fn take_out(p: &mut Parser<'_>, slot: usize)
     if m <= slot {
         return;
     }
-    shift_down(p.head, slot, m);
-    shift_down(p.load, slot, m);
+    p.head.copy_within(slot + 1..m, slot);
+    p.load.copy_within(slot + 1..m, slot);
     p.nodes = m - 1;
 }
 
@@ -156,11 +150,12 @@ pub fn call_named(p: &mut Parser<'_>, target: Target, sign: usize, n: usize) -> 
     ensures { Does 0 (λ c. call_named c (node_of target) sign n) p.old result p.new }
 {
     if !is_named(p, target) {
-        return Err(Stop::Refused(Refusal::SourceFault(3, p.offs[sign] as usize)));
+        let at = p.offs[sign] as usize;
+        return Err(Stop::Refused(Refusal::SourceFault(Fault::Call as u32, at)));
     }
     let i = target.load as usize;
     let found = look_up(p, i);
-    if is_std_lib_fn(name(p.script, p.offs, p.words, i)) {
+    if is_std_lib_fn(name(p, i)) {
         p.push_node(head_word(FN_CALL_EXPR, true, n + 1), 0)?;
         return Ok(());
     }

@@ -11,47 +11,22 @@ ghost use Rattle.sifc_parse.specs.Cycle.{Blocks, NamesIn};
 
 use sifc_block::{Book, Names, bind, end_block, end_if};
 use sifc_declare::{ident_pair, param_list};
+use sifc_def::ast::{self, CHILD, FN_PARAMS};
 use sifc_def::{What, Why};
 use sifc_err::Refusal;
 use sifc_expr::expr;
 use sifc_step::{Parser, Stop, head_word};
 use sifc_stmt::{expr_stmt, ret_stmt, var_decl};
+use sifc_word::kind::{
+    ELIF, ELSE, EOF, FN, FOR, IF, IN, LEFT_BRACE, LEFT_PAREN, RETURN, RIGHT_BRACE, RIGHT_PAREN, VAR,
+};
 
-const LEFT_PAREN: u32 = 1;
+// The head words of a branch, a loop and a function.
+const ELIF_STMT: u32 = ast::ELIF_STMT + 2 * CHILD;
 
-const RIGHT_PAREN: u32 = 2;
+const FOR_STMT: u32 = ast::FOR_STMT + 3 * CHILD;
 
-const LEFT_BRACE: u32 = 3;
-
-const RIGHT_BRACE: u32 = 4;
-
-const VAR: u32 = 34;
-
-const FN: u32 = 35;
-
-const RETURN: u32 = 36;
-
-const IF: u32 = 39;
-
-const ELIF: u32 = 40;
-
-const ELSE: u32 = 41;
-
-const FOR: u32 = 42;
-
-const IN: u32 = 43;
-
-const EOF: u32 = 47;
-
-// Head words: kind + 64 × children.
-const ELIF_STMT: u32 = 132;
-
-const FOR_STMT: u32 = 197;
-
-const FN_DECL: u32 = 137;
-
-// A kind of node.
-const FN_PARAMS: u32 = 10;
+const FN_DECL: u32 = ast::FN_DECL + 2 * CHILD;
 
 // A declaration.
 #[cycle(declarations)]
@@ -177,17 +152,15 @@ fn branches(p: &mut Parser<'_>, book: &mut Book<'_>, depth: usize) -> Result<(),
     let mut n = 0;
     let mut elses = 0;
     loop {
-        let k = p.kind();
-        if k == ELIF {
-            elif_stmt(p, book, depth)?;
-            n += 1;
-        } else if k == ELSE {
-            else_block(p, book, depth)?;
-            n += 1;
-            elses += 1;
-        } else {
-            return end_if(p, book, n, elses);
+        match p.kind() {
+            ELIF => elif_stmt(p, book, depth)?,
+            ELSE => {
+                else_block(p, book, depth)?;
+                elses += 1;
+            }
+            _ => return end_if(p, book, n, elses),
         }
+        n += 1;
     }
 }
 

@@ -1,10 +1,10 @@
 -- What the walk over all declarations may assume of what it is lent, and what its small functions promise.
-use Rattle.std.specs.Prelude.{ℕ, ◌<◌, ◌≡◌, List, Bool, true, false, length, Result, Ok, Err as Stopped}
+use Rattle.std.specs.Prelude.{ℕ, ◌<◌, ◌≡◌, List, Bool, true, length, Result, Ok, Err as Stopped}
 use Rattle.sifc_err.specs.declared.Refusal.{Refusal}
 use Rattle.sifc_lex.specs.Lex.{lex}
 use Rattle.sifc_word.specs.Kind.{LexPanic}
-use Rattle.sifc_def.specs.declared.Why.{Why}
-use Rattle.sifc_def.specs.declared.Why.TheVariants.{InvalidIdent, InvalidTkn, InvalidTknMsg, InvalidAssign, InvalidForStmt, InvalidIfStmt, TknMismatch, FnParmCntExceeded, WrongFnParmCnt, UndeclSym, UnassignedVar, ExpectedIdent}
+use Rattle.sifc_def.specs.Why.{Why}
+use Rattle.sifc_err.specs.ParseErr.{continuable_of}
 use Rattle.sifc_def.specs.Walk.{End, end}
 use Rattle.sifc_symtab.specs.Table.{Holds}
 use Rattle.sifc_symtab.specs.Toks.{toks_of}
@@ -26,18 +26,7 @@ pub record Starts (s os ks hs ls ps rs : List ℕ) (l : Limits) : Type 0 where
 
 -- "Only TknMismatch and FnParmCntExceeded end the reading."
 abbrev pub does_go_on : Why → Bool
-does_go_on (InvalidIdent i) = true
-does_go_on (InvalidTkn i) = true
-does_go_on (InvalidTknMsg m) = true
-does_go_on (InvalidAssign i) = true
-does_go_on InvalidForStmt = true
-does_go_on InvalidIfStmt = true
-does_go_on (TknMismatch k i) = false
-does_go_on (FnParmCntExceeded n) = false
-does_go_on (WrongFnParmCnt n m) = true
-does_go_on (UndeclSym i) = true
-does_go_on (UnassignedVar i) = true
-does_go_on (ExpectedIdent i) = true
+does_go_on w = continuable_of w
 
 abbrev pub start_walk : Walk
 start_walk = record { at = 0; nodes = 0; symbols = 0; level = 0; errors = 0; check = true }

@@ -7,18 +7,13 @@ ghost use Rattle.sifc_block.specs.Lists.{KeptBook};
 ghost use Rattle.sifc_program.specs.Program.{Starts, Started, does_go_on, ended};
 
 use sifc_block::Book;
+use sifc_def::ast::PROGRAM;
 use sifc_def::{Err as Error, Why};
 use sifc_err::Refusal;
 use sifc_parse::decl;
 use sifc_step::{Limits, Parser, Stop, Walked, head_word};
 use sifc_symtab::open;
-
-const EOF: u32 = 47;
-
-const LEX_PANIC: u32 = 48;
-
-// A kind of node.
-const PROGRAM: u32 = 1;
+use sifc_word::kind::{EOF, LEX_PANIC};
 
 // "a 769th call of `block`, `assign_expr`, `unary_expr` or `fn_call_expr` would be active"
 const DEPTH_LIMIT: usize = 768;

@@ -11,7 +11,7 @@ use Rattle.sifc_tokens.proofs.tokens.Symbol as tokens-symbol
 use Rattle.sifc_tokens.proofs.tokens.Met as tokens-met
 use Rattle.sifc_def.specs.Read.{called, reading as reading_of, text_call}
 use Rattle.sifc_def.specs.Canon.Demand.{FlagDown}
-use Rattle.sifc_lent.specs.Parts.{arrays}
+use Rattle.sifc_lent.specs.Parts.{arrays, arrays_of, KeptLent}
 use Rattle.sifc_read.specs.contracts.reading as reading-call
 use Rattle.sifc_read.proofs.reading.Symbol as reading-symbol
 use Rattle.sifc_read.proofs.reading.Met as reading-met
@@ -55,46 +55,22 @@ module _ {M : Type 1} where
       ≡ tokens_call at.0.now at.1.0.now at.1.1.0.now
   tokens = tokens-met.met
 
-  -- The reading call: answer and the seven arrays at exit are `reading` of the script and the arrays at entry. Demand 3 takes a call that ran with this very promise.
+  -- The reading call: what is lent is the same memory afterwards, and answer and the seven arrays at exit are `reading` of the script and the arrays at entry. Demand 3
+  -- takes a call that ran with this very promise.
   pub reading : Promised M reading-call.ended reading-symbol.code reading-symbol.name λ κs at r end.
-      let a = at.1 in
-      let b = a.1.1.1 in
-      let e = end.1 in
-      let f = e.1.1.1 in
-      ReadingPromise at.0.now
-      (arrays a.0.now a.1.0.now a.1.1.0.now b.0.now b.1.0.now b.1.1.0.now b.1.1.1.0.now)
-      r
-      (arrays e.0.now e.1.0.now e.1.1.0.now f.0.now f.1.0.now f.1.1.0.now f.1.1.1.0.now)
+      KeptLent at.1.0.now end.1.0.now × ReadingPromise at.0.now (arrays_of at.1.0.now) r (arrays_of end.1.0.now)
   reading = reading-met.met
 
-  -- The reading call over a slice of error records: answer, the seven arrays and every record at exit are `reading_records` of the script, the arrays and the records
-  -- at entry.
+  -- The reading call over a slice of error records: the same of what is lent, and answer, the seven arrays and every record at exit are `reading_records` of the
+  -- script, the arrays and the records at entry.
   pub reading-records : Promised M records-call.ended records-symbol.code records-symbol.name λ κs at r end.
-      let a = at.1 in
-      let b = a.1.1.1 in
-      let e = end.1 in
-      let f = e.1.1.1 in
-      recorded r
-      (arrays e.0.now e.1.0.now e.1.1.0.now f.0.now f.1.0.now f.1.1.0.now f.1.1.1.0.now)
-      f.1.1.1.1.0.now
-      ≡ reading_records at.0.now
-      (arrays a.0.now a.1.0.now a.1.1.0.now b.0.now b.1.0.now b.1.1.0.now b.1.1.1.0.now)
-      b.1.1.1.1.0.now
+      KeptLent at.1.0.now end.1.0.now × (recorded r (arrays_of end.1.0.now) end.1.1.0.now ≡ reading_records at.0.now (arrays_of at.1.0.now) at.1.1.0.now)
   reading-records = records-met.met
 
-  -- The text call: answer, the seven arrays and the buffer at exit are `text_call` of the script, the arrays and the buffer at entry. Demand 3 takes a call that ran
-  -- with this very promise.
+  -- The text call: the same of what is lent, and answer, the seven arrays and the buffer at exit are `text_call` of the script, the arrays and the buffer at entry.
+  -- Demand 3 takes a call that ran with this very promise.
   pub text : Promised M text-call.ended text-symbol.code text-symbol.name λ κs at r end.
-      let a = at.1 in
-      let b = a.1.1.1 in
-      let e = end.1 in
-      let f = e.1.1.1 in
-      TextPromise at.0.now
-      (arrays a.0.now a.1.0.now a.1.1.0.now b.0.now b.1.0.now b.1.1.0.now b.1.1.1.0.now)
-      b.1.1.1.1.0.now
-      r
-      (arrays e.0.now e.1.0.now e.1.1.0.now f.0.now f.1.0.now f.1.1.0.now f.1.1.1.0.now)
-      f.1.1.1.1.0.now
+      KeptLent at.1.0.now end.1.0.now × TextPromise at.0.now (arrays_of at.1.0.now) at.1.1.0.now r (arrays_of end.1.0.now) end.1.1.0.now
   text = text-met.met
 
   -- The tokens call that hosts link: the same in numbers.

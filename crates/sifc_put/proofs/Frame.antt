@@ -36,7 +36,7 @@ same-inp : {p q : Writer} → Goes p q → inp_of q ≡ inp_of p
 same-inp g = ap inp_in g.tree
 
 -- What a call does, told by what was read at first.
-does-at : (K : Kind) {p q s : Writer} {r : Result Unit Full} → Goes p q → Writes K q r s → (y : (K (inp_of p)).T) (lo : ℕ) → (K (inp_of p)).S y lo q.node → Wrote ((K (inp_of p)).P y) lo q r s
+pub does-at : (K : Kind) {p q s : Writer} {r : Result Unit Full} → Goes p q → Writes K q r s → (y : (K (inp_of p)).T) (lo : ℕ) → (K (inp_of p)).S y lo q.node → Wrote ((K (inp_of p)).P y) lo q r s
 does-at K {p} {q} {s} {r} g w = subst (λ (I : Inp). (y : (K I).T) (lo : ℕ) → (K I).S y lo q.node → Wrote ((K I).P y) lo q r s) (same-inp g) w.does
 
 module _ {L : Kind} where

@@ -4,3 +4,4 @@ pub mod Rows
 pub mod Stores
 pub mod Commas
 pub mod Heights
+pub mod Items

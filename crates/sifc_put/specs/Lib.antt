@@ -1,4 +1,5 @@
 pub mod Place
 pub mod Post
+pub mod Items
 pub mod Bytes
 pub mod Spans

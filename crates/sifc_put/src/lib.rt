@@ -2,7 +2,6 @@
 // place of the buffer, with a space after it.
 #![tactic(auto)]
 
-pub mod kind;
 mod write;
 
 pub use write::{Full, Tree, Writer};

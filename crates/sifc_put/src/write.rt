@@ -1,8 +1,9 @@
 // What is written at a leaf of the tree or between its parts.
 ghost use Rattle.std.specs.Prelude.{◌≡◌, ◌∷◌, [], ◌++◌, ◌/◌, ◌≤◌, length, get_or};
-ghost use Rattle.sifc_put.specs.Post.{Writes, At, InHeads, CanRead, fixed, token_l, leaf_l, comma, kind_of, children_of, height_of};
+ghost use Rattle.sifc_put.specs.Post.{Writes, At, InHeads, CanRead, list_l, fixed, token_l, leaf_l, comma, kind_of, children_of, height_of};
+ghost use Rattle.sifc_put.specs.Items.{written_l};
 
-use crate::kind::{ARRAY_MUT_EXPR, BINARY_EXPR, TABLE_ACCESS, VAR_ASSIGN_EXPR};
+use sifc_def::ast::{ARRAY_MUT_EXPR, BINARY_EXPR, TABLE_ACCESS, VAR_ASSIGN_EXPR};
 use sifc_step::looseness;
 
 // What is read and never written: a script, its tokens and its tree, as document 01 lays them out.
@@ -122,5 +123,21 @@ impl<'a> Writer<'a> {
         let hi = self.node;
         self.node = hi - 1;
         self.put_token(hi)
+    }
+
+    // So many things with commas between, each written by `item`.
+    pub fn list<F: Fn(&mut Writer<'_>) -> Result<(), Full>>(
+        &mut self,
+        count: usize,
+        item: F,
+    ) -> Result<(), Full>
+        requires { At (list_l (written_l (F.pre item) (F.post item) self.old) count) self.old }
+        ensures { Writes (list_l (written_l (F.pre item) (F.post item) self.old) count) self.old result self.new }
+    {
+        for left in (0..count).rev() {
+            item(self)?;
+            self.separator(left)?;
+        }
+        Ok(())
     }
 }

@@ -2,7 +2,7 @@
 use Rattle.std.specs.Prelude.{Err, Ok, Result}
 use Prim.Native.Nat.{ℕ, ◌≤◌, ◌<◌}
 use mathlib.Core.Path.{◌≡◌, refl, sym, ap, ◌∙◌, subst}
-use mathlib.Core.List.{List, []}
+use mathlib.Core.List.{List}
 use mathlib.Core.Bool.{Bool, true, false}
 use native.Mathlib.Omega.{arith}
 use borrow.Author.Tests.{lt-ltb, ltb-true, ltb-false}
@@ -24,7 +24,6 @@ use Rattle.sifc_step.specs.Abs.{Tokens, inp, mem}
 use Rattle.sifc_step.specs.Book.{Walks}
 use Rattle.sifc_lent.specs.Parts.{arrays, Entered, Fits, finish_of}
 use Rattle.sifc_program.specs.Program.{Starts}
-use Rattle.sifc_lent.proofs.EntryLaws.{entry-same}
 use Rattle.sifc_lent.proofs.LexedLaws.{lexed-tokens}
 use Rattle.sifc_lent.proofs.PartLaws.{Held, used-offs, used-words, used-toks, same-arrays, fits-is, finish-is}
 
@@ -84,34 +83,39 @@ module _ {s o w : List ℕ} {n : ℕ} {e : Ending} {o' w' : List ℕ} (d : Loade
 
 -- ── the walk over the tokens ──
 
-module _ (s : List ℕ) (o w h l y p r : List ℕ) (a : Entered s (arrays o w h l y p r)) {n : ℕ} {e : Ending} {o' w' : List ℕ} (d : Loaded s o w n e o' w') where
+module _ (s : List ℕ) (a : Arrays) (g : Entered s a) {n : ℕ} {e : Ending} {o' w' : List ℕ} (d : Loaded s a.offs a.words n e o' w') where
   -- the arrays after the walk, or before it
-  held : {h' l' y' p' r' : List ℕ} → length h' ≡ length h → length l' ≡ length l → length y' ≡ length y → length p' ≡ length p → length r' ≡ length r → Held s (arrays o w h l y p r) (arrays o' w' h' l' y' p' r')
-  held eh el ey ep er = record { fits = d.fits; even = a.tokens; offs = d.offs; words = d.words; heads = eh; loads = el; symbols = ey; places = ep; reasons = er }
+  held : {h' l' y' p' r' : List ℕ} → length h' ≡ length a.heads → length l' ≡ length a.loads → length y' ≡ length a.symbols → length p' ≡ length a.places → length r' ≡ length a.reasons → Held s a (arrays o' w' h' l' y' p' r')
+  held eh el ey ep er = record { fits = d.fits; even = g.tokens; offs = d.offs; words = d.words; heads = eh; loads = el; symbols = ey; places = ep; reasons = er }
 
-  pub starts : {k : ℕ} → Starts s (take n o') (take n w') h l p r (record { errors = length p; fault = k })
+  pub starts : {k : ℕ} → Starts s (take n o') (take n w') a.heads a.loads a.places a.reasons (record { errors = length a.places; fault = k })
   starts =
-      let b : Held s (arrays o w h l y p r) (arrays o' w' h l y p r) = held refl refl refl refl refl in
+      let c : Arrays = arrays o' w' a.heads a.loads a.symbols a.places a.reasons in
+      let b : Held s a c = held refl refl refl refl refl in
       record {
-        toks = subst (λ (x : List ℕ). Tokens (take n o') x) (sym (used-words s (arrays o w h l y p r) (arrays o' w' h l y p r) b n d.count))
-            (subst (λ (x : List ℕ). Tokens x (words_of (lex s))) (sym (used-offs s (arrays o w h l y p r) (arrays o' w' h l y p r) b n d.count)) (lexed-tokens s a.short));
-        lexed = used-toks s (arrays o w h l y p r) (arrays o' w' h l y p r) b n d.count;
-        short = a.short;
-        even = a.nodes;
-        even-errors = a.errors;
+        toks = subst (λ (x : List ℕ). Tokens (take n o') x) (sym (used-words s a c b n d.count)) (subst (λ (x : List ℕ). Tokens x (words_of (lex s))) (sym (used-offs s a c b n d.count)) (lexed-tokens s g.short));
+        lexed = used-toks s a c b n d.count;
+        short = g.short;
+        even = g.nodes;
+        even-errors = g.errors;
         room = refl;
       }
 
   fault-is : (k : ℕ) → k ≡ fault_of e → k ≡ fault_of (ending s)
   fault-is k f = f ∙ ap fault_of d.ends
 
-  module _ (k : ℕ) (f : k ≡ fault_of e) (h' l' y' p' r' : List ℕ) (z : Result Walked Refusal) (eh : length h' ≡ length h) (el : length l' ≡ length l) (ey : length y' ≡ length y) (ep : length p' ≡ length p) (er : length r' ≡ length r)
-      (v : Walks (inp s (take n o') (take n w') (record { errors = length p; fault = k })) (mem y h l) z (mem y' h' l') p' r') where
-    pub fits : Fits s (arrays o' w' h' l' y' p' r') n z
-    fits = fits-is s (arrays o w h l y p r) (arrays o' w' h' l' y' p' r') (held eh el ey ep er) n d.count (record { errors = length p; fault = k }) refl (fault-is k f) z a.short a.errors v
+  -- the token arrays after the walk are those before it
+  module _ (k : ℕ) (f : k ≡ fault_of e) (os ws h' l' y' p' r' : List ℕ) (eo : os ≡ o') (ew : ws ≡ w') (z : Result Walked Refusal)
+      (eh : length h' ≡ length a.heads) (el : length l' ≡ length a.loads) (ey : length y' ≡ length a.symbols) (ep : length p' ≡ length a.places) (er : length r' ≡ length a.reasons)
+      (v : Walks (inp s (take n o') (take n w') (record { errors = length a.places; fault = k })) (mem a.symbols a.heads a.loads) z (mem y' h' l') p' r') where
+    back : arrays os ws h' l' y' p' r' ≡ arrays o' w' h' l' y' p' r'
+    back = same-arrays eo ew refl refl refl refl refl
 
-    pub walked : {x : Called Reading} → x ≡ finish_of s n z (arrays o' w' h' l' y' p' r') → x ≡ answered s (arrays o w h l y p r) (read (rooms_of (arrays o w h l y p r)) s)
-    walked e = e ∙ finish-is s (arrays o w h l y p r) (arrays o' w' h' l' y' p' r') (held eh el ey ep er) n d.count (record { errors = length p; fault = k }) refl (fault-is k f) z a.errors v
+    pub fits : Fits s (arrays os ws h' l' y' p' r') n z
+    fits = subst (λ (b : Arrays). Fits s b n z) (sym back) (fits-is s a (arrays o' w' h' l' y' p' r') (held eh el ey ep er) n d.count (record { errors = length a.places; fault = k }) refl (fault-is k f) z g.short g.errors v)
+
+    pub walked : {x : Called Reading} → x ≡ finish_of s n z (arrays os ws h' l' y' p' r') → x ≡ answered s a (read (rooms_of a) s)
+    walked e = e ∙ ap (finish_of s n z) back ∙ finish-is s a (arrays o' w' h' l' y' p' r') (held eh el ey ep er) n d.count (record { errors = length a.places; fault = k }) refl (fault-is k f) z g.errors v
 
 -- ── too many tokens ──
 
@@ -123,19 +127,19 @@ zeroed-again : (x x' : List ℕ) → x' ≡ zeroed x → zeroed x' ≡ zeroed x
 unfolding zeroed
 zeroed-again x x' e = ap (λ (z : List ℕ). zeroed z) e ∙ (let q : zeroed (zeroed x) ≡ zeroed x = rw (length-replicate {A = ℕ} (length x) 0) refl in q)
 
-read-over : (s : List ℕ) (a : Arrays) → length a.offs < length (lex s) → read (rooms_of a) s ≡ refused TokensFull
-unfolding read
-read-over s a h = rw (lt-ltb (length a.offs) (length (lex s)) h, read) refl
-
-pub full : (s o w h l y p r : List ℕ) {o' w' : List ℕ} {b : Arrays} → Over s o w o' w' → b ≡ cleared_arrays (arrays o' w' h l y p r) → called (Err TokensFull) b ≡ answered s (arrays o w h l y p r) (read (rooms_of (arrays o w h l y p r)) s)
-unfolding answered
-full s o w h l y p r {o'} {w'} d e =
-    ap (called (Err TokensFull)) (e ∙ same-arrays (zeroed-again o o' d.offs) (zeroed-again w w' d.words) refl refl refl refl refl)
-    ∙ ap (answered s (arrays o w h l y p r)) (sym (read-over s (arrays o w h l y p r) d.over))
-
--- ── entry ──
-
 module _ (s : List ℕ) (a : Arrays) where
+  read-over : length a.offs < length (lex s) → read (rooms_of a) s ≡ refused TokensFull
+  unfolding read
+  read-over h = rw (lt-ltb (length a.offs) (length (lex s)) h, read) refl
+
+  pub full : {o' w' : List ℕ} {b : Arrays} → Over s a.offs a.words o' w' → b ≡ cleared_arrays (record a { offs = o'; words = w' }) → called (Err TokensFull) b ≡ answered s a (read (rooms_of a) s)
+  unfolding answered
+  full {o'} {w'} d e =
+      ap (called (Err TokensFull)) (e ∙ same-arrays (zeroed-again a.offs o' d.offs) (zeroed-again a.words w' d.words) refl refl refl refl refl)
+      ∙ ap (answered s a) (sym (read-over d.over))
+
+  -- ── entry ──
+
   abbrev read_by : Checked → Called Reading
   read_by k = elim k [ Err r ↦ called (Err r) a | Ok _ ↦ answered s a (read (rooms_of a) s) ]
 
@@ -143,9 +147,9 @@ module _ (s : List ℕ) (a : Arrays) where
   unfolding reading_of
   reading-by = refl
 
-module _ (s o w h l y p r : List ℕ) {k : Checked} (e : k ≡ entry s (arrays o w h l [] p r)) where
-  pub read-on : {x : Called Reading} → k ≡ passed → x ≡ answered s (arrays o w h l y p r) (read (rooms_of (arrays o w h l y p r)) s) → x ≡ reading_of s (arrays o w h l y p r)
-  read-on f g = g ∙ sym (ap (read_by s (arrays o w h l y p r)) (sym (e ∙ entry-same s o w h l y p r) ∙ f)) ∙ reading-by s (arrays o w h l y p r)
+  module _ {k : Checked} (e : k ≡ entry s a) where
+    pub read-on : {x : Called Reading} → k ≡ passed → x ≡ answered s a (read (rooms_of a) s) → x ≡ reading_of s a
+    read-on f g = g ∙ sym (ap read_by (sym e ∙ f)) ∙ reading-by
 
-  pub read-not : {f : Refusal} → k ≡ Err f → called (Err f) (arrays o w h l y p r) ≡ reading_of s (arrays o w h l y p r)
-  read-not g = sym (ap (read_by s (arrays o w h l y p r)) (sym (e ∙ entry-same s o w h l y p r) ∙ g)) ∙ reading-by s (arrays o w h l y p r)
+    pub read-not : {f : Refusal} → k ≡ Err f → called (Err f) a ≡ reading_of s a
+    read-not g = sym (ap read_by (sym e ∙ g)) ∙ reading-by

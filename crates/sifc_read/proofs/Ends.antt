@@ -2,7 +2,7 @@
 use Rattle.std.specs.Prelude.{Result, Err, Ok}
 use Prim.Native.Nat.{ℕ}
 use mathlib.Core.Path.{◌≡◌, sym, ap, ap₂, ◌∙◌, subst}
-use mathlib.Core.List.{List, []}
+use mathlib.Core.List.{List}
 use mathlib.Core.Bool.{Bool}
 use lib.ListN.{take}
 use Rattle.sifc_err.specs.declared.Refusal.{Refusal}
@@ -10,28 +10,23 @@ use Rattle.sifc_def.specs.Answer.{Early}
 use Rattle.sifc_def.specs.declared.Summary.{Summary}
 use Rattle.sifc_def.specs.Read.{Arrays, cleared_arrays, called}
 use Rattle.sifc_step.specs.declared.walk.Walked.{Walked}
-use Rattle.sifc_lent.specs.Parts.{arrays, Within, WithinOf, summary_of, settled_of, finish_of}
+use Rattle.sifc_lent.specs.Parts.{WithinOf, Fits, Settles, summary_of, settled_of, finish_of}
 
 pub told : {n k m : ℕ} {flag : Bool} {e e' : Early} → e ≡ e' → ◌≡◌ {A = Summary} (record { tokens = n; nodes = k; errors = m; flag = flag; early = e }) (record { tokens = n; nodes = k; errors = m; flag = flag; early = e' })
 told {n} {k} {m} {flag} e = ap (λ (z : Early). record { tokens = n; nodes = k; errors = m; flag = flag; early = z }) e
 
--- the token arrays stay as they are
-settled-with : (s os : List ℕ) (x : Walked) (o w h l y p r : List ℕ) {h' l' y' p' r' : List ℕ} → arrays [] [] h' l' y' p' r' ≡ settled_of s os x (arrays [] [] h l y p r) → arrays o w h' l' y' p' r' ≡ settled_of s os x (arrays o w h l y p r)
-unfolding settled_of
-settled-with s os x o w h l y p r e = ap (λ (z : Arrays). arrays o w z.heads z.loads z.symbols z.places z.reasons) e
+module _ (s : List ℕ) (n : ℕ) (a : Arrays) {walked : Result Walked Refusal} where
+  -- the token arrays stay as they are, so the answer may be read off them afterwards
+  pub finished : {x : Walked} {m : Summary} {b : Arrays} {os ws : List ℕ} → walked ≡ Ok x → b ≡ settled_of s (take n a.offs) x a → os ≡ take n b.offs → ws ≡ take n b.words → m ≡ summary_of s os ws x → called (Ok m) b ≡ finish_of s n walked a
+  unfolding finish_of settled_of
+  finished {x} {m} {b} {os} {ws} ew ea eo eu em =
+      let o : os ≡ take n a.offs = eo ∙ ap (λ (z : Arrays). take n z.offs) ea in
+      let w : ws ≡ take n a.words = eu ∙ ap (λ (z : Arrays). take n z.words) ea in
+      ap₂ (λ (z : Summary) (c : Arrays). called (Ok z) c) (em ∙ ap₂ (λ (u v : List ℕ). summary_of s u v x) o w) ea ∙ ap (λ (z : Result Walked Refusal). finish_of s n z a) (sym ew)
 
-module _ (s : List ℕ) (n : ℕ) (o w h l y p r : List ℕ) {walked : Result Walked Refusal} where
-  pub finished : {x : Walked} {m : Summary} {h' l' y' p' r' : List ℕ} → walked ≡ Ok x
-      → m ≡ summary_of s (take n o) (take n w) x → arrays [] [] h' l' y' p' r' ≡ settled_of s (take n o) x (arrays [] [] h l y p r)
-      → called (Ok m) (arrays o w h' l' y' p' r') ≡ finish_of s n walked (arrays o w h l y p r)
+  pub refused : {f : Refusal} {b : Arrays} → walked ≡ Err f → b ≡ cleared_arrays a → called (Err f) b ≡ finish_of s n walked a
   unfolding finish_of
-  finished {x} ew em ea =
-      ap₂ (λ (z : Summary) (a : Arrays). called (Ok z) a) em (settled-with s (take n o) x o w h l y p r ea)
-      ∙ ap (λ (z : Result Walked Refusal). finish_of s n z (arrays o w h l y p r)) (sym ew)
+  refused {f} ew ea = ap (called (Err f)) ea ∙ ap (λ (z : Result Walked Refusal). finish_of s n z a) (sym ew)
 
-  pub refused : {f : Refusal} {a : Arrays} → walked ≡ Err f → a ≡ cleared_arrays (arrays o w h l y p r) → called (Err f) a ≡ finish_of s n walked (arrays o w h l y p r)
-  unfolding finish_of
-  refused {f} {a} ew ea = ap (called (Err f)) ea ∙ ap (λ (z : Result Walked Refusal). finish_of s n z (arrays o w h l y p r)) (sym ew)
-
-pub within-found : (a : Arrays) {walked : Result Walked Refusal} {x : Walked} → WithinOf a walked → walked ≡ Ok x → Within x.nodes x.errors a.heads a.loads a.places a.reasons
-within-found a q e = subst (λ (z : Result Walked Refusal). WithinOf a z) e q
+  pub settles : {x : Walked} → Fits s a n walked → walked ≡ Ok x → Settles s a n x
+  settles d e = record { short = d.short; offs = d.offs.fits; within = subst (λ (z : Result Walked Refusal). WithinOf a z) e d.within }

@@ -1,12 +1,12 @@
 // The reading call.
 ghost use Rattle.std.specs.Prelude.{◌≡◌};
 ghost use Rattle.sifc_def.specs.Read.{fault_of, rooms_of, read, called, answered, reading as reading_of};
-ghost use Rattle.sifc_lent.specs.Parts.{arrays, Entered};
+ghost use Rattle.sifc_lent.specs.Parts.{arrays_of, KeptLent, Entered};
 
 use crate::finish::finish;
 use sifc_def::Summary;
 use sifc_err::{Ending, Refusal};
-use sifc_lent::{clear_all, entry_tests};
+use sifc_lent::Lent;
 use sifc_program::parse;
 use sifc_step::Limits;
 use sifc_tokens::lex_tokens;
@@ -21,45 +21,35 @@ fn fault_of(ending: Ending) -> u32
     }
 }
 
-// The call behind the tests of entry: the token list, the walk, and what it leaves.
-pub fn after_entry(
-    script: &[u8],
-    offs: &mut [u32],
-    words: &mut [u32],
-    heads: &mut [u32],
-    loads: &mut [u32],
-    symbols: &mut [u32],
-    places: &mut [u32],
-    reasons: &mut [u32],
-) -> Result<Summary, Refusal>
-    requires { Entered script.now (arrays offs.old words.old heads.old loads.old symbols.old places.old reasons.old) }
-    ensures { called result (arrays offs.new words.new heads.new loads.new symbols.new places.new reasons.new) ≡ answered script.now (arrays offs.old words.old heads.old loads.old symbols.old places.old reasons.old) (read (rooms_of (arrays offs.old words.old heads.old loads.old symbols.old places.old reasons.old)) script.now) }
+// The call behind the tests of entry: the token list, the walk, and what it leaves. What the walk only
+// reads is cut by `&mut`: the check has no rule for a `&` of one lent array beside a `&mut` of another.
+pub fn after_entry(script: &[u8], lent: &mut Lent<'_>) -> Result<Summary, Refusal>
+    requires { Entered script.now (arrays_of lent.old) }
+    ensures kept { KeptLent lent.old lent.new }
+    ensures answer { called result (arrays_of lent.new) ≡ answered script.now (arrays_of lent.old) (read (rooms_of (arrays_of lent.old)) script.now) }
 {
-    let lexed = lex_tokens(script, offs, words);
+    let lexed = lex_tokens(script, lent.offs, lent.words);
     let Ok(ended) = lexed else {
-        clear_all(offs, words, heads, loads, symbols, places, reasons, 0);
+        lent.clear_all(0);
         return Err(Refusal::TokensFull);
     };
     let lim = Limits {
-        errors: places.len(),
+        errors: lent.places.len(),
         fault: fault_of(ended.ending),
     };
     let n = ended.count;
-    let os = &offs[..n];
-    let ws = &words[..n];
-    let walked = parse(script, os, ws, symbols, heads, loads, places, reasons, lim);
-    finish(
+    let walked = parse(
         script,
-        offs,
-        words,
-        heads,
-        loads,
-        symbols,
-        places,
-        reasons,
-        ended.count,
-        walked,
-    )
+        &mut lent.offs[..n],
+        &mut lent.words[..n],
+        lent.symbols,
+        lent.heads,
+        lent.loads,
+        lent.places,
+        lent.reasons,
+        lim,
+    );
+    finish(script, lent, n, walked)
 }
 
 // Reads a script into lent arrays: how many tokens, nodes and errors, has_err and the error that
@@ -68,18 +58,9 @@ pub fn after_entry(
 // error i the last two 65536 * (line - 1) + column and reason + 16 * first + 1048576 * second of
 // what the reason carries. Every element past these is 0, and so are the symbol words. Refusals 1
 // to 3 leave the arrays as they were, the others set every element to 0.
-pub fn reading(
-    script: &[u8],
-    offs: &mut [u32],
-    words: &mut [u32],
-    heads: &mut [u32],
-    loads: &mut [u32],
-    symbols: &mut [u32],
-    places: &mut [u32],
-    reasons: &mut [u32],
-) -> Result<Summary, Refusal>
-    ensures { called result (arrays offs.new words.new heads.new loads.new symbols.new places.new reasons.new) ≡ reading_of script.now (arrays offs.old words.old heads.old loads.old symbols.old places.old reasons.old) }
+pub fn reading(script: &[u8], lent: &mut Lent<'_>) -> Result<Summary, Refusal>
+    ensures { KeptLent lent.old lent.new × (called result (arrays_of lent.new) ≡ reading_of script.now (arrays_of lent.old)) }
 {
-    entry_tests(script, offs, words, heads, loads, places, reasons)?;
-    after_entry(script, offs, words, heads, loads, symbols, places, reasons)
+    lent.entry_tests(script)?;
+    after_entry(script, lent)
 }

@@ -1,17 +1,16 @@
 -- The record of an error out of its two words, and the records of a slice. "Errors go to a lent slice of error records."
-use Rattle.std.specs.Prelude.{ℕ, ◌+◌, ◌-◌, ◌/◌, ◌%◌, ◌≤◌, ◌<◌, List, [], ◌∷◌, ◌++◌, eqb, length, take, drop, replicate}
+use Rattle.std.specs.Prelude.{ℕ, ◌+◌, ◌-◌, ◌/◌, ◌%◌, ◌≤◌, ◌<◌, List, [], ◌∷◌, ◌++◌, eqb, length, take, drop, replicate, Some, None}
 use Rattle.sifc_err.specs.declared.Token.{Token}
 use Rattle.sifc_err.specs.declared.parse_err.ParseErr.{ParseErr}
-use Rattle.sifc_err.specs.declared.parse_err.ParseErrTy.TheVariants.{NoReason}
 use Rattle.sifc_word.specs.Base.{if◌then◌otherwise◌}
-use Rattle.sifc_def.specs.declared.Why.{Why}
-use Rattle.sifc_def.specs.declared.Why.TheVariants.{InvalidIdent, InvalidTkn, InvalidTknMsg, InvalidAssign, InvalidForStmt, InvalidIfStmt, TknMismatch, FnParmCntExceeded, WrongFnParmCnt, UndeclSym, UnassignedVar, ExpectedIdent}
+use Rattle.sifc_def.specs.Why.{Why}
+use Rattle.sifc_err.specs.declared.parse_err.ParseErrTy.TheVariants.{InvalidIdent, InvalidTkn, InvalidTknMsg, InvalidAssign, InvalidForStmt, InvalidIfStmt, TknMismatch, FnParmCntExceeded, WrongFnParmCnt, UndeclSym, UnassignedVar, ExpectedIdent}
 use Rattle.sifc_def.specs.Error.{ty_of}
 use Rattle.sifc_lent.specs.Parts.{bare}
 
 -- "error records blank: line 0, column 0, no reason"
 abbrev pub blank_err : ParseErr
-blank_err = record { line = 0; pos = 0; ty = NoReason }
+blank_err = record { line = 0; pos = 0; ty = None }
 
 -- ── the record of an error's two words ──
 
@@ -40,7 +39,7 @@ why_of w = why_by (w % 16) (w / 16 % 65536) (w / 1048576)
 
 -- the first word is 65536 × (line - 1) + column
 abbrev pub record_of : List Token → ℕ → ℕ → ParseErr
-record_of ts p w = record { line = p / 65536 + 1; pos = p % 65536; ty = ty_of (bare [] ts) (why_of w) }
+record_of ts p w = record { line = p / 65536 + 1; pos = p % 65536; ty = Some (ty_of (bare [] ts) (why_of w)) }
 
 -- the records of two lists of words
 unfoldable pub records_in : List Token → List ℕ → List ℕ → List ParseErr
@@ -48,10 +47,8 @@ records_in ts [] ws = []
 records_in ts (p ∷ ps) [] = []
 records_in ts (p ∷ ps) (w ∷ ws) = record_of ts p w ∷ records_in ts ps ws
 
--- what is asked of the words of error i: it is there, and so are the tokens
-pub record Readable (os ks ps rs : List ℕ) (tokens i : ℕ) : Type 0 where
-  pub offs : tokens ≤ length os
-  pub words : tokens ≤ length ks
+-- what is asked of the words of error i: they are there
+pub record Readable (ps rs : List ℕ) (i : ℕ) : Type 0 where
   pub place : i < length ps
   pub reason : i < length rs
 
@@ -65,10 +62,8 @@ blank_from from rs = take from rs ++ replicate (length rs - from) blank_err
 unfoldable pub filled_of : List Token → List ℕ → List ℕ → ℕ → ℕ → List ParseErr → List ParseErr
 filled_of ts ps ws n from rs = blank_from from (records_in ts (take n ps) (take n ws) ++ drop n rs)
 
--- what is asked for that: the tokens, the words of n errors and room for their records are there
-pub record Fillable (os ks ps rs : List ℕ) (tokens n from len : ℕ) : Type 0 where
-  pub offs : tokens ≤ length os
-  pub words : tokens ≤ length ks
+-- what is asked for that: the words of n errors and room for their records are there
+pub record Fillable (ps rs : List ℕ) (n from len : ℕ) : Type 0 where
   pub places : n ≤ length ps
   pub reasons : n ≤ length rs
   pub used : n ≤ from

@@ -5,5 +5,5 @@
 mod record;
 mod slice;
 
-pub use record::{blank, record_at};
+pub use record::{ErrorWords, blank};
 pub use slice::{clear, fill, push};

@@ -1,11 +1,11 @@
-// An error's record out of its two words and the token arrays.
-ghost use Rattle.std.specs.Prelude.{◌≡◌, take, get_or};
-ghost use Rattle.sifc_symtab.specs.Toks.{toks_of};
+// An error's record out of its two words and the tokens.
+ghost use Rattle.std.specs.Prelude.{◌≡◌, get_or};
+ghost use Rattle.sifc_lent.specs.Parts.{toks_in};
 ghost use Rattle.sifc_record.specs.Record.{blank_err, invalid_tkn, why_of, record_of, Readable};
 
 use sifc_def::Why;
-use sifc_err::{ParseErr, ParseErrTy};
-use sifc_lent::ty_of;
+use sifc_err::ParseErr;
+use sifc_lent::Toks;
 
 // The record of no error: line 0, column 0, no reason.
 pub fn blank() -> ParseErr
@@ -14,7 +14,7 @@ pub fn blank() -> ParseErr
     ParseErr {
         line: 0,
         pos: 0,
-        ty: ParseErrTy::NoReason,
+        ty: None,
     }
 }
 
@@ -52,24 +52,27 @@ fn why_of(word: u32) -> Why
     }
 }
 
-// The record of error i, where the first elements of the token arrays are the tokens.
-pub fn record_at(
-    offs: &[u32],
-    words: &[u32],
-    places: &[u32],
-    reasons: &[u32],
-    tokens: usize,
-    i: usize,
-) -> ParseErr
-    requires { Readable offs.now words.now places.now reasons.now tokens i }
-    ensures { result ≡ record_of (toks_of (take tokens offs.now) (take tokens words.now)) (get_or places.now i 0) (get_or reasons.now i 0) }
-{
-    let place = places[i];
-    let why = why_of(reasons[i]);
-    let ty = ty_of(&offs[..tokens], &words[..tokens], why);
-    ParseErr {
-        line: (place / 65536) as usize + 1,
-        pos: (place % 65536) as usize,
-        ty,
+// What the records of a reading's errors are read from: the tokens, and the two words of each error.
+#[derive(Clone, Copy)]
+pub struct ErrorWords<'a> {
+    pub toks: Toks<'a>,
+    pub places: &'a [u32],
+    pub reasons: &'a [u32],
+}
+
+impl<'a> ErrorWords<'a> {
+    // The record of error i.
+    pub fn record_at(&self, i: usize) -> ParseErr
+        requires { Readable self.now.places.now self.now.reasons.now i }
+        ensures { result ≡ record_of (toks_in self.now.toks) (get_or self.now.places.now i 0) (get_or self.now.reasons.now i 0) }
+    {
+        let place = self.places[i];
+        let why = why_of(self.reasons[i]);
+        let ty = self.toks.ty_of(why);
+        ParseErr {
+            line: (place / 65536) as usize + 1,
+            pos: (place % 65536) as usize,
+            ty: Some(ty),
+        }
     }
 }

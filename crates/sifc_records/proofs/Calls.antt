@@ -2,7 +2,7 @@
 use Rattle.std.specs.Prelude.{Err, Ok}
 use Prim.Native.Nat.{ℕ}
 use mathlib.Core.Path.{◌≡◌, refl, sym, ap, ap₂, ◌∙◌}
-use mathlib.Core.List.{List, []}
+use mathlib.Core.List.{List}
 use borrow.Author.Tests.{eq-eqb, ne_eqb}
 use lib.Dec.{eqb}
 use lib.ListN.{length}
@@ -11,9 +11,9 @@ use Rattle.sifc_err.specs.declared.Refusal.{Refusal}
 use Rattle.sifc_err.specs.declared.Refusal.TheVariants.{Uneven}
 use Rattle.sifc_word.specs.Base.{if◌then◌otherwise◌}
 use Rattle.sifc_def.specs.Answer.{Reading}
-use Rattle.sifc_def.specs.Read.{Arrays, called, rooms_of, entry, even, read, answered}
-use Rattle.sifc_lent.specs.Parts.{arrays, Entered}
-use Rattle.sifc_lent.proofs.EntryLaws as words
+use Rattle.sifc_def.specs.Read.{Arrays, called, rooms_of, entry, read, answered}
+use Rattle.sifc_lent.specs.Parts.{Entered}
+use Rattle.sifc_lent.proofs.EntryLaws.{entered-is}
 use Rattle.sifc_records.specs.declared.call.Told.{Told}
 use Rattle.sifc_records.specs.Records.{entry_records}
 use Rattle.sifc_records.proofs.RecordLaws.{entry_by, entry-by, entry_of}
@@ -37,11 +37,6 @@ module _ (s : List ℕ) (a : Arrays) (n : ℕ) {k : Checked} (e : k ≡ entry s 
   pub not-passed : (f : Refusal) → k ≡ Err f → Err f ≡ entry_records s a n
   not-passed f g = sym (ap (λ (x : Checked). entry_by x (eqb (length a.places) n)) (sym e ∙ g)) ∙ entry-by s a n
 
--- the tests look at no symbol word
-pub entry-same : (s o w h l y p r : List ℕ) (n : ℕ) → entry_records s (arrays o w h l [] p r) n ≡ entry_records s (arrays o w h l y p r) n
-unfolding entry_records entry even
-entry-same s o w h l y p r n = refl
-
 -- ── the call on words ──
 
 -- by the tests of entry
@@ -53,15 +48,14 @@ pub read-by : (s : List ℕ) (a : Arrays) (n : ℕ) → read_by s a n (entry_rec
 unfolding read_words
 read-by s a n = refl
 
-module _ (s o w h l y p r : List ℕ) (n : ℕ) {k : Checked} (e : k ≡ entry_records s (arrays o w h l [] p r) n) where
-  pub entered : k ≡ passed → Entered s (arrays o w h l y p r)
-  entered f = words.entered s o w h l y p r {k = entry s (arrays o w h l [] p r)} refl (entry_of s (arrays o w h l [] p r) n (sym e ∙ f)).0
+module _ (s : List ℕ) (a : Arrays) (n : ℕ) {k : Checked} (e : k ≡ entry_records s a n) where
+  pub entered : k ≡ passed → Entered s a
+  entered f = entered-is s a (entry_of s a n (sym e ∙ f)).0
 
   -- where they pass, the call on words goes on
-  pub read-on : {x : Reading} {t : Told} {b : Arrays} → k ≡ passed → t ≡ told_of x → called x b ≡ answered s (arrays o w h l y p r) (read (rooms_of (arrays o w h l y p r)) s) → kept t b ≡ read_words s (arrays o w h l y p r) n
-  read-on {x} {t} {b} f g d =
-      ap (λ (z : Told). kept z b) g ∙ ap kept_of d ∙ sym (ap (read_by s (arrays o w h l y p r) n) (sym (e ∙ entry-same s o w h l y p r n) ∙ f)) ∙ read-by s (arrays o w h l y p r) n
+  pub read-on : {x : Reading} {t : Told} {b : Arrays} → k ≡ passed → t ≡ told_of x → called x b ≡ answered s a (read (rooms_of a) s) → kept t b ≡ read_words s a n
+  read-on {x} {t} {b} f g d = ap (λ (z : Told). kept z b) g ∙ ap kept_of d ∙ sym (ap (read_by s a n) (sym e ∙ f)) ∙ read-by s a n
 
   -- where they do not, nothing is touched
-  pub read-not : (f : Refusal) → k ≡ Err f → kept (told (Err f) 0 0 n) (arrays o w h l y p r) ≡ read_words s (arrays o w h l y p r) n
-  read-not f g = sym (ap (read_by s (arrays o w h l y p r) n) (sym (e ∙ entry-same s o w h l y p r n) ∙ g)) ∙ read-by s (arrays o w h l y p r) n
+  pub read-not : (f : Refusal) → k ≡ Err f → kept (told (Err f) 0 0 n) a ≡ read_words s a n
+  read-not f g = sym (ap (read_by s a n) (sym e ∙ g)) ∙ read-by s a n

@@ -17,8 +17,8 @@ use Rattle.sifc_lex.specs.Lex.{lex}
 use Rattle.sifc_lex.proofs.LexLaws.{lex-count}
 use Rattle.sifc_tokens.specs.Place.{place_of}
 use Rattle.sifc_def.specs.declared.Err.{Err as WalkErr}
-use Rattle.sifc_def.specs.declared.Why.{Why}
-use Rattle.sifc_def.specs.declared.Why.TheVariants.{InvalidIdent, InvalidTkn, InvalidTknMsg, InvalidAssign, InvalidForStmt, InvalidIfStmt, TknMismatch, FnParmCntExceeded, WrongFnParmCnt, UndeclSym, UnassignedVar, ExpectedIdent}
+use Rattle.sifc_def.specs.Why.{Why}
+use Rattle.sifc_err.specs.declared.parse_err.ParseErrTy.TheVariants.{InvalidIdent, InvalidTkn, InvalidTknMsg, InvalidAssign, InvalidForStmt, InvalidIfStmt, TknMismatch, FnParmCntExceeded, WrongFnParmCnt, UndeclSym, UnassignedVar, ExpectedIdent}
 use Rattle.sifc_def.specs.Answer.{Reading}
 use Rattle.sifc_def.specs.Error.{ty_of, carried, carried_too, place_at, parse_err, err_place, err_reason}
 use Rattle.sifc_def.specs.State.{Ctx, Out, done, fail, refuse, tok_at}
@@ -67,21 +67,6 @@ why-back c (UndeclSym i) h p = unpacked 9 i 0 (omega arith) h
 why-back c (UnassignedVar i) h p = unpacked 10 i 0 (omega arith) h
 why-back c (ExpectedIdent i) h p = unpacked 11 i 0 (omega arith) h
 
--- a reason's tokens are looked up in the token list alone
-ty-bare : (c : Ctx) (w : Why) → ty_of (bare [] c.toks) w ≡ ty_of c w
-ty-bare c (InvalidIdent i) = refl
-ty-bare c (InvalidTkn i) = refl
-ty-bare c (InvalidTknMsg m) = refl
-ty-bare c (InvalidAssign i) = refl
-ty-bare c InvalidForStmt = refl
-ty-bare c InvalidIfStmt = refl
-ty-bare c (TknMismatch k i) = refl
-ty-bare c (FnParmCntExceeded n) = refl
-ty-bare c (WrongFnParmCnt n m) = refl
-ty-bare c (UndeclSym i) = refl
-ty-bare c (UnassignedVar i) = refl
-ty-bare c (ExpectedIdent i) = refl
-
 -- The two words of an error are its record's.
 pub record-back : (c : Ctx) (e : WalkErr) → length c.script ≤ 65535 → carried e.why < 65536 → Spoken e.why → record_of c.toks (err_place c e) (err_reason c e) ≡ parse_err c e
 unfolding err_place parse_err place_at
@@ -90,7 +75,7 @@ record-back c e s h p =
     let f : PlaceFits (place_of c.script (tok_at c e.place).off) = place-fits c.script (tok_at c e.place).off s in
     let line : err_place c e / 65536 + 1 ≡ (place_of c.script (tok_at c e.place).off).line = omega (arith, f.first, f.pos) in
     let pos : err_place c e % 65536 ≡ (place_of c.script (tok_at c e.place).off).pos = omega (arith, f.first, f.pos) in
-    let ty : ty_of (bare [] c.toks) (why_of (err_reason c e)) ≡ ty_of c e.why = ap (ty_of (bare [] c.toks)) (why-back c e.why h p) ∙ ty-bare c e.why in
+    let ty : ty_of (bare [] c.toks) (why_of (err_reason c e)) ≡ ty_of c e.why = ap (ty_of (bare [] c.toks)) (why-back c e.why h p) in
     cc
 
 -- ── all errors of a reading ──

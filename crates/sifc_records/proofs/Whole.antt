@@ -2,7 +2,7 @@
 use Rattle.std.specs.Prelude.{Ok, Err}
 use Prim.Native.Nat.{ℕ, ◌-◌, ◌≤◌}
 use mathlib.Core.Path.{◌≡◌, refl, sym, ap, ap₂, ◌∙◌, subst}
-use mathlib.Core.List.{List, [], ◌++◌, map, append-nil}
+use mathlib.Core.List.{List, ◌++◌, map, append-nil}
 use native.Mathlib.Nat.{le_refl, sub_self}
 use native.Mathlib.Omega.{arith}
 use lib.ListN.{length, take, drop, replicate, length-append, length-map}
@@ -14,7 +14,6 @@ use Rattle.sifc_tokens.specs.Tokens.{Checked, passed, offs_of, words_of, padded}
 use Rattle.sifc_def.specs.State.{Ctx}
 use Rattle.sifc_def.specs.Error.{parse_err, err_place, err_reason}
 use Rattle.sifc_def.specs.Read.{Arrays, rooms_of, Found, Outcome, found, refused, ctx_of, filled, read, answered}
-use Rattle.sifc_lent.specs.Parts.{arrays}
 use Rattle.sifc_lent.proofs.LexedLaws.{lexed-back, length-offs, length-words, used-part}
 use Rattle.sifc_symtab.specs.Toks.{toks_of}
 use Rattle.sifc_records.specs.declared.call.Told.{Told}
@@ -22,11 +21,13 @@ use Rattle.sifc_record.specs.Record.{blank_err, records_in, blank_from, filled_o
 use Rattle.sifc_records.specs.Records.{padded_errs, entry_records, Recorded, recorded, records_of, reading_records}
 use Rattle.sifc_records.proofs.RecordLaws.{entry_of, records-back, Sounds, SoundsOf, read-sound, records_by, records-by}
 use Rattle.sifc_records.specs.Words.{Kept, kept, kept_of, read_words}
-use Rattle.sifc_records.proofs.Calls.{entry-same, read_by, read-by, entered}
+use Rattle.sifc_records.proofs.Calls.{read_by, read-by, entered}
 
 -- what is told asks no more than is there, where there are n records
-abbrev FillableOf : ℕ → Kept → Type 0
-FillableOf n x = Fillable x.arrays.offs x.arrays.words x.arrays.places x.arrays.reasons x.told.tokens x.told.errors x.told.from n
+pub record FillableOf (n : ℕ) (x : Kept) : Type 0 where
+  pub offs : x.told.tokens ≤ length x.arrays.offs
+  pub words : x.told.tokens ≤ length x.arrays.words
+  pub fills : Fillable x.arrays.places x.arrays.reasons x.told.errors x.told.from n
 
 -- the records filled by what is told
 abbrev filled_by : List ParseErr → Kept → Recorded
@@ -85,7 +86,7 @@ module _ (s : List ℕ) (a : Arrays) (f : Found) (h : Sounds (rooms_of a) s f) w
 -- what passes the tests of entry is short
 short-of : (s : List ℕ) (a : Arrays) (n : ℕ) → entry_records s a n ≡ passed → length s ≤ 65535
 short-of s a n e =
-    let t = entered s a.offs a.words a.heads a.loads [] a.places a.reasons n {k = entry_records s (arrays a.offs a.words a.heads a.loads [] a.places a.reasons) n} refl (entry-same s a.offs a.words a.heads a.loads a.symbols a.places a.reasons n ∙ e) in
+    let t = entered s a n {k = entry_records s a n} refl e in
     omega (arith, t.short)
 
 module _ (s : List ℕ) (a : Arrays) where
@@ -95,19 +96,21 @@ module _ (s : List ℕ) (a : Arrays) where
       record {
         offs = omega (arith, padded-long (offs_of f.toks) (length a.offs), length-offs f.toks);
         words = omega (arith, padded-long (words_of f.toks) (length a.words), length-words f.toks);
-        places = omega (arith, padded-long (map (err_place (ctx_of (rooms_of a) s)) f.errs) (length a.places), length-map f.errs (err_place (ctx_of (rooms_of a) s)));
-        reasons = omega (arith, padded-long (map (err_reason (ctx_of (rooms_of a) s)) f.errs) (length a.reasons), length-map f.errs (err_reason (ctx_of (rooms_of a) s)));
-        used = le_refl (length f.errs);
-        room = omega (arith, h.room, l);
+        fills = record {
+          places = omega (arith, padded-long (map (err_place (ctx_of (rooms_of a) s)) f.errs) (length a.places), length-map f.errs (err_place (ctx_of (rooms_of a) s)));
+          reasons = omega (arith, padded-long (map (err_reason (ctx_of (rooms_of a) s)) f.errs) (length a.reasons), length-map f.errs (err_reason (ctx_of (rooms_of a) s)));
+          used = le_refl (length f.errs);
+          room = omega (arith, h.room, l);
+        };
       }
-  outcome-fills n l (refused r) h = record { offs = omega arith; words = omega arith; places = omega arith; reasons = omega arith; used = omega arith; room = omega arith }
+  outcome-fills n l (refused r) h = record { offs = omega arith; words = omega arith; fills = record { places = omega arith; reasons = omega arith; used = omega arith; room = omega arith } }
 
   -- what the call on words tells can be filled in
   words-fill : (n : ℕ) → FillableOf n (read_words s a n)
   words-fill n = subst (FillableOf n) (read-by s a n) (go (entry_records s a n) refl)
     where
       go : (k : Checked) → entry_records s a n ≡ k → FillableOf n (read_by s a n k)
-      go (Err f) e = record { offs = omega arith; words = omega arith; places = omega arith; reasons = omega arith; used = omega arith; room = le_refl n }
+      go (Err f) e = record { offs = omega arith; words = omega arith; fills = record { places = omega arith; reasons = omega arith; used = omega arith; room = le_refl n } }
       go (Ok _) e = outcome-fills n (entry_of s a n e).1 (read (rooms_of a) s) (read-sound (rooms_of a) s)
 
   module _ (rs : List ParseErr) where
@@ -127,9 +130,12 @@ module _ (s : List ℕ) (a : Arrays) where
 
 module _ (s : List ℕ) (a : Arrays) (rs : List ParseErr) (t : Told) (b : Arrays) (e : kept t b ≡ read_words s a (length rs)) where
   -- What is told can be filled in.
-  pub can-fill : Fillable b.offs b.words b.places b.reasons t.tokens t.errors t.from (length rs)
+  pub can-fill : FillableOf (length rs) (kept t b)
   can-fill = subst (FillableOf (length rs)) (sym e) (words-fill s a (length rs))
 
   -- And the call is the definition's.
-  pub whole : (zs : List ParseErr) → zs ≡ filled_of (toks_of (take t.tokens b.offs) (take t.tokens b.words)) b.places b.reasons t.errors t.from rs → recorded t.reading b zs ≡ reading_records s a rs
-  whole zs f = ap (recorded t.reading b) f ∙ ap (filled_by rs) e ∙ words-records s a rs
+  pub whole : {zs : List ParseErr} {ts : List Token} {ps ws : List ℕ} → zs ≡ filled_of ts ps ws t.errors t.from rs
+      → ts ≡ toks_of (take t.tokens b.offs) (take t.tokens b.words) → ps ≡ b.places → ws ≡ b.reasons → recorded t.reading b zs ≡ reading_records s a rs
+  whole {ps = ps} {ws = ws} f et ep er =
+      ap (recorded t.reading b) (f ∙ ap (λ (us : List Token). filled_of us ps ws t.errors t.from rs) et ∙ ap₂ (λ (us vs : List ℕ). filled_of (toks_of (take t.tokens b.offs) (take t.tokens b.words)) us vs t.errors t.from rs) ep er)
+      ∙ ap (filled_by rs) e ∙ words-records s a rs

@@ -4,3 +4,4 @@ pub mod Small
 pub mod Tests
 pub mod Told
 pub mod Book
+pub mod Items

@@ -4,7 +4,7 @@ use Rattle.std.proofs.Common.{add-one, arith, sym, ap, ◌∙◌, eq-eqb, ne_eqb
 use Rattle.std.proofs.lemmas.Bool.{lt-leb}
 use Rattle.std.proofs.Math.Path.{subst}
 use Rattle.sifc_word.specs.Base.{if◌then◌otherwise◌}
-use Rattle.sifc_def.specs.declared.Why.TheVariants.{FnParmCntExceeded, InvalidTknMsg}
+use Rattle.sifc_err.specs.declared.parse_err.ParseErrTy.TheVariants.{FnParmCntExceeded, InvalidTknMsg}
 use Rattle.sifc_def.specs.State.{Ctx, St, Out, done, Void, go_on, consume, optional, throw}
 use Rattle.sifc_def.specs.Expr.{fuel, separator, param_list}
 use Rattle.sifc_def.specs.Stmt.{comma_list}

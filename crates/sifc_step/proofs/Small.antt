@@ -1,5 +1,5 @@
 -- What the proofs of the small functions cite.
-use Rattle.std.specs.Prelude.{ℕ, zero, suc, ◌+◌, ◌-◌, ◌%◌, ◌≤◌, ◌<◌, ◌≡◌, ◌⊎◌, refl, List, ◌∷◌, Bool, true, false, length, get_or, set, eqb, ltb, Result, Ok, Err as Stopped, IsErr, IsErrAnd, IfOk}
+use Rattle.std.specs.Prelude.{ℕ, zero, suc, ◌+◌, ◌-◌, ◌%◌, ◌≤◌, ◌<◌, ◌≡◌, ◌⊎◌, refl, List, ◌∷◌, Bool, true, false, length, get_or, set, eqb, ltb, Result, Ok, Err as Stopped, IsErr, IsErrAnd}
 use Rattle.std.proofs.Common.{add-one, sub-one, arith, sym, ap, ◌∙◌, inl, inr, ne_eqb, eq-eqb, lt-ltb, le-ltb, eqb→eq, length-set}
 use Rattle.std.proofs.lemmas.Bool.{eqb-false}
 use Rattle.std.proofs.Math.Path.{subst}
@@ -7,8 +7,8 @@ use Rattle.sifc_err.specs.declared.Refusal.{Refusal}
 use Rattle.sifc_err.specs.declared.Refusal.TheVariants.{SourceFault, NodesFull, ErrorsFull}
 use Rattle.sifc_word.specs.Base.{if◌then◌otherwise◌}
 use Rattle.sifc_def.specs.declared.Err.{Err}
-use Rattle.sifc_def.specs.declared.Why.{Why}
-use Rattle.sifc_def.specs.declared.Why.TheVariants.{TknMismatch}
+use Rattle.sifc_def.specs.Why.{Why}
+use Rattle.sifc_err.specs.declared.parse_err.ParseErrTy.TheVariants.{TknMismatch}
 use Rattle.sifc_def.specs.declared.What.{What}
 use Rattle.sifc_def.specs.State.{Ctx, err, St, Out, done, fail, refuse, go_on, panic_at, arrive, consume, list, raise, add_error_w_pos, add_error, throw, throw_past, expect, match_ident, or_throw, ident, push}
 use Rattle.sifc_def.specs.Symbols.{store, set_level, init_scope, close_scope}
@@ -44,12 +44,6 @@ pub conveyed : {A : Type 0} {j : ℕ} {f : Ctx → St → Out A} {p q : Parser} 
     → Does j f p (Stopped s) q → IsErr x × IsErrAnd x (λ t. t ≡ s) → Does j f p x q
 conveyed {x = Ok a} d h = absurd h.1
 conveyed {x = Stopped t} d h = rw h.1 d
-
--- the same with what the function says of its value beside
-pub conveyed-if : {A : Type 0} {j : ℕ} {f : Ctx → St → Out A} {p q : Parser} {s : Stop} (x : Result A Stop) (P : A → Type 0)
-    → Does j f p (Stopped s) q → IsErr x × IsErrAnd x (λ t. t ≡ s) → Does j f p x q × IfOk x P
-conveyed-if (Ok a) P d h = absurd h.1
-conveyed-if (Stopped t) P d h = (rw h.1 d, tt)
 
 -- the same to a function that is never failed
 pub handed : {A : Type 0} {j : ℕ} {f : Ctx → St → Out A} {p q : Parser} {g : Refusal} (x : Result A Refusal)

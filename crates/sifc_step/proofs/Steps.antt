@@ -6,7 +6,7 @@ use Rattle.sifc_err.specs.declared.Refusal.{Refusal}
 use Rattle.sifc_err.specs.declared.Token.{Token}
 use Rattle.sifc_word.specs.Base.{if◌then◌otherwise◌}
 use Rattle.sifc_def.specs.declared.Err.{Err}
-use Rattle.sifc_def.specs.declared.Why.TheVariants.{InvalidIfStmt}
+use Rattle.sifc_err.specs.declared.parse_err.ParseErrTy.TheVariants.{InvalidIfStmt}
 use Rattle.sifc_def.specs.State.{Node, Ctx, St, Out, done, fail, refuse, go_on, tok_at}
 use Rattle.sifc_symtab.specs.Toks.{toks-at}
 use Rattle.sifc_step.specs.declared.walk.Parser.{Parser}

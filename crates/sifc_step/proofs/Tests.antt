@@ -18,10 +18,6 @@ unfolding looseness member if◌then◌otherwise◌
 loose-none k a b c d e f g h i j l m n =
     rw (ne_eqb k 18 a, ne_eqb k 16 b, ne_eqb k 17 c, ne_eqb k 14 d, ne_eqb k 15 e, ne_eqb k 9 f, ne_eqb k 23 g, ne_eqb k 10 h, ne_eqb k 24 i, ne_eqb k 26 j, ne_eqb k 22 l, ne_eqb k 27 m, ne_eqb k 28 n) refl
 
-pub not-unary : (k : ℕ) → (k ≡ 13 → ⊥) → (k ≡ 15 → ⊥) → false ≡ is_unary k
-unfolding is_unary
-not-unary k a b = rw (ne_eqb k 13 a, ne_eqb k 15 b) refl
-
 pub not-literal : (k : ℕ) → (k ≡ 32 → ⊥) → (k ≡ 33 → ⊥) → (k ≡ 44 → ⊥) → (k ≡ 45 → ⊥) → false ≡ is_literal k
 unfolding is_literal member
 not-literal k a b c d = rw (ne_eqb k 32 a, ne_eqb k 33 b, ne_eqb k 44 c, ne_eqb k 45 d) refl

@@ -4,8 +4,8 @@ use Rattle.std.proofs.Common.{sym, ap, ◌∙◌}
 use Rattle.std.proofs.Math.Option.{Option, none, some}
 use Rattle.std.proofs.Math.Path.{subst}
 use Rattle.sifc_def.specs.declared.Err.{Err}
-use Rattle.sifc_def.specs.declared.Why.{Why}
-use Rattle.sifc_def.specs.declared.Why.TheVariants.{InvalidIdent}
+use Rattle.sifc_def.specs.Why.{Why}
+use Rattle.sifc_err.specs.declared.parse_err.ParseErrTy.TheVariants.{InvalidIdent}
 use Rattle.sifc_def.specs.State.{Ctx, St, Out, done, fail, refuse, tok_at, arrive, consume, raise, add_error, throw, expect, match_ident, or_throw, ident, push, go_on}
 use Rattle.sifc_def.specs.Expr.{separator}
 use Rattle.sifc_def.proofs.OutcomeLaws.{Holds, by-test, branch, is-done, is-fail, is-refused, call}
@@ -111,8 +111,3 @@ separator-nodes {p = p} {q = q} r d = nodes-same p q (told (λ a s. s.nodes ≡ 
 pub record Grown (p q : Parser) : Type 0 where
   pub at : q.at ≡ p.at
   pub nodes : q.nodes ≡ suc p.nodes
-
-pub push-grown : {j : ℕ} (k : ℕ) (f : Bool) (n t : ℕ) {p q : Parser} → Ready p → Does j (λ c. push c k f n t) p (Ok tt) q → Grown p q
-push-grown k f n t {p} {q} r d =
-    let z = told (λ a s. (s.at ≡ p.at) × (length s.nodes ≡ suc (length (nodes_of p.nodes p.head.now p.load.now)))) r d (λ E. push-grows (ctx_at p) k f n t (abs_at E p)) in
-    record { at = z.0; nodes = sym (length-nodes q.nodes q.head.now q.load.now) ∙ z.1 ∙ ap suc (length-nodes p.nodes p.head.now p.load.now) }

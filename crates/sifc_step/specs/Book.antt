@@ -3,8 +3,8 @@ use Rattle.std.specs.Prelude.{ℕ, ◌+◌, ◌*◌, ◌≤◌, ◌≡◌, List,
 use Rattle.std.proofs.Math.Option.{Option, none, some}
 use Rattle.sifc_err.specs.declared.Refusal.{Refusal}
 use Rattle.sifc_def.specs.declared.Err.{Err}
-use Rattle.sifc_def.specs.declared.Why.{Why}
-use Rattle.sifc_def.specs.declared.Why.TheVariants.{InvalidIdent, InvalidTkn, InvalidTknMsg, InvalidAssign, InvalidForStmt, InvalidIfStmt, TknMismatch, FnParmCntExceeded, WrongFnParmCnt, UndeclSym, UnassignedVar, ExpectedIdent}
+use Rattle.sifc_def.specs.Why.{Why}
+use Rattle.sifc_err.specs.ParseErr.{values_of}
 use Rattle.sifc_def.specs.Error.{carried, carried_too}
 use Rattle.sifc_def.specs.State.{done, refuse}
 use Rattle.sifc_def.specs.Walk.{end, walk}
@@ -16,18 +16,7 @@ use Rattle.sifc_step.specs.Abs.{Inp, Mem, Walk, ctx_of, abs, ReadyOf}
 
 -- a reason's number, order of ParseErrTy
 abbrev pub number_in : Why → ℕ
-number_in (InvalidIdent i) = 1
-number_in (InvalidTkn i) = 2
-number_in (InvalidTknMsg m) = 2
-number_in (InvalidAssign i) = 3
-number_in InvalidForStmt = 4
-number_in InvalidIfStmt = 5
-number_in (TknMismatch k i) = 6
-number_in (FnParmCntExceeded n) = 7
-number_in (WrongFnParmCnt n m) = 8
-number_in (UndeclSym i) = 9
-number_in (UnassignedVar i) = 10
-number_in (ExpectedIdent i) = 11
+number_in w = (values_of w).number
 
 abbrev pub reason_of : Why → ℕ
 reason_of w = number_in w + 16 * carried w + 1048576 * carried_too w

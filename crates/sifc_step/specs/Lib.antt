@@ -1,3 +1,4 @@
 pub mod Abs
 pub mod Small
 pub mod Book
+pub mod Items

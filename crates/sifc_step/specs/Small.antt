@@ -3,7 +3,7 @@ use Rattle.std.specs.Prelude.{ℕ, ◌+◌, ◌-◌, ◌<◌, ◌≡◌, List, �
 use Rattle.sifc_err.specs.declared.Refusal.{Refusal}
 use Rattle.sifc_word.specs.Kind.{Eof, Ident}
 use Rattle.sifc_def.specs.declared.Err.{Err}
-use Rattle.sifc_def.specs.declared.Why.{Why}
+use Rattle.sifc_def.specs.Why.{Why}
 use Rattle.sifc_def.specs.declared.What.{What}
 use Rattle.sifc_def.specs.State.{Node, node, Ctx, done, refuse, M, Void, go_on, consume, raise, add_error_w_pos, add_error, throw, throw_past, expect, ident, push}
 use Rattle.sifc_def.specs.Symbols.{store, init_scope, close_scope}

@@ -7,42 +7,33 @@ ghost use Rattle.sifc_step.specs.Abs.{here, listed_by, StandsAt, Paired};
 ghost use Rattle.sifc_step.specs.Small.{Consumes, Expects, Separates, Throws, ThrowsAt, Pasts, Pushes, Literals, node_of, newest, Accesses, Idents, HeadWord, Puts, InitsScope, ClosesScope};
 
 use crate::walk::{Parser, Stop, Target};
+use sifc_def::ast::{self, CHILD, PRIMARY_EXPR};
 use sifc_def::{What, Why};
-use sifc_err::Refusal;
-use sifc_symtab::store;
+use sifc_err::{Fault, Refusal};
+use sifc_symtab::{Tokens, store};
+use sifc_word::kind::{
+    self, BANG, COMMA, EOF, FALSE, IDENT, LEX_PANIC, MINUS, RIGHT_PAREN, STR, TRUE, VAL,
+};
 
-const RIGHT_PAREN: u32 = 2;
+// The head words of the accesses.
+const TABLE_ACCESS: u32 = ast::TABLE_ACCESS + 2 * CHILD;
 
-const COMMA: u32 = 12;
-
-const IDENT: u32 = 31;
-
-const EOF: u32 = 47;
-
-const LEX_PANIC: u32 = 48;
-
-// A node's head word is kind + 32 × mark + 64 × children.
-const PRIMARY_EXPR: u32 = 24;
-
-// Head words: kind + 64 × children.
-const TABLE_ACCESS: u32 = 143;
-
-const ARRAY_ACCESS: u32 = 146;
+const ARRAY_ACCESS: u32 = ast::ARRAY_ACCESS + 2 * CHILD;
 
 // How loosely a binary operator binds: the number of its level from below; 0 for what is none.
 pub fn looseness(k: u32) -> usize
     ensures { result ≡ looseness_of k }
 {
     match k {
-        9 | 10 => 4,
-        14 | 15 => 3,
-        16 | 17 => 2,
-        18 => 1,
-        22 => 5,
-        23 | 24 => 4,
-        26 => 5,
-        27 => 6,
-        28 => 7,
+        kind::LT | kind::GT => 4,
+        kind::PLUS | kind::MINUS => 3,
+        kind::STAR | kind::SLASH => 2,
+        kind::PERCENT => 1,
+        kind::EQ_EQ => 5,
+        kind::LT_EQ | kind::GT_EQ => 4,
+        kind::BANG_EQ => 5,
+        kind::AMP_AMP => 6,
+        kind::PIPE_PIPE => 7,
         _ => 0,
     }
 }
@@ -51,14 +42,14 @@ pub fn looseness(k: u32) -> usize
 pub fn is_unary(k: u32) -> bool
     ensures { result ≡ is_unary k }
 {
-    k == 13 || k == 15
+    k == BANG || k == MINUS
 }
 
 // A string, a number, true or false.
 pub fn is_literal(k: u32) -> bool
     ensures { result ≡ is_literal k }
 {
-    matches!(k, 32 | 33 | 44 | 45)
+    matches!(k, STR | VAL | TRUE | FALSE)
 }
 
 // The first word of a node.
@@ -66,7 +57,7 @@ pub fn head_word(kind: u32, mark: bool, kids: usize) -> u32
     requires { (kind < 32) × (kids ≤ 65536) }
     ensures { HeadWord kind mark kids result }
 {
-    kind + 32 * u32::from(mark) + 64 * (kids as u32)
+    kind + 32 * u32::from(mark) + CHILD * (kids as u32)
 }
 
 impl<'a> Parser<'a> {
@@ -212,7 +203,7 @@ impl<'a> Parser<'a> {
         requires { (i < length self.old.offs.now) × Paired self.old }
         ensures { Accesses self.old target 143 4 i result self.new }
     {
-        self.access(target, TABLE_ACCESS, 4, i)
+        self.access(target, TABLE_ACCESS, Fault::TableAccess as u32, i)
     }
 
     // The end of an array access, after its `]`.
@@ -220,7 +211,7 @@ impl<'a> Parser<'a> {
         requires { (i < length self.old.offs.now) × Paired self.old }
         ensures { Accesses self.old target 146 5 i result self.new }
     {
-        self.access(target, ARRAY_ACCESS, 5, i)
+        self.access(target, ARRAY_ACCESS, Fault::ArrayAccess as u32, i)
     }
 
     // A name, whose token it answers; or InvalidIdent and then another error, at the same token.
@@ -245,16 +236,12 @@ impl<'a> Parser<'a> {
         requires { Fits self.old.script.now self.old.offs.now self.old.words.now self.old.symbols.now self.old.stored self.old.level i what }
         ensures { Puts self.old i what result self.new }
     {
-        self.stored = store(
-            self.script,
-            self.offs,
-            self.words,
-            self.symbols,
-            self.stored,
-            self.level,
-            i,
-            what,
-        )?;
+        let tokens = Tokens {
+            script: self.script,
+            offs: self.offs,
+            words: self.words,
+        };
+        self.stored = store(tokens, self.symbols, self.stored, self.level, i, what)?;
         Ok(())
     }
 

@@ -1,49 +1,28 @@
 // Variables, arrays and tables: var_decl, array_decl, table_decl and item_list of parser.rs.
 ghost use Rattle.std.specs.Prelude.{◌≡◌, ◌≤◌, ◌<◌, IfOk};
+ghost use Rattle.sifc_def.specs.State.{Ctx, Void};
 ghost use Rattle.sifc_def.specs.Expr.{fuel};
 ghost use Rattle.sifc_def.specs.Stmt.{comma_list, array_decl, table_item, item_list, table_decl, initial as initial_of, var_decl};
 ghost use Rattle.sifc_def.specs.Walk.{walkers};
 ghost use Rattle.sifc_step.specs.Abs.{here, Ready, Does};
 ghost use Rattle.sifc_declare.specs.Promise.{var_value};
+ghost use Rattle.sifc_step.specs.Items.{Reads};
 
 use sifc_declare::{declare_array, declare_other, declare_var};
 use sifc_def::Why;
+use sifc_def::ast::{self, CHILD, ITEM_LIST};
+use sifc_err::Message;
 use sifc_expr::expr;
 use sifc_step::{Parser, Stop, head_word};
+use sifc_word::kind::{
+    COMMA, DOUBLE_LEFT_BRACKET, DOUBLE_RIGHT_BRACKET, EOF, EQ, EQ_ARROW, LEFT_BRACKET,
+    RIGHT_BRACKET, SEMICOLON, VAR,
+};
 
-const LEFT_BRACKET: u32 = 5;
+// The head words of an item and of a table.
+const TABLE_ITEM: u32 = ast::TABLE_ITEM + CHILD;
 
-const RIGHT_BRACKET: u32 = 6;
-
-const SEMICOLON: u32 = 7;
-
-const EQ: u32 = 8;
-
-const COMMA: u32 = 12;
-
-const EQ_ARROW: u32 = 25;
-
-const DOUBLE_LEFT_BRACKET: u32 = 29;
-
-const DOUBLE_RIGHT_BRACKET: u32 = 30;
-
-const VAR: u32 = 34;
-
-const EOF: u32 = 47;
-
-const ITEM_LIST: u32 = 12;
-
-// Head words: kind + 64 × children.
-const TABLE_ITEM: u32 = 77;
-
-const TABLE: u32 = 78;
-
-// Messages of InvalidTkn: no '=' or ';', an unexpected end of file, no identifier.
-const EQ_OR_SEMICOLON: u32 = 1;
-
-const END_OF_FILE: u32 = 2;
-
-const AN_IDENTIFIER: u32 = 3;
+const TABLE: u32 = ast::TABLE + CHILD;
 
 // A variable, with a value or without.
 pub fn var_decl(p: &mut Parser<'_>, depth: usize) -> Result<(), Stop>
@@ -57,7 +36,7 @@ pub fn var_decl(p: &mut Parser<'_>, depth: usize) -> Result<(), Stop>
         return var_value(p, depth, i);
     }
     if k != SEMICOLON {
-        return Err(p.add_error(Why::InvalidTknMsg(EQ_OR_SEMICOLON)));
+        return Err(p.add_error(Why::InvalidTknMsg(Message::EqOrSemicolon as u32)));
     }
     p.consume()?;
     declare_var(p, i, 0)?;
@@ -97,29 +76,35 @@ fn array_decl(p: &mut Parser<'_>, depth: usize, i: usize) -> Result<(), Stop>
     ensures { Does 0 (λ c. array_decl c (walkers c depth) i) p.old result p.new }
 {
     p.expect(LEFT_BRACKET)?;
-    let n = array_items(p, depth)?;
+    let n = comma_list(p, RIGHT_BRACKET, |p| expr(p, depth))?;
     p.expect(RIGHT_BRACKET)?;
     p.expect(SEMICOLON)?;
     declare_array(p, i, n)?;
     Ok(())
 }
 
-// The items of an array: how many there are.
-fn array_items(p: &mut Parser<'_>, depth: usize) -> Result<usize, Stop>
-    requires { Ready p.old }
-    ensures does { Does 0 (λ c. comma_list c 6 (walkers c depth).assign (fuel c) 0) p.old result p.new }
+// The items of a list up to a closing kind, each read by `item`: how many there are.
+fn comma_list<F: Fn(&mut Parser<'_>) -> Result<(), Stop>>(
+    p: &mut Parser<'_>,
+    close: u32,
+    item: F,
+) -> Result<usize, Stop>
+    requires ready { Ready p.old }
+    requires callable { (q : _) → Ready q.now → F.pre item q }
+    requires items { (def : Ctx → Void) × Reads (F.post item) def }
+    ensures does { (def : Ctx → Void) → Reads (F.post item) def → Does 0 (λ c. comma_list c close (def c) (fuel c) 0) p.old result p.new }
     ensures few { IfOk result (λ n. n ≤ 65536) }
 {
     let mut n = 0;
     loop {
         let k = p.kind();
-        if k == RIGHT_BRACKET {
+        if k == close {
             return Ok(n);
         }
         if k == EOF {
-            return Err(p.add_error(Why::InvalidTknMsg(END_OF_FILE)));
+            return Err(p.add_error(Why::InvalidTknMsg(Message::EndOfFile as u32)));
         }
-        expr(p, depth)?;
+        item(p)?;
         n += 1;
         if p.kind() != COMMA {
             return Ok(n);
@@ -145,33 +130,9 @@ fn item_list(p: &mut Parser<'_>, depth: usize) -> Result<(), Stop>
     requires { Ready p.old }
     ensures { Does 0 (λ c. item_list c (walkers c depth)) p.old result p.new }
 {
-    let n = table_items(p, depth)?;
+    let n = comma_list(p, DOUBLE_RIGHT_BRACKET, |p| table_item(p, depth))?;
     p.push_node(head_word(ITEM_LIST, false, n), 0)?;
     Ok(())
-}
-
-// The items alone: how many there are.
-fn table_items(p: &mut Parser<'_>, depth: usize) -> Result<usize, Stop>
-    requires { Ready p.old }
-    ensures does { Does 0 (λ c. comma_list c 30 (table_item c (walkers c depth)) (fuel c) 0) p.old result p.new }
-    ensures few { IfOk result (λ n. n ≤ 65536) }
-{
-    let mut n = 0;
-    loop {
-        let k = p.kind();
-        if k == DOUBLE_RIGHT_BRACKET {
-            return Ok(n);
-        }
-        if k == EOF {
-            return Err(p.add_error(Why::InvalidTknMsg(END_OF_FILE)));
-        }
-        table_item(p, depth)?;
-        n += 1;
-        if p.kind() != COMMA {
-            return Ok(n);
-        }
-        p.consume()?;
-    }
 }
 
 // An item: a key, `=>` and a value.
@@ -180,7 +141,7 @@ fn table_item(p: &mut Parser<'_>, depth: usize) -> Result<(), Stop>
     ensures does { Does 0 (λ c. table_item c (walkers c depth)) p.old result p.new }
     ensures ahead { IfOk result (λ _. p.old.at < p.new.at) }
 {
-    let key = p.match_ident(Why::InvalidTknMsg(AN_IDENTIFIER))?;
+    let key = p.match_ident(Why::InvalidTknMsg(Message::AnIdentifier as u32))?;
     p.expect(EQ_ARROW)?;
     expr(p, depth)?;
     p.push_node(TABLE_ITEM, key as u32)?;

@@ -4,19 +4,15 @@ ghost use Rattle.sifc_def.specs.Stmt.{ret_stmt, expr_stmt};
 ghost use Rattle.sifc_def.specs.Walk.{walkers};
 ghost use Rattle.sifc_step.specs.Abs.{here, Ready, Does};
 
+use sifc_def::ast::{self, CHILD, RETURN_STMT};
 use sifc_expr::expr;
 use sifc_step::{Parser, Stop};
+use sifc_word::kind::{RETURN, SEMICOLON};
 
-const SEMICOLON: u32 = 7;
+// The head words of a return with a value and of an expression.
+const RETURN_VALUE: u32 = ast::RETURN_STMT + CHILD;
 
-const RETURN: u32 = 36;
-
-// Head words: kind + 64 × children.
-const RETURN_STMT: u32 = 6;
-
-const RETURN_VALUE: u32 = 70;
-
-const EXPR_STMT: u32 = 71;
+const EXPR_STMT: u32 = ast::EXPR_STMT + CHILD;
 
 // An expression and its `;`.
 pub fn expr_stmt(p: &mut Parser<'_>, depth: usize) -> Result<(), Stop>

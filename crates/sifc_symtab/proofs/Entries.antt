@@ -15,7 +15,7 @@ use Rattle.sifc_err.specs.declared.Refusal.TheVariants.{SymbolsFull}
 use Rattle.sifc_symtab.specs.declared.symtab.Spot.{Spot}
 use Rattle.sifc_symtab.specs.Chains.{In, Behind, Chains}
 use Rattle.sifc_symtab.specs.Table.{name_in, level_at, token_in, hash_at, next_at, head_at, hash_of, sym_at, listed, syms_of, room_of, entered, with_next, with_head, buckets_of, bucket_at, linked, Holds, Fits, new_table, Stores}
-use Rattle.sifc_symtab.specs.Seek.{Hit, Sought, Nearest, Best, InsertAt, Inserts}
+use Rattle.sifc_symtab.specs.Seek.{Hit, Sought, Nearest, InsertAt, Inserts}
 use Rattle.sifc_symtab.specs.Laws.{listed-ext, listed-last, length-listed}
 use Rattle.sifc_symtab.proofs.Cases.{by-eq, by-lt}
 use Rattle.sifc_symtab.proofs.Chains.{Grown, chains-front, chains-behind, chains-same, all-below}
@@ -32,8 +32,7 @@ buckets-same words a b e = ap (λ (x : ℕ). min (x / 4) (length words + 1)) e
 bucket-same : (words a b : List ℕ) (k : ℕ) → length b ≡ length a → hash_at b k ≡ hash_at a k → bucket_at words b k ≡ bucket_at words a k
 bucket-same words a b k e h = ap₂ ◌%◌ h (buckets-same words a b e)
 
-module _ (script offs words symbols : List ℕ) (n level i k : ℕ) (w : What) (h : ℕ) (s : List ℕ) (p : Fits script offs words symbols n level i w) (es : s ≡ name_in script offs words i) (eh : h ≡ hash_of s)
-    (b : Best (sym_at script offs words symbols) level level s n n k) where
+module _ (script offs words symbols : List ℕ) (n level i : ℕ) (w : What) (h : ℕ) (s : List ℕ) (p : Fits script offs words symbols n level i w) (es : s ≡ name_in script offs words i) (eh : h ≡ hash_of s) where
   -- the definition's entry
   entry-is : Sym
   entry-is = record { level = level; name = s; what = w }
@@ -49,14 +48,14 @@ module _ (script offs words symbols : List ℕ) (n level i k : ℕ) (w : What) (
 
   -- ── an entry that is there ──
 
-  module _ (l : k < n) where
-    -- the entry that is overwritten
-    near : Nearest (sym_at script offs words symbols) level level s n k
-    near = b.some l
+  module _ (k : ℕ) (near : Nearest (sym_at script offs words symbols) level level s n k) where
+    -- it is one of the symbols
+    l : k < n
+    l = near.below
 
     -- it has its words
     room : k * 4 + 4 ≤ length symbols
-    room = omega (arith, p.holds.room)
+    room = omega (arith, l, p.holds.room)
 
     -- it has the level
     level-old : level_at symbols k ≡ level
@@ -119,11 +118,7 @@ module _ (script offs words symbols : List ℕ) (n level i k : ℕ) (w : What) (
 
   -- ── a new one ──
 
-  module _ (l : n ≤ k) where
-    -- no entry has the level and the name
-    miss : (j : ℕ) → j < n → Hit level level s (sym_at script offs words symbols j) → ⊥
-    miss = b.none (omega (arith, b.within))
-
+  module _ (miss : (j : ℕ) → j < n → Hit level level s (sym_at script offs words symbols j) → ⊥) where
     -- the definition appends the entry
     new-key : new_table script offs words symbols n level i w ≡ syms_of script offs words symbols n ++ (entry-is ∷ [])
     unfolding syms_of entry-is

@@ -1,4 +1,5 @@
 -- The walk along a chain, and what it finds.
+use Rattle.std.specs.Prelude.{Option as Found, Some, None}
 use Prim.Native.Nat.{ℕ, zero, suc, ◌+◌, ◌*◌, ◌-◌, ◌%◌, ◌≤◌, ◌<◌}
 use mathlib.Core.Path.{◌≡◌, refl, sym, ap, subst, ◌∙◌}
 use mathlib.Core.List.{List, [], ◌∷◌}
@@ -10,8 +11,8 @@ use Rattle.sifc_word.specs.Base.{same}
 use Rattle.sifc_def.specs.State.{Sym}
 use Rattle.sifc_symtab.specs.Chains.{Behind, Chains}
 use Rattle.sifc_symtab.specs.Table.{hash_at, hash_of, name_in, token_in, sym_at, buckets_of, bucket_at, linked, Holds}
-use Rattle.sifc_symtab.specs.Seek.{Hit, Stops, Hashed, Ahead, Follows, Seeking, Nearest, Best, Nearer}
-use Rattle.sifc_symtab.proofs.Cases.{by-eq, by-lt}
+use Rattle.sifc_symtab.specs.Seek.{Hit, Stops, Hashed, Ahead, Follows, Seeking, Finds, Lower, AsHigh, Nearer}
+use Rattle.sifc_symtab.proofs.Cases.{by-eq}
 
 -- the two truth values differ
 pub false-true : false ≡ true → ⊥
@@ -51,11 +52,11 @@ module _ (low high : ℕ) (s : List ℕ) (x : Sym) where
   stops-name a b r e = record { yes = λ q z. record { above = a; below = b; named = sym e ∙ q }; no = λ q t. false-true (sym q ∙ e ∙ t.named); passed = λ q. a }
 
 -- another hash is another name's
-module _ (script offs words symbols : List ℕ) (k h : ℕ) (s : List ℕ) (p : Hashed script offs words symbols k h s) where
+module _ (script offs words symbols : List ℕ) (k h : ℕ) (s : List ℕ) (p : Hashed script offs words symbols k) (e : h ≡ hash_of s) where
   -- which is no hit
   pub other_name : (low high : ℕ) → (hash_at symbols k ≡ h → ⊥) → Hit low high s (sym_at script offs words symbols k) → ⊥
   unfolding sym_at
-  other_name low high n t = n (p.one ∙ ap hash_of (same-equal (name_in script offs words (token_in symbols k)) s t.named) ∙ sym p.other)
+  other_name low high n t = n (p.one ∙ ap hash_of (same-equal (name_in script offs words (token_in symbols k)) s t.named) ∙ sym e)
 
 -- ── the walk ──
 
@@ -115,84 +116,73 @@ module _ (B n low high b : ℕ) (s : List ℕ) (f : ℕ → Sym) (lev buc next h
 
   -- ── what the walk has found ──
 
-  module _ (N prev at r : ℕ) (p : Seeking B n low high b s f lev buc next head prev at) (nN : n ≤ N) (fl : (j : ℕ) → (f j).level ≡ lev j)
+  module _ (prev at : ℕ) (r : Found ℕ) (p : Seeking B n low high b s f lev buc next head prev at) (fl : (j : ℕ) → (f j).level ≡ lev j)
       (stopped : (m : ℕ) → at ≡ suc m → low ≤ lev m → Hit low high s (f m)) (hb : (j : ℕ) → j < n → Hit low high s (f j) → buc j ≡ b) where
     -- no hit at all
-    best_none : r ≡ N → ((j : ℕ) → j < n → Hit low high s (f j) → ⊥) → Best f low high s N n r
-    best_none e h = record { within = omega arith; none = λ z. h; some = λ z. absurd (let x : ⊥ = omega arith in x) }
+    finds_none : r ≡ None → ((j : ℕ) → j < n → Hit low high s (f j) → ⊥) → Finds f low high s n r
+    finds_none e h = subst (Finds f low high s n) (sym e) h
 
     -- each hit is still ahead
     ahead_of : (j : ℕ) → j < n → Hit low high s (f j) → Ahead lev at j
     ahead_of j h t = p.ahead j (record { below = h; bucket = hb j h t }) t
 
     -- at the end of the chain
-    pub best-end : at ≡ 0 → r ≡ N → Best f low high s N n r
-    best-end z e = best_none e (λ j h t. (ahead_of j h t).on z)
+    pub finds-end : at ≡ 0 → r ≡ None → Finds f low high s n r
+    finds-end z e = finds_none e (λ j h t. (ahead_of j h t).on z)
 
     -- at an entry whose level is too low
-    pub best-low : (m : ℕ) → at ≡ suc m → lev m < low → r ≡ N → Best f low high s N n r
-    best-low m z l e = best_none e (λ j h t. omega (arith, (ahead_of j h t).order m z, t.above, fl j))
+    pub finds-low : (m : ℕ) → at ≡ suc m → lev m < low → r ≡ None → Finds f low high s n r
+    finds-low m z l e = finds_none e (λ j h t. omega (arith, (ahead_of j h t).order m z, t.above, fl j))
 
     -- at a hit
-    pub best-here : (m : ℕ) → at ≡ suc m → low ≤ lev m → r ≡ m → Best f low high s N n r
-    best-here m z l e =
-        let o = (p.here m z).below in
-        record {
-          within = omega arith;
-          none = λ q. absurd (let x : ⊥ = omega arith in x);
-          some = λ q. subst (Nearest f low high s n) (sym e) (record {
-            below = o;
-            hit = stopped m z l;
-            highest = λ j h t. omega (arith, (ahead_of j h t).order m z, fl j, fl m);
-            oldest = λ j h t y. omega (arith, (ahead_of j h t).order m z, fl j, fl m);
-          });
-        }
+    pub finds-here : (m : ℕ) → at ≡ suc m → low ≤ lev m → r ≡ Some m → Finds f low high s n r
+    finds-here m z l e =
+        subst (Finds f low high s n) (sym e) (record {
+          below = (p.here m z).below;
+          hit = stopped m z l;
+          highest = λ j h t. omega (arith, (ahead_of j h t).order m z, fl j, fl m);
+          oldest = λ j h t y. omega (arith, (ahead_of j h t).order m z, fl j, fl m);
+        })
 
 -- ── the symbols that are in no chain, one by one ──
 
-module _ (f : ℕ → Sym) (low high : ℕ) (s : List ℕ) (n k best : ℕ) (p : Best f low high s n k best) where
+module _ (f : ℕ → Sym) (low high : ℕ) (s : List ℕ) (k : ℕ) where
   -- those so far
   earlier : (j : ℕ) → j < k + 1 → (j ≡ k → ⊥) → j < k
   earlier j h e = omega arith
 
   -- entry k is better
-  pub best-take : k < n → Hit low high s (f k) → (best < n → (f best).level < (f k).level) → Best f low high s n (k + 1) k
-  best-take h t better =
+  pub finds-more : (best : Found ℕ) → Finds f low high s k best → Hit low high s (f k) → Lower f k best → Finds f low high s (k + 1) (Some k)
+  finds-more best p t better =
       record {
-        within = omega arith;
-        none = λ e. absurd (let x : ⊥ = omega arith in x);
-        some = λ e. record {
-          below = omega arith;
-          hit = t;
-          highest = λ j i x. by-eq j k (λ q. omega (arith, ap (λ (y : ℕ). (f y).level) q)) (λ q. let z = lower j (earlier j i q) x in omega arith);
-          oldest = λ j i x y. by-eq j k (λ q. omega arith) (λ q. let z = lower j (earlier j i q) x in omega arith);
-        };
+        below = omega arith;
+        hit = t;
+        highest = λ j i x. by-eq j k (λ q. omega (arith, ap (λ (y : ℕ). (f y).level) q)) (λ q. let z = lower best p better j (earlier j i q) x in omega arith);
+        oldest = λ j i x y. by-eq j k (λ q. omega arith) (λ q. let z = lower best p better j (earlier j i q) x in omega arith);
       }
     where
-      lower : (j : ℕ) → j < k → Hit low high s (f j) → (f j).level < (f k).level
-      lower j i x = by-lt best n (λ b. let a = better b in omega (arith, (p.some b).highest j i x)) (λ b. absurd (p.none (omega (arith, p.within)) j i x))
+      lower : (o : Found ℕ) → Finds f low high s k o → Lower f k o → (j : ℕ) → j < k → Hit low high s (f j) → (f j).level < (f k).level
+      lower None p b j i x = absurd (p j i x)
+      lower (Some m) p b j i x = omega (arith, p.highest j i x)
 
   -- entry k is no better
-  pub best-keep : (Hit low high s (f k) → (best < n) × ((f k).level ≤ (f best).level)) → Best f low high s n (k + 1) best
-  best-keep miss =
+  pub finds-still : (best : Found ℕ) → Finds f low high s k best → (Hit low high s (f k) → AsHigh f k best) → Finds f low high s (k + 1) best
+  finds-still None p miss = λ j i x. by-eq j k (λ q. miss (subst (λ (y : ℕ). Hit low high s (f y)) q x)) (λ q. p j (earlier j i q) x)
+  finds-still (Some m) p miss =
       record {
-        within = p.within;
-        none = λ e j i x. by-eq j k (λ q. let z = (miss (subst (λ (y : ℕ). Hit low high s (f y)) q x)).0 in omega arith) (λ q. p.none e j (earlier j i q) x);
-        some = λ e. let o = p.some e in record {
-          below = omega (arith, o.below);
-          hit = o.hit;
-          highest = λ j i x. by-eq j k (λ q. omega (arith, (miss (subst (λ (y : ℕ). Hit low high s (f y)) q x)).1, ap (λ (y : ℕ). (f y).level) q)) (λ q. o.highest j (earlier j i q) x);
-          oldest = λ j i x y. by-eq j k (λ q. omega (arith, o.below)) (λ q. o.oldest j (earlier j i q) x y);
-        };
+        below = omega (arith, p.below);
+        hit = p.hit;
+        highest = λ j i x. by-eq j k (λ q. omega (arith, miss (subst (λ (y : ℕ). Hit low high s (f y)) q x), ap (λ (y : ℕ). (f y).level) q)) (λ q. p.highest j (earlier j i q) x);
+        oldest = λ j i x y. by-eq j k (λ q. omega (arith, p.below)) (λ q. p.oldest j (earlier j i q) x y);
       }
 
-module _ (f : ℕ → Sym) (low high : ℕ) (s : List ℕ) (n k best : ℕ) where
+module _ (f : ℕ → Sym) (low high : ℕ) (s : List ℕ) (k : ℕ) (best : Found ℕ) where
   -- entry k is no better
-  pub nearer-miss : (Hit low high s (f k) → (best < n) × ((f k).level ≤ (f best).level)) → Nearer f low high s n best k false
+  pub nearer-miss : (Hit low high s (f k) → AsHigh f k best) → Nearer f low high s best k false
   nearer-miss m = record { hit = λ e. absurd (false-true e); higher = λ e. absurd (false-true e); miss = λ e. m }
 
   -- entry k is better
-  pub nearer-hit : Hit low high s (f k) → (best < n → (f best).level < (f k).level) → Nearer f low high s n best k true
+  pub nearer-hit : Hit low high s (f k) → Lower f k best → Nearer f low high s best k true
   nearer-hit t h = record { hit = λ e. t; higher = λ e. h; miss = λ e. absurd (false-true (sym e)) }
 
 -- what is left of a hit: its hash, and so its bucket

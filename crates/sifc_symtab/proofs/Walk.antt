@@ -1,4 +1,5 @@
 -- The walk along a chain and what follows it, over the symbols' words.
+use Rattle.std.specs.Prelude.{Option as Found, Some}
 use Prim.Native.Nat.{ℕ, suc, ◌+◌, ◌*◌, ◌-◌, ◌%◌, ◌≤◌, ◌<◌, min}
 use mathlib.Core.Path.{◌≡◌, refl, sym, ap, subst, ◌∙◌}
 use mathlib.Core.List.{List}
@@ -10,10 +11,10 @@ use lib.ListN.{length}
 use Rattle.sifc_def.specs.State.{Sym}
 use Rattle.sifc_symtab.specs.declared.symtab.Spot.{Spot}
 use Rattle.sifc_symtab.specs.Table.{level_at, next_at, head_at, hash_of, sym_at, buckets_of, bucket_at, linked, Holds}
-use Rattle.sifc_symtab.specs.Seek.{Hit, Stops, Hashed, Seeks, Sought, Best, FoundAt, Nearer}
+use Rattle.sifc_symtab.specs.Seek.{Hit, Stops, Hashed, Seeks, Sought, Finds, FoundAt, Nearer}
 use Rattle.sifc_symtab.proofs.Cases.{by-eq, by-lt}
 use Rattle.sifc_symtab.proofs.Hash.{bucket-in}
-use Rattle.sifc_symtab.proofs.Seek.{reach, seeking-start, seeking-none, seeking-next, reach-less, best-end, best-low, best-here, hit-bucket, nearer-miss, nearer-hit}
+use Rattle.sifc_symtab.proofs.Seek.{reach, seeking-start, seeking-none, seeking-next, reach-less, finds-end, finds-low, finds-here, hit-bucket, nearer-miss, nearer-hit}
 
 module _ (script offs words symbols : List ℕ) (n low high h : ℕ) (s : List ℕ) (p : Holds script offs words symbols n) (e : h ≡ hash_of s) where
   -- ── the walk ──
@@ -48,8 +49,8 @@ module _ (script offs words symbols : List ℕ) (n low high h : ℕ) (s : List �
       walk-room = let o = walk-in in omega (arith, p.room)
 
       -- and its name's hash
-      pub walk-hashed : Hashed script offs words symbols (at - 1) h s
-      walk-hashed = record { room = walk-room; one = p.hashes (at - 1) walk-in; other = e }
+      pub walk-hashed : Hashed script offs words symbols (at - 1)
+      walk-hashed = record { room = walk-room; one = p.hashes (at - 1) walk-in }
 
       -- the walk ends there
       pub walk-stop : (r : Bool) → Stops low high s (sym_at script offs words symbols (at - 1)) r → r ≡ true → Sought script offs words symbols n low high h s (record { prev = prev; at = at })
@@ -76,10 +77,6 @@ module _ (script offs words symbols : List ℕ) (n low high h : ℕ) (s : List �
           (reach-less (buckets_of words symbols) (min n linked) low high (h % buckets_of words symbols) s (sym_at script offs words symbols) (level_at symbols) (bucket_at words symbols) (next_at symbols) (head_at symbols) p.chains (omega arith)
           prev at (at - 1) k link)
 
-    -- the chain ends
-    pub walk_end : at ≤ 0 → Sought script offs words symbols n low high h s (record { prev = prev; at = at })
-    walk_end z = record { seeks = k; stopped = λ m q. absurd (let x : ⊥ = omega arith in x) }
-
   -- ── what it has found ──
 
   module _ (t : Spot) (k : Sought script offs words symbols n low high h s t) where
@@ -88,32 +85,26 @@ module _ (script offs words symbols : List ℕ) (n low high h : ℕ) (s : List �
     spot-room = by-eq t.at 0 (λ z. omega arith) (λ z. omega (arith, walk-room t.prev t.at k.seeks (omega arith)))
 
     -- the best of those that are linked
-    pub look-start : (r : ℕ) → FoundAt symbols n low t.at r → Best (sym_at script offs words symbols) low high s n (min n linked) r
+    pub look-start : (r : Found ℕ) → FoundAt symbols low t.at r → Finds (sym_at script offs words symbols) low high s (min n linked) r
     unfolding sym_at
     look-start r f =
         by-eq t.at 0
-        (λ z. best-end (buckets_of words symbols) (min n linked) low high (h % buckets_of words symbols) s (sym_at script offs words symbols) (level_at symbols) (bucket_at words symbols) (next_at symbols) (head_at symbols) p.chains (omega arith)
-        n t.prev t.at r k.seeks (omega arith) (λ j. refl) k.stopped in-bucket z (f.none z))
+        (λ z. finds-end (buckets_of words symbols) (min n linked) low high (h % buckets_of words symbols) s (sym_at script offs words symbols) (level_at symbols) (bucket_at words symbols) (next_at symbols) (head_at symbols) p.chains (omega arith)
+        t.prev t.at r k.seeks (λ j. refl) k.stopped in-bucket z (f.none z))
         (λ z. let y : t.at ≡ suc (t.at - 1) = omega arith in
         by-lt (level_at symbols (t.at - 1)) low
-        (λ x. best-low (buckets_of words symbols) (min n linked) low high (h % buckets_of words symbols) s (sym_at script offs words symbols) (level_at symbols) (bucket_at words symbols) (next_at symbols) (head_at symbols) p.chains (omega arith)
-        n t.prev t.at r k.seeks (omega arith) (λ j. refl) k.stopped in-bucket (t.at - 1) y x (f.below (t.at - 1) y x))
-        (λ x. best-here (buckets_of words symbols) (min n linked) low high (h % buckets_of words symbols) s (sym_at script offs words symbols) (level_at symbols) (bucket_at words symbols) (next_at symbols) (head_at symbols) p.chains (omega arith)
-        n t.prev t.at r k.seeks (omega arith) (λ j. refl) k.stopped in-bucket (t.at - 1) y x (f.some (t.at - 1) y x)))
+        (λ x. finds-low (buckets_of words symbols) (min n linked) low high (h % buckets_of words symbols) s (sym_at script offs words symbols) (level_at symbols) (bucket_at words symbols) (next_at symbols) (head_at symbols) p.chains (omega arith)
+        t.prev t.at r k.seeks (λ j. refl) k.stopped in-bucket (t.at - 1) y x (f.below (t.at - 1) y x))
+        (λ x. finds-here (buckets_of words symbols) (min n linked) low high (h % buckets_of words symbols) s (sym_at script offs words symbols) (level_at symbols) (bucket_at words symbols) (next_at symbols) (head_at symbols) p.chains (omega arith)
+        t.prev t.at r k.seeks (λ j. refl) k.stopped in-bucket (t.at - 1) y x (f.some (t.at - 1) y x)))
       where
         in-bucket : (j : ℕ) → j < min n linked → Hit low high s (sym_at script offs words symbols j) → bucket_at words symbols j ≡ h % buckets_of words symbols
         in-bucket j i = hit-bucket script offs words symbols n h s p e low high j (omega arith)
 
-  -- ── one by one ──
-
-  -- each symbol has its name's hash
-  pub rest-hashed : (k : ℕ) → k < n → Hashed script offs words symbols k h s
-  rest-hashed k i = record { room = omega (arith, p.room); one = p.hashes k i; other = e }
-
 -- by the two levels
-pub nearer-by : (f : ℕ → Sym) (low high : ℕ) (s : List ℕ) (n k best : ℕ) → Hit low high s (f k) → (best ≡ n → ⊥) → best ≤ n → (x y : ℕ) → x ≡ (f best).level → y ≡ (f k).level → Nearer f low high s n best k (ltb x y)
-nearer-by f low high s n k best t ne w x y ex ey = go (ltb x y) refl
+pub nearer-by : (f : ℕ → Sym) (low high : ℕ) (s : List ℕ) (k b : ℕ) → Hit low high s (f k) → (x y : ℕ) → x ≡ (f b).level → y ≡ (f k).level → Nearer f low high s (Some b) k (ltb x y)
+nearer-by f low high s k b t x y ex ey = go (ltb x y) refl
   where
-    go : (r : Bool) → ltb x y ≡ r → Nearer f low high s n best k r
-    go true e = let a = ltb-true x y e in nearer-hit f low high s n k best t (λ b. omega arith)
-    go false e = let a = ltb-false x y e in nearer-miss f low high s n k best (λ b. (omega arith, omega arith))
+    go : (r : Bool) → ltb x y ≡ r → Nearer f low high s (Some b) k r
+    go true e = let a = ltb-true x y e in nearer-hit f low high s k (Some b) t (omega arith)
+    go false e = let a = ltb-false x y e in nearer-miss f low high s k (Some b) (λ z. omega arith)

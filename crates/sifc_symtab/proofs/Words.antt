@@ -6,10 +6,13 @@ use mathlib.Core.Bool.{true, false}
 use native.Mathlib.Omega.{arith}
 use lib.ListN.{length, get_or, set, length-set}
 use lib.Seq.{get_or-set_same, get_or-set_other}
+use Rattle.std.proofs.lemmas.List.{set-get_or}
 use Rattle.sifc_word.specs.Base.{if◌then◌otherwise◌}
 use Rattle.sifc_def.specs.declared.What.{What}
 use Rattle.sifc_def.specs.declared.What.TheVariants.{Placeholder, Function, Variable, Other}
 use Rattle.sifc_symtab.specs.Table.{name_in, what_of, tag_of, value_of, level_at, value_at, token_in, tag_at, hash_at, next_at, head_at, sym_at, entered, with_next, with_head, buckets_of, Opens}
+use Rattle.sifc_symtab.specs.declared.entry.Entry.{Entry}
+use Rattle.sifc_symtab.specs.Entry.{entry_of, written, level_of, hash_in, next_of, head_of, declared_as, followed_by, headed_by}
 use Rattle.sifc_symtab.proofs.Cases.{by-eq}
 
 -- the tag and the value say what was stored
@@ -241,10 +244,54 @@ module _ (symbols : List ℕ) (b l : ℕ) where
     pub head-next : (j : ℕ) → next_at (with_head symbols b l) j ≡ next_at symbols j
     head-next j = by-eq j b (λ e. ap (next_at (with_head symbols b l)) e ∙ nexts-here ∙ ap (next_at symbols) (sym e)) (nexts-other j)
 
--- a link is less than 65,536
-pub next_fits : (symbols : List ℕ) (k : ℕ) → next_at symbols k < 65536
-unfolding next_at
-next_fits symbols k = omega arith
+-- ── a symbol's words, read and written ──
+
+module _ (symbols : List ℕ) (k : ℕ) (e : Entry) (p : e ≡ entry_of symbols k) where
+  -- the level
+  pub level-read : level_of e ≡ level_at symbols k
+  unfolding level_at
+  level-read = ap level_of p
+
+  -- the name's token
+  pub token-read : e.token ≡ token_in symbols k
+  token-read = ap (λ (x : Entry). x.token) p
+
+  -- the hash
+  pub hash-read : hash_in e ≡ hash_at symbols k
+  unfolding hash_at
+  hash-read = ap hash_in p
+
+  -- the link to what follows
+  pub next-read : next_of e ≡ next_at symbols k
+  unfolding next_at
+  next-read = ap next_of p
+
+  -- the link to the bucket's first
+  pub head-read : head_of e ≡ head_at symbols k
+  unfolding head_at
+  head-read = ap head_of p
+
+  -- another symbol
+  pub declared-write : (level i : ℕ) (w : What) (h : ℕ) (d : Entry) → d ≡ declared_as e level i w h → written symbols k d ≡ entered symbols k level i w h
+  unfolding written entered
+  declared-write level i w h d q =
+      ap (written symbols k) (q ∙ ap (λ (x : Entry). declared_as x level i w h) p)
+      ∙ ap (set (entered symbols k level i w h) (4 * k + 3)) (sym (links symbols k level i w h k))
+      ∙ set-get_or (entered symbols k level i w h) (4 * k + 3) 0
+
+  -- another link to what follows
+  pub next-write : (l : ℕ) (d : Entry) → d ≡ followed_by e l → written symbols k d ≡ with_next symbols k l
+  unfolding written with_next head_at
+  next-write l d q =
+      ap (written symbols k) (q ∙ ap (λ (x : Entry). followed_by x l) p)
+      ∙ rw (set-get_or symbols (4 * k) 0, set-get_or symbols (4 * k + 1) 0, set-get_or symbols (4 * k + 2) 0) refl
+
+  -- another link to the bucket's first
+  pub head-write : (l : ℕ) (d : Entry) → d ≡ headed_by e l → written symbols k d ≡ with_head symbols k l
+  unfolding written with_head next_at
+  head-write l d q =
+      ap (written symbols k) (q ∙ ap (λ (x : Entry). headed_by x l) p)
+      ∙ rw (set-get_or symbols (4 * k) 0, set-get_or symbols (4 * k + 1) 0, set-get_or symbols (4 * k + 2) 0) refl
 
 -- ── no symbols at first ──
 

@@ -1,5 +1,5 @@
 -- What is looked for among the symbols: the entry of a name that has the highest level between two levels.
-use Rattle.std.specs.Prelude.{ℕ, suc, ◌+◌, ◌*◌, ◌%◌, ◌≤◌, ◌<◌, min, ◌≡◌, List, Bool, true, false, length}
+use Rattle.std.specs.Prelude.{Option as Found, Some, None, ℕ, suc, ◌+◌, ◌*◌, ◌%◌, ◌≤◌, ◌<◌, min, ◌≡◌, List, Bool, true, false, length}
 use Rattle.sifc_word.specs.Base.{same}
 use Rattle.sifc_def.specs.State.{Sym}
 use Rattle.sifc_symtab.specs.declared.symtab.Spot.{Spot}
@@ -18,11 +18,10 @@ pub record Stops (low high : ℕ) (s : List ℕ) (x : Sym) (r : Bool) : Type 0 w
   pub no : r ≡ false → Hit low high s x → ⊥
   pub passed : r ≡ false → low ≤ x.level
 
--- symbol k has its name's hash, and h is the hash of the name s
-pub record Hashed (script offs words symbols : List ℕ) (k h : ℕ) (s : List ℕ) : Type 0 where
+-- symbol k has its words, and its name's hash
+pub record Hashed (script offs words symbols : List ℕ) (k : ℕ) : Type 0 where
   pub room : k * 4 + 4 ≤ length symbols
   pub one : hash_at symbols k ≡ hash_of (name_in script offs words (token_in symbols k))
-  pub other : h ≡ hash_of s
 
 -- entry m, which has been passed, is in bucket b, and the link at is its next
 pub record Follows (n : ℕ) (lev buc next : ℕ → ℕ) (low b m at : ℕ) : Type 0 where
@@ -60,23 +59,37 @@ pub record Nearest (f : ℕ → Sym) (low high : ℕ) (s : List ℕ) (k r : ℕ)
   pub highest : (j : ℕ) → j < k → Hit low high s (f j) → (f j).level ≤ (f r).level
   pub oldest : (j : ℕ) → j < k → Hit low high s (f j) → (f j).level ≡ (f r).level → r ≤ j
 
--- the same, with n for none
-pub record Best (f : ℕ → Sym) (low high : ℕ) (s : List ℕ) (n k r : ℕ) : Type 0 where
-  pub within : r ≤ n
-  pub none : r ≡ n → (j : ℕ) → j < k → Hit low high s (f j) → ⊥
-  pub some : r < n → Nearest f low high s k r
+-- the same as an answer: that hit, or none
+abbrev pub Finds : (ℕ → Sym) → ℕ → ℕ → List ℕ → ℕ → Found ℕ → Type 0
+Finds f low high s k None = (j : ℕ) → j < k → Hit low high s (f j) → ⊥
+Finds f low high s k (Some r) = Nearest f low high s k r
 
--- the symbol that a link leads to, unless its level is below low; else n
-pub record FoundAt (symbols : List ℕ) (n low at r : ℕ) : Type 0 where
-  pub none : at ≡ 0 → r ≡ n
-  pub below : (m : ℕ) → at ≡ suc m → level_at symbols m < low → r ≡ n
-  pub some : (m : ℕ) → at ≡ suc m → low ≤ level_at symbols m → r ≡ m
+-- the symbol that a link leads to, unless its level is below low
+pub record FoundAt (symbols : List ℕ) (low at : ℕ) (r : Found ℕ) : Type 0 where
+  pub none : at ≡ 0 → r ≡ None
+  pub below : (m : ℕ) → at ≡ suc m → level_at symbols m < low → r ≡ None
+  pub some : (m : ℕ) → at ≡ suc m → low ≤ level_at symbols m → r ≡ Some m
+
+-- what is found, if anything, is one of the first n entries
+abbrev pub Among : ℕ → Found ℕ → Type 0
+Among n None = Unit
+Among n (Some b) = b < n
+
+-- its level is below entry k's
+abbrev pub Lower : (ℕ → Sym) → ℕ → Found ℕ → Type 0
+Lower f k None = Unit
+Lower f k (Some b) = (f b).level < (f k).level
+
+-- something is found, and its level is entry k's or a higher one
+abbrev pub AsHigh : (ℕ → Sym) → ℕ → Found ℕ → Type 0
+AsHigh f k None = ⊥
+AsHigh f k (Some b) = (f k).level ≤ (f b).level
 
 -- whether entry k is a hit that is better than the one so far
-pub record Nearer (f : ℕ → Sym) (low high : ℕ) (s : List ℕ) (n best k : ℕ) (r : Bool) : Type 0 where
+pub record Nearer (f : ℕ → Sym) (low high : ℕ) (s : List ℕ) (best : Found ℕ) (k : ℕ) (r : Bool) : Type 0 where
   pub hit : r ≡ true → Hit low high s (f k)
-  pub higher : r ≡ true → best < n → (f best).level < (f k).level
-  pub miss : r ≡ false → Hit low high s (f k) → (best < n) × ((f k).level ≤ (f best).level)
+  pub higher : r ≡ true → Lower f k best
+  pub miss : r ≡ false → Hit low high s (f k) → AsHigh f k best
 
 -- ── a new symbol in its chain ──
 

@@ -2,10 +2,173 @@
 // two links, next + 65536 * head. The tag and the value say what it was declared as. `next` leads to the
 // symbol that follows it in its chain, `head` to the first of the bucket that has its number. A link is
 // a symbol's number + 1, or 0.
-ghost use Rattle.std.specs.Prelude.{◌≡◌, ◌+◌, ◌*◌, ◌≤◌, ◌<◌, length};
-ghost use Rattle.sifc_symtab.specs.Table.{room_of, buckets_of, what_of, what_at, tag_of, value_of, level_at, token_in, hash_at, next_at, head_at, entered, with_next, with_head};
+ghost use Rattle.std.specs.Prelude.{◌≡◌, ◌+◌, ◌*◌, ◌/◌, ◌≤◌, ◌<◌, length};
+ghost use Rattle.sifc_symtab.specs.Table.{room_of, buckets_of, tag_of, value_of};
+ghost use Rattle.sifc_symtab.specs.Entry.{entry_of, written, level_of, hash_in, next_of, head_of, what_in, declared_as, followed_by, headed_by};
 
 use sifc_def::What;
+
+// The tags of what a symbol is declared as.
+const PLACEHOLDER: u32 = 0;
+
+const FUNCTION: u32 = 1;
+
+const LOCAL: u32 = 2;
+
+const GLOBAL: u32 = 3;
+
+const OTHER: u32 = 4;
+
+// The words of one symbol.
+#[derive(Clone, Copy)]
+pub struct Entry {
+    sizes: u32,
+    token: u32,
+    named: u32,
+    links: u32,
+}
+
+impl Entry {
+    // Those of symbol k.
+    pub fn read(symbols: &[u32], k: usize) -> Entry
+        requires { k * 4 + 4 ≤ length symbols.now }
+        ensures { result ≡ entry_of symbols.now k }
+    {
+        Entry {
+            sizes: symbols[4 * k],
+            token: symbols[4 * k + 1],
+            named: symbols[4 * k + 2],
+            links: symbols[4 * k + 3],
+        }
+    }
+
+    // Makes them those of symbol k.
+    #[tactic(auto, unfolding(crate::specs::Entry::written))]
+    pub fn write(self, symbols: &mut [u32], k: usize)
+        requires { k * 4 + 4 ≤ length symbols.old }
+        ensures { symbols.new ≡ written symbols.old k self }
+    {
+        symbols[4 * k] = self.sizes;
+        symbols[4 * k + 1] = self.token;
+        symbols[4 * k + 2] = self.named;
+        symbols[4 * k + 3] = self.links;
+    }
+
+    // The symbol's level.
+    pub fn level(self) -> usize
+        ensures { result ≡ level_of self }
+    {
+        self.sizes as usize % 65536
+    }
+
+    // The token under whose name it was stored last.
+    pub fn token(self) -> usize
+        ensures { result ≡ self.token }
+    {
+        self.token as usize
+    }
+
+    // The hash of its name.
+    pub fn hash(self) -> usize
+        ensures { result ≡ hash_in self }
+    {
+        self.named as usize / 8
+    }
+
+    // The link to what follows it.
+    pub fn next(self) -> usize
+        ensures { result ≡ next_of self }
+    {
+        self.links as usize % 65536
+    }
+
+    // The link to the first symbol of the bucket with its number.
+    pub fn head(self) -> usize
+        ensures { result ≡ head_of self }
+    {
+        self.links as usize / 65536
+    }
+
+    // What it was declared as.
+    #[tactic(auto, unfolding(crate::specs::Table::value_of))]
+    pub fn what(self) -> What
+        ensures is { result ≡ what_in self }
+        ensures fits { value_of result < 65536 }
+    {
+        let value = (self.sizes / 65536) as usize;
+        match self.named % 8 {
+            PLACEHOLDER => What::Placeholder,
+            FUNCTION => What::Function(value),
+            LOCAL => What::Variable(value, false),
+            GLOBAL => What::Variable(value, true),
+            _ => What::Other,
+        }
+    }
+
+    // The same links with another symbol: its level, its name's token and hash, and what it is declared
+    // as.
+    pub fn declared(self, level: usize, i: usize, what: What, hash: usize) -> Entry
+        requires { (level < 65536) × (i < 4294967296) × (value_of what < 65536) × (hash < 536870912) }
+        ensures { result ≡ declared_as self level i what hash }
+    {
+        let tag = tag_of(what) as usize;
+        let value = value_of(what);
+        Entry {
+            sizes: (level + 65536 * value) as u32,
+            token: i as u32,
+            named: (tag + 8 * hash) as u32,
+            ..self
+        }
+    }
+
+    // The same symbol, followed by what the link leads to.
+    pub fn with_next(self, link: usize) -> Entry
+        requires { link < 65536 }
+        ensures { result ≡ followed_by self link }
+    {
+        Entry {
+            links: (link + 65536 * self.head()) as u32,
+            ..self
+        }
+    }
+
+    // The same symbol; the bucket with its number begins with what the link leads to.
+    pub fn with_head(self, link: usize) -> Entry
+        requires { link < 65536 }
+        ensures { result ≡ headed_by self link }
+    {
+        Entry {
+            links: (self.next() + 65536 * link) as u32,
+            ..self
+        }
+    }
+}
+
+// The tag of what a symbol is declared as.
+#[tactic(auto, unfolding(crate::specs::Table::tag_of))]
+fn tag_of(what: What) -> u32
+    ensures { result ≡ tag_of what }
+{
+    match what {
+        What::Placeholder => PLACEHOLDER,
+        What::Function(_) => FUNCTION,
+        What::Variable(_, false) => LOCAL,
+        What::Variable(_, true) => GLOBAL,
+        What::Other => OTHER,
+    }
+}
+
+// The value: a function's parameter count, a variable's declaration token.
+#[tactic(auto, unfolding(crate::specs::Table::value_of))]
+fn value_of(what: What) -> usize
+    ensures { result ≡ value_of what }
+{
+    match what {
+        What::Function(count) => count,
+        What::Variable(token, _) => token,
+        What::Placeholder | What::Other => 0,
+    }
+}
 
 // How many symbols the words have room for.
 pub fn room(symbols: &[u32]) -> usize
@@ -19,131 +182,5 @@ pub fn room(symbols: &[u32]) -> usize
 pub fn buckets(words: &[u32], symbols: &[u32]) -> usize
     ensures { result ≡ buckets_of words.now symbols.now }
 {
-    let most = room(symbols);
-    if most <= words.len() {
-        return most;
-    }
-    words.len() + 1
-}
-
-// The level of symbol k.
-pub fn level_at(symbols: &[u32], k: usize) -> usize
-    requires { k * 4 + 4 ≤ length symbols.now }
-    ensures { result ≡ level_at symbols.now k }
-{
-    symbols[4 * k] as usize % 65536
-}
-
-// The token under whose name symbol k was stored last.
-pub fn token_at(symbols: &[u32], k: usize) -> usize
-    requires { k * 4 + 4 ≤ length symbols.now }
-    ensures { result ≡ token_in symbols.now k }
-{
-    symbols[4 * k + 1] as usize
-}
-
-// The hash of its name.
-pub fn hash_at(symbols: &[u32], k: usize) -> usize
-    requires { k * 4 + 4 ≤ length symbols.now }
-    ensures { result ≡ hash_at symbols.now k }
-{
-    symbols[4 * k + 2] as usize / 8
-}
-
-// The link to what follows it.
-pub fn next_at(symbols: &[u32], k: usize) -> usize
-    requires { k * 4 + 4 ≤ length symbols.now }
-    ensures { result ≡ next_at symbols.now k }
-{
-    symbols[4 * k + 3] as usize % 65536
-}
-
-// The link to the first symbol of bucket b.
-pub fn head_at(symbols: &[u32], b: usize) -> usize
-    requires { b * 4 + 4 ≤ length symbols.now }
-    ensures { result ≡ head_at symbols.now b }
-{
-    symbols[4 * b + 3] as usize / 65536
-}
-
-// What symbol k was declared as.
-pub fn what_at(symbols: &[u32], k: usize) -> What
-    requires { k * 4 + 4 ≤ length symbols.now }
-    ensures is { result ≡ what_at symbols.now k }
-    ensures fits { value_of result < 65536 }
-{
-    what_of(symbols[4 * k + 2] % 8, symbols[4 * k] / 65536)
-}
-
-// What a tag and a value say that a symbol was declared as.
-fn what_of(tag: u32, value: u32) -> What
-    ensures { result ≡ what_of tag value }
-{
-    if tag == 0 {
-        return What::Placeholder;
-    }
-    if tag == 1 {
-        return What::Function(value as usize);
-    }
-    if tag == 2 {
-        return What::Variable(value as usize, false);
-    }
-    if tag == 3 {
-        return What::Variable(value as usize, true);
-    }
-    What::Other
-}
-
-// The tag.
-fn tag_of(what: What) -> usize
-    ensures { result ≡ tag_of what }
-{
-    match what {
-        What::Placeholder => 0,
-        What::Function(_) => 1,
-        What::Variable(_, global) => if global { 3 } else { 2 },
-        What::Other => 4,
-    }
-}
-
-// The value: a function's parameter count, a variable's declaration token.
-fn value_of(what: What) -> usize
-    ensures { result ≡ value_of what }
-{
-    match what {
-        What::Placeholder => 0,
-        What::Function(count) => count,
-        What::Variable(token, _) => token,
-        What::Other => 0,
-    }
-}
-
-// Writes symbol k, and leaves its links.
-pub fn put(symbols: &mut [u32], k: usize, level: usize, i: usize, what: What, hash: usize)
-    requires { (k * 4 + 4 ≤ length symbols.old) × (level < 65536) × (i < 4294967296) × (value_of what < 65536) × (hash < 536870912) }
-    ensures { symbols.new ≡ entered symbols.old k level i what hash }
-{
-    let tag = tag_of(what);
-    let value = value_of(what);
-    symbols[4 * k] = (level + 65536 * value) as u32;
-    symbols[4 * k + 1] = i as u32;
-    symbols[4 * k + 2] = (tag + 8 * hash) as u32;
-}
-
-// Lets symbol k be followed by what the link leads to.
-pub fn set_next(symbols: &mut [u32], k: usize, link: usize)
-    requires { (k * 4 + 4 ≤ length symbols.old) × (link < 65536) }
-    ensures { symbols.new ≡ with_next symbols.old k link }
-{
-    let head = head_at(symbols, k);
-    symbols[4 * k + 3] = (link + 65536 * head) as u32;
-}
-
-// Lets bucket b begin with what the link leads to.
-pub fn set_head(symbols: &mut [u32], b: usize, link: usize)
-    requires { (b * 4 + 4 ≤ length symbols.old) × (link < 65536) }
-    ensures { symbols.new ≡ with_head symbols.old b link }
-{
-    let next = next_at(symbols, b);
-    symbols[4 * b + 3] = (next + 65536 * link) as u32;
+    room(symbols).min(words.len() + 1)
 }

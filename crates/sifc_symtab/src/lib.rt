@@ -5,6 +5,7 @@
 mod entry;
 mod symtab;
 mod token;
+mod wanted;
 
-pub use symtab::{open, retrieve, store};
-pub use token::name;
+pub use symtab::{SymTab, open, store};
+pub use token::Tokens;

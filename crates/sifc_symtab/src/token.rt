@@ -2,27 +2,38 @@
 ghost use Rattle.std.specs.Prelude.{◌≡◌, ◌-◌, length, take, drop};
 ghost use Rattle.sifc_symtab.specs.Table.{name_in, hash_of};
 
+use sifc_word::kind::STR;
 use sifc_word::part;
 
-// The bytes of token i's name, a part of the script: a Str's without its quotes. There is no name past
-// the end of the token arrays.
-pub fn name<'a>(script: &'a [u8], offs: &[u32], words: &[u32], i: usize) -> &'a [u8]
-    ensures { result.now ≡ name_in script.now offs.now words.now i }
-{
-    if offs.len() <= i {
-        return part(script, 0, 0);
+// A script and its tokens, whose names are parts of the script.
+#[derive(Clone, Copy)]
+pub struct Tokens<'a> {
+    pub script: &'a [u8],
+    pub offs: &'a [u32],
+    pub words: &'a [u32],
+}
+
+impl<'a> Tokens<'a> {
+    // The bytes of token i's name, a part of the script: a Str's without its quotes. There is no name
+    // past the end of the token arrays.
+    pub fn name(&self, i: usize) -> &'a [u8]
+        ensures { result.now ≡ name_in self.now.script.now self.now.offs.now self.now.words.now i }
+    {
+        if self.offs.len() <= i {
+            return part(self.script, 0, 0);
+        }
+        if self.words.len() <= i {
+            return part(self.script, 0, 0);
+        }
+        let off = self.offs[i] as usize;
+        let word = self.words[i];
+        let len = (word / 64) as usize;
+        let text = part(self.script, off, len);
+        if word % 64 == STR {
+            return unquoted(text);
+        }
+        text
     }
-    if words.len() <= i {
-        return part(script, 0, 0);
-    }
-    let off = offs[i] as usize;
-    let word = words[i];
-    let len = (word / 64) as usize;
-    let text = part(script, off, len);
-    if word % 64 == 32 {
-        return unquoted(text);
-    }
-    text
 }
 
 // What stands between the quotes of a Str's text.

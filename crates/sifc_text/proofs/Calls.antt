@@ -3,7 +3,7 @@ use Rattle.std.specs.Prelude.{Err, Ok}
 use Prim.Native.Nat.{ℕ, ◌-◌, ◌≤◌}
 use native.Mathlib.Omega.{arith}
 use mathlib.Core.Path.{◌≡◌, refl, sym, ap, ap₂, ◌∙◌, subst}
-use mathlib.Core.List.{List, [], map}
+use mathlib.Core.List.{List, map}
 use mathlib.Core.Bool.{Bool, true, false}
 use lib.Dec.{ltb}
 use lib.ListN.{length, take, replicate, length-append, length-map}
@@ -24,18 +24,17 @@ use Rattle.sifc_def.specs.Typed.{Stmts, OkProgram, SaidSs}
 use Rattle.sifc_def.proofs.Canon.Bytes as canon
 use Rattle.sifc_def.proofs.Canon.Calls.{Reads}
 use Rattle.sifc_def.proofs.Canon.Demand3.{Shows, shows-text, found-same, Typed, typed}
-use Rattle.sifc_put.specs.Place.{Inp, inp}
+use Rattle.sifc_put.specs.Place.{Inp}
 use Rattle.sifc_put.specs.Post.{SpotOf}
 use Rattle.sifc_put.specs.Spans.{SpansProgram}
-use Rattle.sifc_lent.specs.Parts.{arrays, UsedBy}
-use Rattle.sifc_lent.proofs.EntryLaws.{entry-same}
+use Rattle.sifc_lent.specs.Parts.{SameLong, cleared_beside, UsedBy}
 use Rattle.sifc_lent.proofs.LexedLaws.{length-offs, length-words, used-part}
 use Rattle.sifc_lent.proofs.PartLaws.{zeroed-long, same-arrays}
 use Rattle.sifc_text.specs.Stands.{left}
 use Rattle.sifc_text.specs.Bridge.{bridge}
 use Rattle.sifc_text_stmt.specs.Kinds.{program_l}
 use Rattle.sifc_write.specs.Front.{Buffered, buffered, fitted, Fronts}
-use Rattle.sifc_text.specs.Post.{LeftBy, Left, Texts}
+use Rattle.sifc_text.specs.Post.{Holds, cut_to, LeftBy, Left, Texts}
 
 -- ── a program that is found ──
 
@@ -60,24 +59,24 @@ padded-long : (xs : List ℕ) (n : ℕ) → length xs ≤ length (padded xs n)
 unfolding padded
 padded-long xs n = let l = length-append xs (replicate (n - length xs) 0) in omega arith
 
-module _ (s o w h l y p r : List ℕ) (m : Summary) where
-  module _ (a : Arrays) (f : Found) (z : LeftBy s (arrays o w h l y p r) m a f) where
+module _ (s : List ℕ) (b : Arrays) (m : Summary) where
+  module _ (a : Arrays) (f : Found) (z : LeftBy s b m a f) where
     tokens-is : m.tokens ≡ length f.toks
     tokens-is = ap (λ (x : Summary). x.tokens) z.answer
 
     nodes-is : m.nodes ≡ length f.nodes
     nodes-is = ap (λ (x : Summary). x.nodes) z.answer
 
-    offs-is : o ≡ padded (offs_of f.toks) (length a.offs)
+    offs-is : b.offs ≡ padded (offs_of f.toks) (length a.offs)
     offs-is = ap (λ (x : Arrays). x.offs) z.arrays
 
-    words-is : w ≡ padded (words_of f.toks) (length a.words)
+    words-is : b.words ≡ padded (words_of f.toks) (length a.words)
     words-is = ap (λ (x : Arrays). x.words) z.arrays
 
-    heads-is : h ≡ padded (map head_word f.nodes) (length a.heads)
+    heads-is : b.heads ≡ padded (map head_word f.nodes) (length a.heads)
     heads-is = ap (λ (x : Arrays). x.heads) z.arrays
 
-    loads-is : l ≡ padded (map (λ (n : Node). n.pay) f.nodes) (length a.loads)
+    loads-is : b.loads ≡ padded (map (λ (n : Node). n.pay) f.nodes) (length a.loads)
     loads-is = ap (λ (x : Arrays). x.loads) z.arrays
 
     -- the flag that is answered is the one that was found
@@ -85,39 +84,42 @@ module _ (s o w h l y p r : List ℕ) (m : Summary) where
     flag_is = ap (λ (x : Summary). x.flag) z.answer
 
     -- The used parts are those that the bridge speaks of.
-    same-inp : f.toks ≡ lex s → inp s (take m.tokens o) (take m.tokens w) (take m.nodes h) (take m.nodes l) ≡ left s f.nodes
+    same-inp : f.toks ≡ lex s → cut_to s b m.tokens m.nodes ≡ left s f.nodes
     same-inp e =
-        let eo : take m.tokens o ≡ offs_of (lex s) = ap (take m.tokens) offs-is ∙ used-part (offs_of f.toks) m.tokens (length a.offs) (length-offs f.toks ∙ sym tokens-is) ∙ ap offs_of e in
-        let ew : take m.tokens w ≡ words_of (lex s) = ap (take m.tokens) words-is ∙ used-part (words_of f.toks) m.tokens (length a.words) (length-words f.toks ∙ sym tokens-is) ∙ ap words_of e in
-        let eh : take m.nodes h ≡ map head_word f.nodes = ap (take m.nodes) heads-is ∙ used-part (map head_word f.nodes) m.nodes (length a.heads) (length-map f.nodes head_word ∙ sym nodes-is) in
-        let el : take m.nodes l ≡ map (λ (n : Node). n.pay) f.nodes = ap (take m.nodes) loads-is ∙ used-part (map (λ (n : Node). n.pay) f.nodes) m.nodes (length a.loads) (length-map f.nodes (λ (n : Node). n.pay) ∙ sym nodes-is) in
+        let eo : take m.tokens b.offs ≡ offs_of (lex s) = ap (take m.tokens) offs-is ∙ used-part (offs_of f.toks) m.tokens (length a.offs) (length-offs f.toks ∙ sym tokens-is) ∙ ap offs_of e in
+        let ew : take m.tokens b.words ≡ words_of (lex s) = ap (take m.tokens) words-is ∙ used-part (words_of f.toks) m.tokens (length a.words) (length-words f.toks ∙ sym tokens-is) ∙ ap words_of e in
+        let eh : take m.nodes b.heads ≡ map head_word f.nodes = ap (take m.nodes) heads-is ∙ used-part (map head_word f.nodes) m.nodes (length a.heads) (length-map f.nodes head_word ∙ sym nodes-is) in
+        let el : take m.nodes b.loads ≡ map (λ (n : Node). n.pay) f.nodes = ap (take m.nodes) loads-is ∙ used-part (map (λ (n : Node). n.pay) f.nodes) m.nodes (length a.loads) (length-map f.nodes (λ (n : Node). n.pay) ∙ sym nodes-is) in
         cc
 
-    in-heads : m.nodes ≤ length h
+    in-heads : m.nodes ≤ length b.heads
     in-heads = omega (arith, nodes-is, length-map f.nodes head_word, padded-long (map head_word f.nodes) (length a.heads), ap length heads-is)
 
     -- The program stands in them.
-    stands : (d : Shown s f) → SpansProgram (inp s (take m.tokens o) (take m.tokens w) (take m.nodes h) (take m.nodes l)) d.program 0 (length (take m.nodes h))
+    stands : (d : Shown s f) → SpansProgram (cut_to s b m.tokens m.nodes) d.program 0 (length (take m.nodes b.heads))
     stands d =
-        subst (λ (i : ℕ). SpansProgram (inp s (take m.tokens o) (take m.tokens w) (take m.nodes h) (take m.nodes l)) d.program 0 i) (sym (length-take-le m.nodes h in-heads ∙ nodes-is))
+        subst (λ (i : ℕ). SpansProgram (cut_to s b m.tokens m.nodes) d.program 0 i) (sym (length-take-le m.nodes b.heads in-heads ∙ nodes-is))
         (subst (λ (I : Inp). SpansProgram I d.program 0 (length f.nodes)) (sym (same-inp d.shows.toks)) (bridge s f.nodes d.program d.fine d.shows.labelled))
 
-  module _ (z : Left s (arrays o w h l y p r) m) where
+  module _ (z : Left s b m) where
     -- The used parts lie in the arrays.
-    pub in-offs : m.tokens ≤ length o
+    in-offs : m.tokens ≤ length b.offs
     in-offs = let a = z.lent in let f = z.what in omega (arith, tokens-is a f z.by, length-offs f.toks, padded-long (offs_of f.toks) (length a.offs), ap length (offs-is a f z.by))
 
-    pub in_words : m.tokens ≤ length w
+    in_words : m.tokens ≤ length b.words
     in_words = let a = z.lent in let f = z.what in omega (arith, tokens-is a f z.by, length-words f.toks, padded-long (words_of f.toks) (length a.words), ap length (words-is a f z.by))
 
-    pub in-nodes : m.nodes ≤ length h
+    in-nodes : m.nodes ≤ length b.heads
     in-nodes = in-heads z.lent z.what z.by
 
-    pub in-loads : m.nodes ≤ length l
+    in-loads : m.nodes ≤ length b.loads
     in-loads = let a = z.lent in let f = z.what in omega (arith, nodes-is a f z.by, length-map f.nodes (λ (n : Node). n.pay), padded-long (map (λ (n : Node). n.pay) f.nodes) (length a.loads), ap length (loads-is a f z.by))
 
+    pub holds : Holds b m.tokens m.nodes
+    holds = record { offs = in-offs; words = in_words; heads = in-nodes; loads = in-loads }
+
     -- What lies past them is 0.
-    pub used : UsedBy m.tokens m.nodes m.errors (arrays o w h l [] p r)
+    pub used : UsedBy m.tokens m.nodes m.errors b
     used =
         let a = z.lent in
         let f = z.what in
@@ -133,17 +135,17 @@ module _ (s o w h l y p r : List ℕ) (m : Summary) where
         }
 
     -- The symbol words are 0 already, so all is where the other arrays are set to 0.
-    pub emptied : {o' w' h' l' p' r' : List ℕ} → arrays o' w' h' l' [] p' r' ≡ cleared_arrays (arrays o w h l [] p r) → arrays o' w' h' l' y p' r' ≡ cleared_arrays (arrays o w h l y p r)
+    pub emptied : {x : Arrays} → x ≡ cleared_beside b → x ≡ cleared_arrays b
     emptied e =
-        let still : y ≡ zeroed y = ap (λ (x : Arrays). x.symbols) z.by.arrays ∙ sym (ap (λ (x : Arrays). x.symbols) z.by.cleared) in
-        same-arrays (ap (λ (x : Arrays). x.offs) e) (ap (λ (x : Arrays). x.words) e) (ap (λ (x : Arrays). x.heads) e) (ap (λ (x : Arrays). x.loads) e) still (ap (λ (x : Arrays). x.places) e) (ap (λ (x : Arrays). x.reasons) e)
+        let still : b.symbols ≡ zeroed b.symbols = ap (λ (x : Arrays). x.symbols) z.by.arrays ∙ sym (ap (λ (x : Arrays). x.symbols) z.by.cleared) in
+        e ∙ same-arrays refl refl refl refl still refl refl
 
     -- There is a program to write, where the flag is down.
-    pub spot : {t : List ℕ} → m.flag ≡ false → SpotOf (program_l (inp s (take m.tokens o) (take m.tokens w) (take m.nodes h) (take m.nodes l))) t (length (take m.nodes h)) (length t)
-    spot e =
+    pub spot : {t : List ℕ} {I : Inp} → I ≡ cut_to s b m.tokens m.nodes → m.flag ≡ false → SpotOf (program_l I) t (length I.heads) (length t)
+    spot {t} i e =
         let f = z.what in
         let d : Shown s f = shown s z.lent f z.by.reads (sym (flag_is z.lent f z.by) ∙ e) in
-        record { tree = d.program; lo = 0; spans = stands z.lent f z.by d; room = omega arith }
+        subst (λ (I : Inp). SpotOf (program_l I) t (length I.heads) (length t)) (sym i) (record { tree = d.program; lo = 0; spans = stands z.lent f z.by d; room = omega arith })
 
 -- ── the text of what was found ──
 
@@ -190,38 +192,38 @@ flagged-is : (s : List ℕ) (a : Arrays) (t : List ℕ) (f : Found) → f.flag �
 unfolding texted if◌then◌otherwise◌
 flagged-is s a t f e = rw e refl
 
-module _ (s o w h l y p r : List ℕ) (m : Summary) where
+module _ (s : List ℕ) (b : Arrays) (m : Summary) where
   -- The flag is up.
-  pub flagged : {t t' : List ℕ} {b : Arrays} → m.flag ≡ true → b ≡ cleared_arrays (arrays o w h l y p r) → t' ≡ zeroed t → Texts s (arrays o w h l y p r) m t (written (Err Flagged) b t')
+  pub flagged : {t t' : List ℕ} {g : Arrays} → m.flag ≡ true → g ≡ cleared_arrays b → t' ≡ zeroed t → Texts s b m t (written (Err Flagged) g t')
   flagged {t} e c k =
       record {
         does = λ a f z.
             ap₂ (λ (x : Arrays) (v : List ℕ). written (Err Flagged) x v) (c ∙ z.cleared) k
-            ∙ flagged-is s a t f (sym (flag_is s o w h l y p r m a f z) ∙ e);
+            ∙ flagged-is s a t f (sym (flag_is s b m a f z) ∙ e);
       }
 
-  module _ {t t' : List ℕ} {u : Texting} (e : m.flag ≡ false)
-      (q : Fronts (program_l (inp s (take m.tokens o) (take m.tokens w) (take m.nodes h) (take m.nodes l))) t (length (take m.nodes h)) u t') where
+  module _ {t t' : List ℕ} {u : Texting} (e : m.flag ≡ false) {I : Inp} (i : I ≡ cut_to s b m.tokens m.nodes) (r : Fronts (program_l I) t (length I.heads) u t') where
     -- What is in the buffer is the text of what was found.
-    front-is : (a : Arrays) (f : Found) → LeftBy s (arrays o w h l y p r) m a f → buffered u t' ≡ fitted (text_found s f) t
+    front-is : (a : Arrays) (f : Found) → LeftBy s b m a f → buffered u t' ≡ fitted (text_found s f) t
     front-is a f z =
-        let d : Shown s f = shown s a f z.reads (sym (flag_is s o w h l y p r m a f z) ∙ e) in
-        q.does d.program 0 (stands s o w h l y p r m a f z d) ∙ ap (λ (v : List ℕ). fitted v t) (sym (shows-text s f d.program d.ok d.fine d.shows))
+        let d : Shown s f = shown s a f z.reads (sym (flag_is s b m a f z) ∙ e) in
+        let q : Fronts (program_l (cut_to s b m.tokens m.nodes)) t (length (take m.nodes b.heads)) u t' = subst (λ (J : Inp). Fronts (program_l J) t (length J.heads) u t') i r in
+        q.does d.program 0 (stands s b m a f z d) ∙ ap (λ (v : List ℕ). fitted v t) (sym (shows-text s f d.program d.ok d.fine d.shows))
 
     -- The text is written.
-    pub wrote : {n : ℕ} → u ≡ Ok n → Texts s (arrays o w h l y p r) m t (written (Ok n) (arrays o w h l y p r) t')
+    pub wrote : {n : ℕ} → u ≡ Ok n → Texts s b m t (written (Ok n) b t')
     wrote k =
         record {
           does = λ a f z.
-              wrote-is s a t f (sym (flag_is s o w h l y p r m a f z) ∙ e) (ap (λ (v : Texting). buffered v t') (sym k) ∙ front-is a f z) z.arrays;
+              wrote-is s a t f (sym (flag_is s b m a f z) ∙ e) (ap (λ (v : Texting). buffered v t') (sym k) ∙ front-is a f z) z.arrays;
         }
 
     -- It is refused.
-    pub full : {x : Refusal} {b : Arrays} → u ≡ Err x → b ≡ cleared_arrays (arrays o w h l y p r) → Texts s (arrays o w h l y p r) m t (written (Err x) b t')
+    pub full : {x : Refusal} {g : Arrays} → u ≡ Err x → g ≡ cleared_arrays b → Texts s b m t (written (Err x) g t')
     full k c =
         record {
           does = λ a f z.
-              full_is s a t f (sym (flag_is s o w h l y p r m a f z) ∙ e) (ap (λ (v : Texting). buffered v t') (sym k) ∙ front-is a f z) (c ∙ z.cleared);
+              full_is s a t f (sym (flag_is s b m a f z) ∙ e) (ap (λ (v : Texting). buffered v t') (sym k) ∙ front-is a f z) (c ∙ z.cleared);
         }
 
 -- ── the reading ──
@@ -247,17 +249,7 @@ kept s a b m e long c = go (read (rooms_of a) s) refl c
         }
     go (refused x) k d = absurd (let v : Ok m ≡ Err x = ap (λ (y : Called Reading). y.answer) d in let z : ◌≡◌ {A = ℕ} 0 1 = cc in let y : ⊥ = omega arith in y)
 
--- arrays that are as long as others
-pub record SameLong (b a : Arrays) : Type 0 where
-  pub offs : length b.offs ≡ length a.offs
-  pub words : length b.words ≡ length a.words
-  pub heads : length b.heads ≡ length a.heads
-  pub loads : length b.loads ≡ length a.loads
-  pub symbols : length b.symbols ≡ length a.symbols
-  pub places : length b.places ≡ length a.places
-  pub reasons : length b.reasons ≡ length a.reasons
-
--- They are the same, set to 0.
+-- Arrays that are as long as others are the same, set to 0.
 same-cleared : {b a : Arrays} → SameLong b a → cleared_arrays b ≡ cleared_arrays a
 same-cleared {b} {a} n =
     same-arrays (zeroed-long b.offs a.offs n.offs) (zeroed-long b.words a.words n.words) (zeroed-long b.heads a.heads n.heads) (zeroed-long b.loads a.loads n.loads)
@@ -297,15 +289,11 @@ module _ (s : List ℕ) (a : Arrays) (t : List ℕ) where
   unfolding text_call
   text-by = refl
 
-module _ (s o w h l y p r : List ℕ) {k : Checked} (e : k ≡ entry s (arrays o w h l [] p r)) where
-  -- The tests look at no symbol word.
-  pub entry-fine : k ≡ passed → entry s (arrays o w h l y p r) ≡ passed
-  entry-fine f = sym (e ∙ entry-same s o w h l y p r) ∙ f
+  module _ {k : Checked} (e : k ≡ entry s a) where
+    -- The tests let it pass.
+    pub text-on : {x : Written} → k ≡ passed → x ≡ texted s a t (read (rooms_of a) s) → x ≡ text_call s a t
+    text-on f g = g ∙ sym (ap text_by (sym e ∙ f)) ∙ text-by
 
-  -- The tests let it pass.
-  pub text-on : (t : List ℕ) {x : Written} → k ≡ passed → x ≡ texted s (arrays o w h l y p r) t (read (rooms_of (arrays o w h l y p r)) s) → x ≡ text_call s (arrays o w h l y p r) t
-  text-on t f g = g ∙ sym (ap (text_by s (arrays o w h l y p r) t) (entry-fine f)) ∙ text-by s (arrays o w h l y p r) t
-
-  -- They refuse it.
-  pub text-not : (t : List ℕ) {f : Refusal} → k ≡ Err f → written (Err f) (arrays o w h l y p r) t ≡ text_call s (arrays o w h l y p r) t
-  text-not t g = sym (ap (text_by s (arrays o w h l y p r) t) (sym (e ∙ entry-same s o w h l y p r) ∙ g)) ∙ text-by s (arrays o w h l y p r) t
+    -- They refuse it.
+    pub text-not : {f : Refusal} → k ≡ Err f → written (Err f) a t ≡ text_call s a t
+    text-not g = sym (ap text_by (sym e ∙ g)) ∙ text-by

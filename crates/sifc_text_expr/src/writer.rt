@@ -3,7 +3,7 @@ ghost use Rattle.std.specs.Prelude.{◌≡◌};
 ghost use Rattle.sifc_put.specs.Post.{At, Writes, kind_of};
 ghost use Rattle.sifc_text_expr.specs.Kinds.{expr_l, operand_l, exprs_l, subscript_l, linked_l};
 
-use sifc_put::kind::{
+use sifc_def::ast::{
     ARRAY_ACCESS, ARRAY_MUT_EXPR, BINARY_EXPR, FN_CALL_EXPR, PRIMARY_EXPR, TABLE_ACCESS, UNARY_EXPR,
 };
 use sifc_put::{Full, Writer};
@@ -28,10 +28,7 @@ pub fn expr(w: &mut Writer<'_>) -> Result<(), Full>
     requires { At expr_l w.old }
     ensures { Writes expr_l w.old result w.new }
 {
-    loop {
-        if w.kind() != BINARY_EXPR {
-            return simple(w);
-        }
+    while w.kind() == BINARY_EXPR {
         let hi = w.node;
         let n = w.height();
         w.node = hi - 1;
@@ -41,6 +38,7 @@ pub fn expr(w: &mut Writer<'_>) -> Result<(), Full>
             return operand(w, n + 1);
         }
     }
+    simple(w)
 }
 
 // An expression that is no operator with two operands.
@@ -143,9 +141,11 @@ pub fn exprs(w: &mut Writer<'_>, count: usize) -> Result<(), Full>
     requires { At (exprs_l count) w.old }
     ensures { Writes (exprs_l count) w.old result w.new }
 {
-    for left in (0..count).rev() {
-        expr(w)?;
-        w.separator(left)?;
-    }
-    Ok(())
+    w.list(
+        count,
+        |w|
+            requires { At expr_l w.old }
+            ensures { Writes expr_l w.old result w.new }
+        { expr(w) },
+    )
 }

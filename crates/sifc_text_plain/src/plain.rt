@@ -2,22 +2,16 @@
 ghost use Rattle.sifc_put.specs.Post.{At, Writes};
 ghost use Rattle.sifc_text_plain.specs.Kinds.{names_l, pair_l, item_l, items_l, array_l, table_l, value_l, var_l, plain_l};
 
-use sifc_put::kind::{ARRAY, RETURN_STMT, TABLE, VAR_DECL};
+use sifc_def::ast::{ARRAY, RETURN_STMT, TABLE, VAR_DECL};
 use sifc_put::{Full, Writer};
 use sifc_text_expr::{expr, exprs};
 
-// So many names with commas between: the parameters of a function. This loop, the one of `items` and
-// that of the expressions stay three: a function over the step has to say in a ghost what the step
-// writes, which the cycle of the expressions can't have, and is longer than the loops.
+// So many names with commas between: the parameters of a function.
 pub fn names(w: &mut Writer<'_>, count: usize) -> Result<(), Full>
     requires { At (names_l count) w.old }
     ensures { Writes (names_l count) w.old result w.new }
 {
-    for left in (0..count).rev() {
-        w.leaf()?;
-        w.separator(left)?;
-    }
-    Ok(())
+    w.list(count, |w| w.leaf())
 }
 
 // The two names of a loop.
@@ -48,11 +42,7 @@ fn items(w: &mut Writer<'_>, count: usize) -> Result<(), Full>
     requires { At (items_l count) w.old }
     ensures { Writes (items_l count) w.old result w.new }
 {
-    for before in (0..count).rev() {
-        item(w)?;
-        w.separator(before)?;
-    }
-    Ok(())
+    w.list(count, |w| item(w))
 }
 
 // A table in double brackets.

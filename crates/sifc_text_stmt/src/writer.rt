@@ -3,7 +3,7 @@ ghost use Rattle.std.specs.Prelude.{◌≡◌};
 ghost use Rattle.sifc_put.specs.Post.{At, Writes, kind_of};
 ghost use Rattle.sifc_text_stmt.specs.Kinds.{stmt_l, stmts_l, block_l, guarded_l, branch_l, branches_l, line_l, program_l};
 
-use sifc_put::kind::{BLOCK, ELIF_STMT, FN_DECL, FOR_STMT, IF_STMT};
+use sifc_def::ast::{BLOCK, ELIF_STMT, FN_DECL, FOR_STMT, IF_STMT};
 use sifc_put::{Full, Writer};
 use sifc_text_expr::expr;
 use sifc_text_plain::{names, pair, plain_stmt};

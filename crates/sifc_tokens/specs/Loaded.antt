@@ -1,5 +1,5 @@
 -- What the loop over the turns leaves: the tokens in the front of the two arrays, or that they are too short.
-use Rattle.std.specs.Prelude.{ℕ, Result, Ok, Err, ◌-◌, ◌≤◌, ◌<◌, ◌≡◌, List, ◌++◌, length, take, drop, replicate}
+use Rattle.std.specs.Prelude.{ℕ, Result, Ok, Err, ◌-◌, ◌≤◌, ◌<◌, ◌≡◌, List, length, take, drop, replicate}
 use Rattle.sifc_err.specs.declared.Ending.{Ending}
 use Rattle.sifc_err.specs.declared.Refusal.{Refusal}
 use Rattle.sifc_err.specs.declared.Refusal.TheVariants.{TokensFull}
@@ -32,7 +32,3 @@ used_by (Err r) = 0
 pub record Used (n : ℕ) (a : List ℕ) : Type 0 where
   pub fits : n ≤ length a
   pub past : drop n a ≡ replicate (length a - n) 0
-
--- an array whose elements from n on are set to 0, as far as i
-abbrev pub cleared : List ℕ → ℕ → ℕ → List ℕ
-cleared a n i = (take n a ++ replicate (i - n) 0) ++ drop i a

@@ -5,7 +5,7 @@ ghost use Rattle.sifc_tokens.specs.Loaded.{Loaded, Used};
 ghost use Rattle.sifc_lex.specs.Bytes.{greatest_from};
 
 use sifc_err::{Ending, Refusal};
-use sifc_lex::{Ended, Step, end_kind, run_end, step_at};
+use sifc_lex::{Ended, Step, end_kind, run, step_at};
 
 // Sets every element of a part to 0. `fill` writes the last of them by itself, which is slower and which the test that
 // no byte is cleared twice counts as one too few.
@@ -118,7 +118,7 @@ pub fn check_script(script: &[u8]) -> Result<(), Refusal>
     if greatest(script) < 128 {
         return Ok(());
     }
-    Err(Refusal::NotAscii(run_end(script, 0, |b| b < 128)))
+    Err(Refusal::NotAscii(run(script, |b| b < 128)))
 }
 
 // What the ending of the tokens makes of the call, where the arrays hold them: a lexing panic is

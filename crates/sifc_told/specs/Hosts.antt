@@ -1,9 +1,9 @@
 -- The answers of the calls, as a host sees them in numbers.
-use Rattle.std.specs.Prelude.{ℕ, ◌≡◌, List, [], ◌∷◌, None, Some}
+use Rattle.std.specs.Prelude.{ℕ, ◌≡◌, List, [], ◌∷◌, Option as Maybe, None, Some}
 use Rattle.std.proofs.Math.Option.{Option, none, some}
 use Rattle.sifc_err.specs.declared.Token.{Token}
 use Rattle.sifc_err.specs.declared.parse_err.ParseErrTy.{ParseErrTy}
-use Rattle.sifc_err.specs.ParseErr.{values_of}
+use Rattle.sifc_err.specs.ParseErr.{values_in}
 use Rattle.sifc_tokens.specs.Tokens.{Answer, tokens_called, tokens_call}
 use Rattle.sifc_def.specs.Answer.{Early, Reading}
 use Rattle.sifc_def.specs.Read.{Arrays, ReadNumbers, read_numbers, TextNumbers, text_numbers, Called, called, reading, Written, text_call, bit}
@@ -22,12 +22,12 @@ abbrev pub first_of : List ℕ → ℕ
 first_of [] = 0
 first_of (n ∷ ns) = n
 
-abbrev pub token_offset : ParseErrTy → ℕ
-token_offset t = offset_in (values_of t).token
+abbrev pub token_offset : Maybe (ParseErrTy Token) → ℕ
+token_offset t = offset_in (values_in t).token
 
 -- the expected kind or the count that a reason carries
-abbrev pub first_value : ParseErrTy → ℕ
-first_value t = first_of (values_of t).numbers
+abbrev pub first_value : Maybe (ParseErrTy Token) → ℕ
+first_value t = first_of (values_in t).numbers
 
 -- line, column, the reason's number, the offset of the token that it carries, and its first value; all 0 where none ended it
 pub record EarlyNumbers : Type 0 where
@@ -42,7 +42,7 @@ early_numbers l p n o v = record { line = l; pos = p; number = n; offset = o; va
 
 abbrev pub early_of : Early → EarlyNumbers
 early_of None = early_numbers 0 0 0 0 0
-early_of (Some e) = early_numbers e.line e.pos (values_of e.ty).number (token_offset e.ty) (first_value e.ty)
+early_of (Some e) = early_numbers e.line e.pos (values_in e.ty).number (token_offset e.ty) (first_value e.ty)
 
 -- ── the reading call ──
 

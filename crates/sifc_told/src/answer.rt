@@ -4,7 +4,7 @@ ghost use Rattle.sifc_def.specs.Read.{read_numbers, text_numbers};
 ghost use Rattle.sifc_told.specs.Hosts.{token_offset, first_value, early_numbers, early_of, read_answer, told_of, text_answer};
 
 use sifc_def::Summary;
-use sifc_err::{ParseErr, ParseErrTy, Refusal};
+use sifc_err::{ParseErr, ParseErrTy, Refusal, Token};
 
 // The error that ended a reading: line, column, the reason's number, the offset of the token that it
 // carries, and the first of its values. All are 0 where none ended it.
@@ -31,28 +31,32 @@ pub struct Numbers {
 }
 
 // The offset of the token that a reason carries, else 0.
-fn token_offset(ty: ParseErrTy) -> usize
+fn token_offset(ty: Option<ParseErrTy<Token>>) -> usize
     ensures { result ≡ token_offset ty }
 {
     match ty {
-        ParseErrTy::InvalidIdent(token)
-        | ParseErrTy::InvalidTkn(token)
-        | ParseErrTy::InvalidAssign(token)
-        | ParseErrTy::TknMismatch(_, token)
-        | ParseErrTy::UndeclSym(token)
-        | ParseErrTy::UnassignedVar(token)
-        | ParseErrTy::ExpectedIdent(token) => token.off,
+        Some(
+            ParseErrTy::InvalidIdent(token)
+            | ParseErrTy::InvalidTkn(token)
+            | ParseErrTy::InvalidAssign(token)
+            | ParseErrTy::TknMismatch(_, token)
+            | ParseErrTy::UndeclSym(token)
+            | ParseErrTy::UnassignedVar(token)
+            | ParseErrTy::ExpectedIdent(token),
+        ) => token.off,
         _ => 0,
     }
 }
 
 // The expected kind, the message's number or the first count that a reason carries, else 0.
-fn first_value(ty: ParseErrTy) -> usize
+fn first_value(ty: Option<ParseErrTy<Token>>) -> usize
     ensures { result ≡ first_value ty }
 {
     match ty {
-        ParseErrTy::InvalidTknMsg(number) | ParseErrTy::TknMismatch(number, _) => number as usize,
-        ParseErrTy::FnParmCntExceeded(count) | ParseErrTy::WrongFnParmCnt(count, _) => count,
+        Some(ParseErrTy::InvalidTknMsg(number) | ParseErrTy::TknMismatch(number, _)) => {
+            number as usize
+        }
+        Some(ParseErrTy::FnParmCntExceeded(count) | ParseErrTy::WrongFnParmCnt(count, _)) => count,
         _ => 0,
     }
 }
@@ -66,7 +70,7 @@ fn ended(early: Option<ParseErr>) -> Ending
         Some(err) => Ending {
             line: err.line,
             pos: err.pos,
-            number: err.ty.number(),
+            number: err.number(),
             offset: token_offset(err.ty),
             value: first_value(err.ty),
         },

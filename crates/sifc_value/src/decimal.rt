@@ -5,47 +5,62 @@ ghost use Rattle.std.specs.Float.Ieee.{round};
 ghost use Rattle.sifc_value.specs.Decimal.{bit};
 ghost use Rattle.sifc_value.specs.Steps.{Stepped, Deeper};
 
+// Whole numbers up to this one are exact as an f64.
+const EXACT: u64 = 1 << 53;
+
+// A whole part below this one leaves room for 22 bits more.
+const ROOM: u64 = 1 << 41;
+
+// The lowest bit of the exponent in the bits of an f64.
+const EXPONENT: u64 = 1 << 52;
+
 // A quotient by a power of five as far as it is worked out: whole * five + rest is the number times
 // 2 to the power of shift.
 #[derive(Clone, Copy)]
 struct Split {
+    five: u64,
     whole: u64,
     rest: u64,
     shift: u64,
 }
 
-// Works out `bits` more bits of a quotient.
-fn step(five: u64, old: Split, factor: u64, bits: u64) -> Split
-    requires rest_lt_five { old.rest < five }
-    requires factor_nonzero { 0 < factor }
-    requires rest_fits { old.rest * factor < 2 ^ 64 }
-    requires whole_fits { old.whole * factor + factor ≤ 2 ^ 63 }
-    requires shift_fits { old.shift + bits < 2 ^ 64 }
-    ensures { Stepped five old.whole old.rest old.shift factor bits result.whole result.rest result.shift }
-{
-    let more = old.rest * factor;
-    Split {
-        whole: old.whole * factor + more / five,
-        rest: more % five,
-        shift: old.shift + bits,
+impl Split {
+    // Works out `bits` more bits of the quotient.
+    fn step(self, bits: u64) -> Split
+        requires rest_lt_five { self.rest < self.five }
+        requires bits_fit { bits < 64 }
+        requires rest_fits { self.rest * 2 ^ bits < 2 ^ 64 }
+        requires whole_fits { self.whole * 2 ^ bits + 2 ^ bits ≤ 2 ^ 63 }
+        requires shift_fits { self.shift + bits < 2 ^ 64 }
+        ensures stepped { Stepped self.five self.whole self.rest self.shift (2 ^ bits) bits result.whole result.rest result.shift }
+        ensures same { result.five ≡ self.five }
+    {
+        let more = self.rest << bits;
+        Split {
+            five: self.five,
+            whole: (self.whole << bits) + more / self.five,
+            rest: more % self.five,
+            shift: self.shift + bits,
+        }
     }
-}
 
-// Works out 22 bits more, or 10 where only they fit, or none where there are 54 already.
-fn deeper(five: u64, split: Split) -> Split
-    requires rest_lt_five { split.rest < five }
-    requires five_bound { five < 2 ^ 42 }
-    requires whole_bound { split.whole < 2 ^ 63 }
-    requires shift_bound { split.shift ≤ 44 }
-    ensures { Deeper five split.whole split.rest split.shift result.whole result.rest result.shift }
-{
-    if 9007199254740992 <= split.whole {
-        return split;
+    // Works out 22 bits more, or 10 where only they fit, or none where there are 54 already.
+    fn deeper(self) -> Split
+        requires rest_lt_five { self.rest < self.five }
+        requires five_bound { self.five < 2 ^ 42 }
+        requires whole_bound { self.whole < 2 ^ 63 }
+        requires shift_bound { self.shift ≤ 44 }
+        ensures deeper { Deeper self.five self.whole self.rest self.shift result.whole result.rest result.shift }
+        ensures same { result.five ≡ self.five }
+    {
+        if EXACT <= self.whole {
+            return self;
+        }
+        if self.whole < ROOM {
+            return self.step(22);
+        }
+        self.step(10)
     }
-    if split.whole < 2199023255552 {
-        return step(five, split, 4194304, 22);
-    }
-    step(five, split, 1024, 10)
 }
 
 // The last bit that stands for a remainder.
@@ -73,14 +88,13 @@ fn long_quotient(number: u64, five: u64, places: usize) -> f64
     ensures { result ≡ round binary64 false number (10 ^ places) }
 {
     let first = Split {
+        five,
         whole: number / five,
         rest: number % five,
         shift: 0,
     };
-    let second = deeper(five, first);
-    let third = deeper(five, second);
-    let last = deeper(five, third);
-    let bits = (1023 + (last.shift + 1 + (places as u64))) * 4503599627370496;
+    let last = first.deeper().deeper().deeper();
+    let bits = (1023 + (last.shift + 1 + (places as u64))) * EXPONENT;
     let power = f64::from_bits(bits);
     std::num::nearest_u64_to_f64(with_bit(last.whole, last.rest)) / power
 }
@@ -92,7 +106,7 @@ pub fn decimal(number: u64, scale: u64, places: usize) -> f64
     requires places_bound { places ≤ 18 }
     ensures { result ≡ round binary64 false number (10 ^ places) }
 {
-    if number <= 9007199254740992 {
+    if number <= EXACT {
         return (number as f64) / std::num::nearest_u64_to_f64(scale);
     }
     if places == 0 {

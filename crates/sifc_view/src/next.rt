@@ -17,12 +17,10 @@ pub fn next_at(script: &[u8], off: usize) -> Lexed
     ensures { result ≡ next_at script.now off }
 {
     let mut at = off.min(script.len());
+    // A `while let` over what is skipped would lex what ends it twice, or match the step a second time.
     loop {
-        let st = step_at(script, at);
-        match st {
-            Step::Skip(n) => {
-                at += n;
-            }
+        match step_at(script, at) {
+            Step::Skip(n) => at += n,
             Step::Word(kind, len) => {
                 return Lexed {
                     token: Token { kind, off: at, len },

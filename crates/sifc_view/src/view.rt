@@ -1,4 +1,4 @@
-// The lexing view. Callers use token_from, whose parameters are plain.
+// The lexing view.
 ghost use Rattle.std.specs.Prelude.{◌≡◌};
 ghost use Rattle.sifc_view.specs.View.{next_at, stepped_to, stepped};
 
@@ -30,7 +30,8 @@ impl<'a> Lexer<'a> {
     }
 }
 
-// The next token of a script from an offset on, through a view: what callers use.
+// The next token of a script from an offset on, through a view. No crate here calls it: it is public, for callers that
+// keep no view, and stays.
 pub fn token_from(script: &[u8], off: usize) -> Lexed
     ensures { result ≡ next_at script.now off }
 {

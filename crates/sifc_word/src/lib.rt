@@ -1,6 +1,7 @@
 // Words: token.rs and reserved.rs, the fixed byte strings and a token's spelling.
 #![tactic(auto)]
 
+pub mod kind;
 mod reserved;
 mod token;
 

@@ -4,6 +4,8 @@ ghost use Rattle.std.specs.Prelude.{◌≡◌};
 ghost use Rattle.sifc_word.specs.Base.{same as bytes_same};
 ghost use Rattle.sifc_word.specs.Reserved.{name_kind, is_std_lib_fn};
 
+use crate::kind;
+
 // Whether two byte strings are the same, byte for byte.
 #[tactic(auto, using(crate::proofs::Words::same_is))]
 pub fn same(a: &[u8], b: &[u8]) -> bool
@@ -18,19 +20,19 @@ pub fn name_kind(name: &[u8]) -> u32
     ensures { result ≡ name_kind name.now }
 {
     match name {
-        b"var" => 34,
-        b"fn" => 35,
-        b"return" => 36,
-        b"table" => 37,
-        b"array" => 38,
-        b"if" => 39,
-        b"elif" => 40,
-        b"else" => 41,
-        b"for" => 42,
-        b"in" => 43,
-        b"true" => 44,
-        b"false" => 45,
-        _ => 31,
+        b"var" => kind::VAR,
+        b"fn" => kind::FN,
+        b"return" => kind::RETURN,
+        b"table" => kind::TABLE,
+        b"array" => kind::ARRAY,
+        b"if" => kind::IF,
+        b"elif" => kind::ELIF,
+        b"else" => kind::ELSE,
+        b"for" => kind::FOR,
+        b"in" => kind::IN,
+        b"true" => kind::TRUE,
+        b"false" => kind::FALSE,
+        _ => kind::IDENT,
     }
 }
 

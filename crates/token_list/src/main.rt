@@ -2,7 +2,6 @@
 // script of more than 4,096 bytes is refused with 1.
 #![tactic(auto)]
 
-use sif_show::Layout;
 use sifc_err::Refusal;
 use std::io;
 use std::io::{BufWriter, Read, Write};
@@ -24,5 +23,5 @@ fn answer<W: Write>(out: &mut W, script: &[u8]) -> io::Result<()> {
         sif_show::print_refusal(out, Refusal::LongScript)?;
         return writeln!(out);
     }
-    sif_show::show(out, script, Layout::Lines)
+    sif_show::show_lines(out, script)
 }

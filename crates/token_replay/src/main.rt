@@ -3,7 +3,7 @@
 // tokens are the Rust's.
 #![tactic(auto)]
 
-use sif_show::{Layout, Scripts};
+use sif_show::Scripts;
 use std::io;
 use std::io::{BufWriter, Read, Write};
 
@@ -21,7 +21,7 @@ fn main(rt: HostRuntime) -> io::Result<()> {
 // The scripts one after the other.
 fn replay_all<W: Write>(out: &mut W, list: &[u8]) -> io::Result<()> {
     for script in Scripts::new(list) {
-        sif_show::show(out, script, Layout::List)?;
+        sif_show::show_list(out, script)?;
         writeln!(out)?;
     }
     Ok(())

@@ -1,10 +1,9 @@
-use borrow.Author.Rules.{rules}
-use Prim.Native.Nat.{ℕ, ◌≤◌}
+use Prim.Native.Nat.{ℕ}
 use native.Mathlib.Omega.{arith}
-use mathlib.Core.Path.{◌≡◌, ap, ◌∙◌, sym, subst}
+use mathlib.Core.Path.{ap, ◌∙◌, sym}
 use Rattle.sifc_err.specs.declared.Refusal.{Refusal}
 use Rattle.std.specs.Prelude.{Result}
-use Rattle.sifc_tokens.specs.Tokens.{Answer, answer_of, TokensCall, tokens_called, tokens_call}
+use Rattle.sifc_tokens.specs.Tokens.{Answer, answer_of, TokensCall}
 use Rattle.sifc_tokens.proofs.TokensLaws.{tokens-small}
 use Rattle.sif_c.proofs.Said.{said-count, said-refused}
 use Rattle.sif_c.proofs.sif_tokens.Goals as goal

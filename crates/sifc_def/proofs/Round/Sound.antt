@@ -17,7 +17,7 @@ use Rattle.sifc_def.specs.State.{Node, node, Sym, Ctx, St, Out, done, fail, refu
 use Rattle.sifc_def.specs.Symbols.{find, retrieve}
 use Rattle.sifc_def.specs.Label.{Lab, has_token, scope_of, text_of}
 use Rattle.sifc_def.specs.declared.Err.{Err}
-use Rattle.sifc_def.specs.declared.Why.{Why}
+use Rattle.sifc_def.specs.Why.{Why}
 use Rattle.sifc_def.specs.State.{arrive, panic_at, raise, add_error, throw, throw_past}
 use Rattle.sifc_def.specs.Expr.{Rec, looseness, is_unary, is_literal, fuel, operators, levels, literal, known, check_name, ident_expr, unary_expr, group_expr, at_expr, primary_expr}
 use Rattle.sifc_def.specs.Typed.{Expr, prim, un, bin, call, dot, idx, set, mut, renc, ends, is_some, seen, fine, Ok, Said}

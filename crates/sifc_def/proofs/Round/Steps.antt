@@ -8,7 +8,7 @@ use Rattle.sifc_word.specs.Base.{if◌then◌otherwise◌, member}
 use Rattle.sifc_word.specs.Kind.{Percent, Star, Slash, Plus, Minus, Lt, LtEq, Gt, GtEq, BangEq, EqEq, AmpAmp, PipePipe, Ident, Eof, LexPanic}
 use Rattle.sifc_lex.specs.Lex.{token}
 use Rattle.sifc_def.specs.declared.Err.{Err}
-use Rattle.sifc_def.specs.declared.Why.{Why}
+use Rattle.sifc_def.specs.Why.{Why}
 use Rattle.sifc_def.specs.declared.What.{What}
 use Rattle.sifc_def.specs.State.{Node, node, Sym, Ctx, St, Out, done, refuse, go_on, W, word_in, tok_at, word_at, name_at, arrive, consume, list, expect, optional, match_ident, or_throw, ident, push}
 use Rattle.sifc_def.specs.Symbols.{put_at, store}

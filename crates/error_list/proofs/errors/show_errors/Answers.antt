@@ -10,5 +10,5 @@ use Rattle.error_list.proofs.errors.show_errors.Goals as goal
 blank : (n : ℕ) (s : List ℕ) (a : Arrays) (x : Recorded) (r : ParseErr) → x ≡ reading_records s a (replicate n r) → r ≡ blank_err → x ≡ reading_records s a (blank_records n)
 blank n s a x r e b = e ∙ ap (λ (y : ParseErr). reading_records s a (replicate n y)) b
 
-pub returns : goal.returns
-returns g c = ap call_of (blank 1024 _ _ _ _ c.reading_records-said.ensures c.blank-errors.ensures)
+pub returns-clause-answer : goal.returns-clause-answer
+returns-clause-answer g c = ap call_of (blank 1024 _ _ _ _ c.reading_records-said.ensures.1 c.blank-errors.ensures)

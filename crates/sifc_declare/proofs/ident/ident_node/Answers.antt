@@ -1,5 +1,5 @@
 use Rattle.std.proofs.Common.{arith, refl, false}
-use Rattle.sifc_def.specs.declared.Why.TheVariants.{ExpectedIdent}
+use Rattle.sifc_err.specs.declared.parse_err.ParseErrTy.TheVariants.{ExpectedIdent}
 use Rattle.sifc_def.specs.State.{ident, push}
 use Rattle.sifc_def.specs.Stmt.{ident_node}
 use Rattle.sifc_step.proofs.Steps.{begin, go, stop, refused, fin}

@@ -1,12 +1,14 @@
-use Rattle.std.proofs.Common.{suc, ◌-◌, false, true, arith, refl, sym, ap, ◌∙◌, eq-eqb, ne_eqb}
-use Rattle.sifc_def.specs.declared.Why.TheVariants.{InvalidTkn, InvalidTknMsg, FnParmCntExceeded}
-use Rattle.sifc_def.specs.State.{consume, expect, push, throw, throw_past}
-use Rattle.sifc_def.specs.Expr.{fuel, looseness, is_unary, is_literal, assign_to, separator, param_list, call_named, literal, ident_expr, assign_expr, unary_expr, group_expr, primary_expr, call_part, dot, index, fn_call_expr}
+use Rattle.std.proofs.Common.{rules, length, ◌-◌, false, true, arith, refl, sym, ap, ◌∙◌, eq-eqb, ne_eqb}
+use Rattle.sifc_err.specs.declared.parse_err.ParseErrTy.TheVariants.{InvalidTkn}
+use Rattle.sifc_def.specs.State.{consume, expect, push, throw_past}
+use Rattle.sifc_def.specs.Expr.{fuel, looseness, is_unary, is_literal, assign_to, param_list, call_named, literal, ident_expr, assign_expr, unary_expr, group_expr, primary_expr, call_part, dot, index, fn_call_expr}
 use Rattle.sifc_def.specs.Walk.{walkers}
+use Rattle.sifc_step.specs.Abs.{Inp}
 use Rattle.sifc_step.specs.Small.{node_of, accesses}
 use Rattle.sifc_step.proofs.Steps.{begin, by, go, stop, refused, last, fin, kinded, stood, aimed, numbered, yes, no, not-eof}
 use Rattle.sifc_step.proofs.Small.{conveyed, passes-one}
-use Rattle.sifc_step.proofs.Loops.{looping, turn-own, onward, recount, listed-all, listed-many, listed-eof, listed-item}
+use Rattle.sifc_step.proofs.Items.{reads}
+use Rattle.sifc_step.proofs.Loops.{onward}
 use Rattle.sifc_step.proofs.Tests.{literal-eof}
 use Rattle.sifc_expr.specs.Rest.{rest}
 use Rattle.sifc_expr.proofs.Depth.{nearer, assign-step, unary-step, call_step, assign-none, unary-none, call_none, unasked, switched}
@@ -80,19 +82,39 @@ call-returns-in_err-consume t c =
     let p0 = begin 0 (λ x. call_part x (walkers x c.args.depth) (node_of c.args.target) c.args.p.now.at) c.requires in
     conveyed (refused (λ x. consume x) _ (λ x. call_part x (walkers x c.args.depth) (node_of c.args.target) c.args.p.now.at) p0 c.in_err-consume.ensures.does refl) c.from_residual.ensures
 
+pub call-param_list-requires-clause-items : goal.call-param_list-requires-clause-items
+call-param_list-requires-clause-items t c = ((λ x. (walkers x c.args.depth).assign), reads (λ p q r z x. search rules))
+
+pub call-expect-requires : goal.call-expect-requires
+unfolding call_part
+call-expect-requires t c =
+    let p0 = begin 0 (λ x. call_part x (walkers x c.args.depth) (node_of c.args.target) c.args.p.now.at) c.requires in
+    let p1 = go (λ x. consume x) _ p0 c.in_ok-consume.ensures.does in
+    let p2 = go (λ x. param_list x (walkers x c.args.depth).assign (fuel x) 0) _ p1 (c.in_ok-n.ensures.does _ (reads (λ p q r z x. search rules))) in
+    p2.is.stands
+
+pub call-call_named-requires : goal.call-call_named-requires
+unfolding call_part
+call-call_named-requires t c =
+    let p0 = begin 0 (λ x. call_part x (walkers x c.args.depth) (node_of c.args.target) c.args.p.now.at) c.requires in
+    let p1 = go (λ x. consume x) _ p0 c.in_ok-consume.ensures.does in
+    let p2 = go (λ x. param_list x (walkers x c.args.depth).assign (fuel x) 0) _ p1 (c.in_ok-n.ensures.does _ (reads (λ p q r z x. search rules))) in
+    let p3 = go (λ x. expect x 2) _ p2 c.in_ok-expect.ensures.does in
+    (p3.is, omega (arith, c.requires.stands.here, ap (λ (I : Inp). length I.words) p3.kept.inp), c.in_ok-n.ensures.few)
+
 pub call-returns-in_err-n : goal.call-returns-in_err-n
 unfolding call_part
 call-returns-in_err-n t c =
     let p0 = begin 0 (λ x. call_part x (walkers x c.args.depth) (node_of c.args.target) c.args.p.now.at) c.requires in
     let p1 = go (λ x. consume x) _ p0 c.in_ok-consume.ensures.does in
-    conveyed (stop (λ x. param_list x (walkers x c.args.depth).assign (fuel x) 0) _ (λ x. call_part x (walkers x c.args.depth) (node_of c.args.target) c.args.p.now.at) p1 (omega arith) c.in_err-n.ensures.does) c.from_residual-in_err-n.ensures
+    conveyed (stop (λ x. param_list x (walkers x c.args.depth).assign (fuel x) 0) _ (λ x. call_part x (walkers x c.args.depth) (node_of c.args.target) c.args.p.now.at) p1 (omega arith) (c.in_err-n.ensures.does _ (reads (λ p q r z x. search rules)))) c.from_residual-in_err-n.ensures
 
 pub call-returns-in_err-expect : goal.call-returns-in_err-expect
 unfolding call_part
 call-returns-in_err-expect t c =
     let p0 = begin 0 (λ x. call_part x (walkers x c.args.depth) (node_of c.args.target) c.args.p.now.at) c.requires in
     let p1 = go (λ x. consume x) _ p0 c.in_ok-consume.ensures.does in
-    let p2 = go (λ x. param_list x (walkers x c.args.depth).assign (fuel x) 0) _ p1 c.in_ok-n.ensures.does in
+    let p2 = go (λ x. param_list x (walkers x c.args.depth).assign (fuel x) 0) _ p1 (c.in_ok-n.ensures.does _ (reads (λ p q r z x. search rules))) in
     conveyed (stop (λ x. expect x 2) _ (λ x. call_part x (walkers x c.args.depth) (node_of c.args.target) c.args.p.now.at) p2 (omega arith) c.in_err-expect.ensures.does) c.from_residual-in_err-expect.ensures
 
 pub call-returns : goal.call-returns
@@ -100,7 +122,7 @@ unfolding call_part
 call-returns t c =
     let p0 = begin 0 (λ x. call_part x (walkers x c.args.depth) (node_of c.args.target) c.args.p.now.at) c.requires in
     let p1 = go (λ x. consume x) _ p0 c.in_ok-consume.ensures.does in
-    let p2 = go (λ x. param_list x (walkers x c.args.depth).assign (fuel x) 0) _ p1 c.in_ok-n.ensures.does in
+    let p2 = go (λ x. param_list x (walkers x c.args.depth).assign (fuel x) 0) _ p1 (c.in_ok-n.ensures.does _ (reads (λ p q r z x. search rules))) in
     let p3 = go (λ x. expect x 2) _ p2 c.in_ok-expect.ensures.does in
     last (λ x. call_named x (node_of c.args.target) c.args.p.now.at c.in_ok-n.n) (λ x. call_part x (walkers x c.args.depth) (node_of c.args.target) c.args.p.now.at) p3 (omega arith) c.call_named.ensures
 
@@ -284,47 +306,6 @@ level-loop-depth-preserved t c =
     let s3 = go (Below c.args.n c.args.depth) _ s2 c.in_ok-level_below-2.ensures in
     let s4 = go (λ x. push x 22 false 2 c.loop-depth.p.at) _ s3 c.in_ok-push_node.ensures.does in
     onward c.loop-depth.invariant (omega (arith, (c.in_ok-consume.ensures.does.fine c.loop-depth.invariant.at.is).on, (c.in_ok-unary_expr.ensures.fine s1.is).on, (c.in_ok-level_below-2.ensures.fine s2.is).on, (c.in_ok-push_node.ensures.does.fine s3.is).on)) s4
-
-pub param_list-loop-depth-init : goal.param_list-loop-depth-init
-param_list-loop-depth-init t c =
-    (looping (λ x f. param_list x (walkers x c.args.depth).assign f 0) c.requires, omega arith)
-
-pub param_list-returns-then-k-eq-RIGHT_PAREN-clause-does : goal.param_list-returns-then-k-eq-RIGHT_PAREN-clause-does
-param_list-returns-then-k-eq-RIGHT_PAREN-clause-does t c =
-    fin (λ x. param_list x (walkers x c.args.depth).assign (fuel x) 0) (listed-all (λ x. (walkers x c.args.depth).assign) (c.loop-depth.invariant.0.f - 1) c.loop-depth.n (turn-own c.loop-depth.invariant.0) (sym c.kind-k.ensures ∙ c.if-k-eq-RIGHT_PAREN.true))
-
-pub param_list-returns-then-n-ge-FN_PARAM_MAX_LEN-clause-does : goal.param_list-returns-then-n-ge-FN_PARAM_MAX_LEN-clause-does
-param_list-returns-then-n-ge-FN_PARAM_MAX_LEN-clause-does t c =
-    last (λ x. throw x (FnParmCntExceeded 64)) (λ x. param_list x (walkers x c.args.depth).assign (fuel x) 0) (listed-many (λ x. (walkers x c.args.depth).assign) (c.loop-depth.invariant.0.f - 1) c.loop-depth.n (turn-own c.loop-depth.invariant.0) (λ z. c.if-k-eq-RIGHT_PAREN.false (c.kind-k.ensures ∙ z)) c.if-n-ge-FN_PARAM_MAX_LEN.true) (omega arith) c.add_error.ensures.counts
-
-pub param_list-returns-then-k-eq-EOF-clause-does : goal.param_list-returns-then-k-eq-EOF-clause-does
-param_list-returns-then-k-eq-EOF-clause-does t c =
-    last (λ x. throw x (InvalidTknMsg 2)) (λ x. param_list x (walkers x c.args.depth).assign (fuel x) 0) (listed-eof (λ x. (walkers x c.args.depth).assign) (c.loop-depth.invariant.0.f - 1) c.loop-depth.n (turn-own c.loop-depth.invariant.0) (λ z. c.if-k-eq-RIGHT_PAREN.false (c.kind-k.ensures ∙ z)) c.if-n-ge-FN_PARAM_MAX_LEN.false (sym c.kind-k.ensures ∙ c.if-k-eq-EOF.true)) (omega arith) c.add_error-then-k-eq-EOF.ensures.counts
-
-pub param_list-returns-in_err-assign_expr-clause-does : goal.param_list-returns-in_err-assign_expr-clause-does
-param_list-returns-in_err-assign_expr-clause-does t c =
-    let p0 = listed-item (λ x. (walkers x c.args.depth).assign) (c.loop-depth.invariant.0.f - 1) c.loop-depth.n (turn-own c.loop-depth.invariant.0) (λ z. c.if-k-eq-RIGHT_PAREN.false (c.kind-k.ensures ∙ z)) c.if-n-ge-FN_PARAM_MAX_LEN.false (λ z. c.if-k-eq-EOF.false (c.kind-k.ensures ∙ z)) in
-    conveyed (stop (λ x. (walkers x c.args.depth).assign) _ (λ x. param_list x (walkers x c.args.depth).assign (fuel x) 0) p0 (omega arith) c.in_err-assign_expr.ensures) c.from_residual.ensures
-
-pub param_list-returns-in_err-separator-clause-does : goal.param_list-returns-in_err-separator-clause-does
-param_list-returns-in_err-separator-clause-does t c =
-    let p0 = listed-item (λ x. (walkers x c.args.depth).assign) (c.loop-depth.invariant.0.f - 1) c.loop-depth.n (turn-own c.loop-depth.invariant.0) (λ z. c.if-k-eq-RIGHT_PAREN.false (c.kind-k.ensures ∙ z)) c.if-n-ge-FN_PARAM_MAX_LEN.false (λ z. c.if-k-eq-EOF.false (c.kind-k.ensures ∙ z)) in
-    let p1 = go (λ x. (walkers x c.args.depth).assign) _ p0 c.in_ok-assign_expr.ensures in
-    conveyed (stop (λ x. separator x) _ (λ x. param_list x (walkers x c.args.depth).assign (fuel x) 0) p1 (omega arith) c.in_err-separator.ensures.does) c.from_residual-in_err-separator.ensures
-
-pub param_list-loop-depth-smaller : goal.param_list-loop-depth-smaller
-param_list-loop-depth-smaller t c =
-    let p0 = listed-item (λ x. (walkers x c.args.depth).assign) (c.loop-depth.invariant.0.f - 1) c.loop-depth.n (turn-own c.loop-depth.invariant.0) (λ z. c.if-k-eq-RIGHT_PAREN.false (c.kind-k.ensures ∙ z)) c.if-n-ge-FN_PARAM_MAX_LEN.false (λ z. c.if-k-eq-EOF.false (c.kind-k.ensures ∙ z)) in
-    let p1 = go (λ x. (walkers x c.args.depth).assign) _ p0 c.in_ok-assign_expr.ensures in
-    let p2 = go (λ x. separator x) _ p1 c.in_ok-separator.ensures.does in
-    nearer c.loop-depth.invariant.0 _ (omega (arith, (c.in_ok-assign_expr.ensures.fine p0.is).on, (c.in_ok-separator.ensures.does.fine p1.is).on))
-
-pub param_list-loop-depth-preserved : goal.param_list-loop-depth-preserved
-param_list-loop-depth-preserved t c =
-    let p0 = listed-item (λ x. (walkers x c.args.depth).assign) (c.loop-depth.invariant.0.f - 1) c.loop-depth.n (turn-own c.loop-depth.invariant.0) (λ z. c.if-k-eq-RIGHT_PAREN.false (c.kind-k.ensures ∙ z)) c.if-n-ge-FN_PARAM_MAX_LEN.false (λ z. c.if-k-eq-EOF.false (c.kind-k.ensures ∙ z)) in
-    let p1 = go (λ x. (walkers x c.args.depth).assign) _ p0 c.in_ok-assign_expr.ensures in
-    let p2 = go (λ x. separator x) _ p1 c.in_ok-separator.ensures.does in
-    (recount (λ x. (walkers x c.args.depth).assign) c.loop-depth.n (onward c.loop-depth.invariant.0 {loop' = λ x f. param_list x (walkers x c.args.depth).assign f (suc c.loop-depth.n)} (omega (arith, (c.in_ok-assign_expr.ensures.fine p0.is).on, (c.in_ok-separator.ensures.does.fine p1.is).on)) p2), omega (arith, c.if-n-ge-FN_PARAM_MAX_LEN.false))
 
 pub primary_expr-returns-in_err-literal : goal.primary_expr-returns-in_err-literal
 primary_expr-returns-in_err-literal t c =

@@ -1,6 +1,4 @@
-use Rattle.std.proofs.Common.{◌*◌, ◌+◌, ◌-◌, ◌≤◌, length}
-use Rattle.sifc_def.specs.Expr.{param_list}
-use Rattle.sifc_def.specs.Walk.{walkers}
+use Rattle.std.proofs.Common.{◌*◌, ◌+◌, ◌-◌, length}
 use Rattle.sifc_step.proofs.Loops.{Looping}
 use Rattle.sifc_expr.proofs.Levels.{From, Turns}
 use Rattle.sifc_expr.proofs.parser.+expressions.Given as goal
@@ -50,8 +48,8 @@ decreases-mul_or_div_expr l = l.depth * 32 + 11
 abbrev pub decreases-or_expr : goal.decreases-or_expr
 decreases-or_expr l = l.depth * 32 + 26
 
-abbrev pub decreases-param_list : goal.decreases-param_list
-decreases-param_list l = l.depth * 32 + 1
+abbrev pub decreases-call-param_list : goal.decreases-call-param_list
+decreases-call-param_list l = l.depth * 32 + 1
 
 abbrev pub decreases-primary_expr : goal.decreases-primary_expr
 decreases-primary_expr l = l.depth * 32 + 2
@@ -64,9 +62,3 @@ invariant-level-loop-depth l = Looping (From l.n l.depth) (Turns l.n l.depth) l.
 
 abbrev pub decreases-level-loop-depth : goal.decreases-level-loop-depth
 decreases-level-loop-depth l = length l.fn.p.words.now - l.p.at
-
-abbrev pub invariant-param_list-loop-depth : goal.invariant-param_list-loop-depth
-invariant-param_list-loop-depth l = Looping (λ c f. param_list c (walkers c l.depth).assign f 0) (λ c f. param_list c (walkers c l.depth).assign f l.n) l.fn.p l.p × (l.n ≤ 64)
-
-abbrev pub decreases-param_list-loop-depth : goal.decreases-param_list-loop-depth
-decreases-param_list-loop-depth l = length l.fn.p.words.now - l.p.at

@@ -1,7 +1,7 @@
 use Rattle.std.specs.Prelude.{◌-◌}
 use Rattle.std.proofs.Common.{arith, eq-eqb, ne_eqb}
 use Rattle.sifc_def.specs.Expr.{assign_to, assign_token, assign_array, assign_nothing}
-use Rattle.sifc_def.specs.declared.Why.TheVariants.{InvalidAssign}
+use Rattle.sifc_err.specs.declared.parse_err.ParseErrTy.TheVariants.{InvalidAssign}
 use Rattle.sifc_step.specs.Small.{node_of, throw_at}
 use Rattle.sifc_step.proofs.Steps.{begin, last, yes, no}
 use Rattle.sifc_step.proofs.Small.{conveyed}

@@ -1,5 +1,5 @@
 use Rattle.std.proofs.Common.{arith, eq-eqb, ne_eqb, sym, ◌∙◌}
-use Rattle.sifc_def.specs.declared.Why.TheVariants.{InvalidAssign}
+use Rattle.sifc_err.specs.declared.parse_err.ParseErrTy.TheVariants.{InvalidAssign}
 use Rattle.sifc_def.specs.State.{throw}
 use Rattle.sifc_def.specs.Expr.{assign_token, assign_var}
 use Rattle.sifc_symtab.specs.Table.{found_of}

@@ -1,5 +1,5 @@
 use Rattle.std.proofs.Common.{arith, sym, ◌∙◌}
-use Rattle.sifc_def.specs.declared.Why.TheVariants.{UndeclSym}
+use Rattle.sifc_err.specs.declared.parse_err.ParseErrTy.TheVariants.{UndeclSym}
 use Rattle.sifc_def.specs.State.{throw_past}
 use Rattle.sifc_def.specs.Expr.{ident_expr, literal as literal_of}
 use Rattle.sifc_step.proofs.Steps.{begin, last, stop}

@@ -1,6 +1,6 @@
 use Rattle.std.specs.Prelude.{suc, ◌+◌, ◌-◌, refl, [], ◌∷◌, map, reverse, take, eqb, true, false, ◌||◌}
 use Rattle.std.proofs.Common.{arith, sym, ap, ◌∙◌, eq-eqb, ne_eqb}
-use Rattle.sifc_def.specs.declared.Why.TheVariants.{ExpectedIdent}
+use Rattle.sifc_err.specs.declared.parse_err.ParseErrTy.TheVariants.{ExpectedIdent}
 use Rattle.sifc_def.specs.declared.What.TheVariants.{Placeholder, Function}
 use Rattle.sifc_def.specs.State.{Node, St, consume, expect, ident, push}
 use Rattle.sifc_def.specs.Symbols.{init_scope, store}
@@ -16,6 +16,7 @@ use Rattle.sifc_block.specs.Bound.{names_of, end_block, between}
 use Rattle.sifc_block.proofs.Steps.{conveyed, quiet, goes, stops, lasts, ends, reads, kind-of, if-yes, if-no, booked}
 use Rattle.sifc_parse.proofs.Turns.{opens, block-step, block_none, block-named, turning, turn-own, onward, retold}
 use Rattle.sifc_parse.proofs.Inside.{passed, brace, expect-level, moved-nodes, scope-nodes, push-nodes, nodes-more, names-kept, names-same, names-fit, bound-as, here-few}
+use Rattle.sifc_parse.proofs.parser.+declarations.Goals.{branches-in-40+in_ok-elif_stmt-in-40, branches-in-41+in_ok-else_block-in-41}
 use Rattle.sifc_parse.proofs.parser.+declarations.Goals as goal
 
 pub block-returns-then-depth-eq0 : goal.block-returns-then-depth-eq0
@@ -114,44 +115,45 @@ pub branches-loop-p-init : goal.branches-loop-p-init
 branches-loop-p-init t c =
     (turning (λ x f. branches_of x (walkers x c.args.depth) f 0 0) c.args.book.now c.requires.0, omega (arith, c.requires.2), omega arith)
 
-pub branches-returns-in_err-elif_stmt : goal.branches-returns-in_err-elif_stmt
+pub branches-returns-in_err-elif_stmt-in-40 : goal.branches-returns-in_err-elif_stmt-in-40
 unfolding branches_of
-branches-returns-in_err-elif_stmt t c =
+branches-returns-in_err-elif_stmt-in-40 t c =
     let g0 = kind-of _ (turn-own c.loop-p.invariant.0) in
-    let g1 = if-yes _ _ g0 (eq-eqb _ _ (sym c.kind-k.ensures ∙ c.if-k-eq-ELIF.true)) in
-    conveyed (stops (λ x. elif_stmt x (walkers x c.args.depth)) _ (λ x. branches_of x (walkers x c.args.depth) (fuel x) 0 0) g1 (omega arith) c.in_err-elif_stmt.ensures) c.from_residual.ensures
+    let g1 = if-yes _ _ g0 (eq-eqb _ _ (sym c.kind.ensures ∙ c.in-40.is)) in
+    conveyed (stops (λ x. elif_stmt x (walkers x c.args.depth)) _ (λ x. branches_of x (walkers x c.args.depth) (fuel x) 0 0) g1 (omega arith) c.in_err-elif_stmt-in-40.ensures) c.from_residual.ensures
 
-pub branches-loop-p-preserved-then-k-eq-ELIF : goal.branches-loop-p-preserved-then-k-eq-ELIF
+pub branches-returns-in_err-else_block-in-41 : goal.branches-returns-in_err-else_block-in-41
 unfolding branches_of
-branches-loop-p-preserved-then-k-eq-ELIF t c =
+branches-returns-in_err-else_block-in-41 t c =
     let g0 = kind-of _ (turn-own c.loop-p.invariant.0) in
-    let g1 = if-yes _ _ g0 (eq-eqb _ _ (sym c.kind-k.ensures ∙ c.if-k-eq-ELIF.true)) in
-    let g2 = goes (λ x. elif_stmt x (walkers x c.args.depth)) _ g1 c.in_ok-elif_stmt.ensures in
-    (retold (λ x f n. branches_of x (walkers x c.args.depth) f n c.loop-p.elses) c.loop-p.n (onward c.loop-p.invariant.0 {loop' = λ x f. branches_of x (walkers x c.args.depth) f (suc c.loop-p.n) c.loop-p.elses} (omega (arith, (c.in_ok-elif_stmt.ensures.fine g1.is).on)) g2), omega (arith, c.loop-p.invariant.1, (c.in_ok-elif_stmt.ensures.fine g1.is).on), omega (arith, c.loop-p.invariant.2))
-
-pub branches-returns-in_err-else_block : goal.branches-returns-in_err-else_block
-unfolding branches_of
-branches-returns-in_err-else_block t c =
-    let g0 = kind-of _ (turn-own c.loop-p.invariant.0) in
-    let g1 = if-no _ _ g0 (ne_eqb _ _ (λ z. c.if-k-eq-ELIF.false (c.kind-k.ensures ∙ z))) in
-    let g2 = if-yes _ _ g1 (eq-eqb _ _ (sym c.kind-k.ensures ∙ c.if-k-eq-ELSE.true)) in
-    conveyed (stops (λ x. else_block x (walkers x c.args.depth)) _ (λ x. branches_of x (walkers x c.args.depth) (fuel x) 0 0) g2 (omega arith) c.in_err-else_block.ensures) c.from_residual-in_err-else_block.ensures
+    let g1 = if-no _ _ g0 (ne_eqb _ _ (λ z. omega (arith, c.kind.ensures, c.in-41.is, z))) in
+    let g2 = if-yes _ _ g1 (eq-eqb _ _ (sym c.kind.ensures ∙ c.in-41.is)) in
+    conveyed (stops (λ x. else_block x (walkers x c.args.depth)) _ (λ x. branches_of x (walkers x c.args.depth) (fuel x) 0 0) g2 (omega arith) c.in_err-else_block-in-41.ensures) c.from_residual-in_err-else_block-in-41.ensures
 
 pub branches-loop-p-preserved : goal.branches-loop-p-preserved
 unfolding branches_of
 branches-loop-p-preserved t c =
     let g0 = kind-of _ (turn-own c.loop-p.invariant.0) in
-    let g1 = if-no _ _ g0 (ne_eqb _ _ (λ z. c.if-k-eq-ELIF.false (c.kind-k.ensures ∙ z))) in
-    let g2 = if-yes _ _ g1 (eq-eqb _ _ (sym c.kind-k.ensures ∙ c.if-k-eq-ELSE.true)) in
-    let g3 = goes (λ x. else_block x (walkers x c.args.depth)) _ g2 c.in_ok-else_block.ensures in
-    (retold (λ x f n. branches_of x (walkers x c.args.depth) f n (c.loop-p.elses + 1)) c.loop-p.n (retold (λ x f m. branches_of x (walkers x c.args.depth) f (suc c.loop-p.n) m) c.loop-p.elses (onward c.loop-p.invariant.0 {loop' = λ x f. branches_of x (walkers x c.args.depth) f (suc c.loop-p.n) (suc c.loop-p.elses)} (omega (arith, (c.in_ok-else_block.ensures.fine g2.is).on)) g3)), omega (arith, c.loop-p.invariant.1, (c.in_ok-else_block.ensures.fine g2.is).on), omega (arith, c.loop-p.invariant.2))
+    elim c.match-kind.branch [
+      | branches-in-40+in_ok-elif_stmt-in-40 w ↦
+          let g1 = if-yes _ _ g0 (eq-eqb _ _ (sym c.kind.ensures ∙ w.in-40.is)) in
+          let g2 = goes (λ x. elif_stmt x (walkers x c.args.depth)) _ g1 w.in_ok-elif_stmt-in-40.ensures in
+          let on = (w.in_ok-elif_stmt-in-40.ensures.fine g1.is).on in
+          rw (w.p-is, w.book-is, w.elses-is) (retold (λ x f n. branches_of x (walkers x c.args.depth) f n c.loop-p.elses) c.loop-p.n (onward c.loop-p.invariant.0 {loop' = λ x f. branches_of x (walkers x c.args.depth) f (suc c.loop-p.n) c.loop-p.elses} (omega (arith, on)) g2), omega (arith, c.loop-p.invariant.1, on), omega (arith, c.loop-p.invariant.2))
+      | branches-in-41+in_ok-else_block-in-41 w ↦
+          let g1 = if-no _ _ g0 (ne_eqb _ _ (λ z. omega (arith, c.kind.ensures, w.in-41.is, z))) in
+          let g2 = if-yes _ _ g1 (eq-eqb _ _ (sym c.kind.ensures ∙ w.in-41.is)) in
+          let g3 = goes (λ x. else_block x (walkers x c.args.depth)) _ g2 w.in_ok-else_block-in-41.ensures in
+          let on = (w.in_ok-else_block-in-41.ensures.fine g2.is).on in
+          rw (w.p-is, w.book-is, w.elses-is) (retold (λ x f n. branches_of x (walkers x c.args.depth) f n (c.loop-p.elses + 1)) c.loop-p.n (retold (λ x f m. branches_of x (walkers x c.args.depth) f (suc c.loop-p.n) m) c.loop-p.elses (onward c.loop-p.invariant.0 {loop' = λ x f. branches_of x (walkers x c.args.depth) f (suc c.loop-p.n) (suc c.loop-p.elses)} (omega (arith, on)) g3)), omega (arith, c.loop-p.invariant.1, on), omega (arith, c.loop-p.invariant.2))
+    ]
 
-pub branches-returns-else-k-eq-ELSE : goal.branches-returns-else-k-eq-ELSE
+pub branches-returns-in_default : goal.branches-returns-in_default
 unfolding branches_of
-branches-returns-else-k-eq-ELSE t c =
+branches-returns-in_default t c =
     let g0 = kind-of _ (turn-own c.loop-p.invariant.0) in
-    let g1 = if-no _ _ g0 (ne_eqb _ _ (λ z. c.if-k-eq-ELIF.false (c.kind-k.ensures ∙ z))) in
-    let g2 = if-no _ _ g1 (ne_eqb _ _ (λ z. c.if-k-eq-ELSE.false (c.kind-k.ensures ∙ z))) in
+    let g1 = if-no _ _ g0 (ne_eqb _ _ (λ z. let e = c.kind.ensures ∙ z in omega (arith, e))) in
+    let g2 = if-no _ _ g1 (ne_eqb _ _ (λ z. let e = c.kind.ensures ∙ z in omega (arith, e))) in
     lasts (λ x. end_if x c.loop-p.n c.loop-p.elses) (λ x. branches_of x (walkers x c.args.depth) (fuel x) 0 0) g2 (omega arith) c.end_if.ensures.does
 
 pub decl-returns-then-k-eq-VAR : goal.decl-returns-then-k-eq-VAR

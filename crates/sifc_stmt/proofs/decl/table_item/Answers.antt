@@ -1,6 +1,6 @@
 use Rattle.std.specs.Prelude.{refl, false}
 use Rattle.std.proofs.Common.{arith}
-use Rattle.sifc_def.specs.declared.Why.TheVariants.{InvalidTknMsg}
+use Rattle.sifc_err.specs.declared.parse_err.ParseErrTy.TheVariants.{InvalidTknMsg}
 use Rattle.sifc_def.specs.State.{expect, push, ident}
 use Rattle.sifc_def.specs.Stmt.{table_item}
 use Rattle.sifc_def.specs.Walk.{walkers}

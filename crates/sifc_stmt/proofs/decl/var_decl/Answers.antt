@@ -1,6 +1,6 @@
 use Rattle.std.specs.Prelude.{refl}
 use Rattle.std.proofs.Common.{arith, sym, ◌∙◌, eq-eqb, ne_eqb}
-use Rattle.sifc_def.specs.declared.Why.TheVariants.{InvalidTknMsg, ExpectedIdent}
+use Rattle.sifc_err.specs.declared.parse_err.ParseErrTy.TheVariants.{InvalidTknMsg, ExpectedIdent}
 use Rattle.sifc_def.specs.State.{expect, consume, ident, throw}
 use Rattle.sifc_def.specs.Stmt.{var_decl, declare_var}
 use Rattle.sifc_def.specs.Walk.{walkers}

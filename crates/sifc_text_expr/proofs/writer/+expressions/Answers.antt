@@ -1,9 +1,10 @@
 use native.Mathlib.Omega.{arith}
+use Rattle.std.proofs.Common.{rules}
 use mathlib.Core.Path.{sym, ◌∙◌}
 use Prim.Native.Nat.{◌-◌}
 use Rattle.sifc_put.specs.Post.{inp_of}
 use Rattle.sifc_put.proofs.Frame.{spot, put, here, end, stop}
-use Rattle.sifc_put.proofs.Rows.{next-list, no-list}
+use Rattle.sifc_put.proofs.Items.{items-at, items-written}
 use Rattle.sifc_text_expr.specs.Kinds.{expr_l}
 use Rattle.sifc_text_expr.proofs.Roots.{readable, root, root-head}
 use Rattle.sifc_text_expr.proofs.Forms.{counts_target, bare-part, closed-part, prim-part, one-part, chain-part, call-part, subscript-part, index-part, element-part, dot-part, set-part, joined-part, two-part, left-part}
@@ -92,92 +93,72 @@ element-returns t c =
     end c.requires.0 c2 c.subscript.ensures
 
 pub expr-kind-requires : goal.expr-kind-requires
-expr-kind-requires t c = root-head c.loop-w.w (here c.requires c.loop-w.invariant)
+expr-kind-requires t c = root-head c.loop-hi.w (here c.requires c.loop-hi.invariant)
 
 pub expr-height-n-requires : goal.expr-height-n-requires
-expr-height-n-requires t c = root c.loop-w.w (here c.requires c.loop-w.invariant)
+expr-height-n-requires t c = root c.loop-hi.w (here c.requires c.loop-hi.invariant)
 
 pub expr-overflow_sub-w : goal.expr-overflow_sub-w
-expr-overflow_sub-w t c = omega (arith, (root c.loop-w.w (here c.requires c.loop-w.invariant)).some)
+expr-overflow_sub-w t c = omega (arith, (root c.loop-hi.w (here c.requires c.loop-hi.invariant)).some)
 
 pub expr-operand-requires : goal.expr-operand-requires
 expr-operand-requires t c =
-    let c0 = two-part c.loop-w.w c.loop-w.invariant c.kind.ensures c.if-kind-ne-BINARY_EXPR.false c.height-n.ensures in
-    (omega (arith, c.decreases, (root c.loop-w.w (here c.requires c.loop-w.invariant)).some, c.loop-w.invariant.goes.node), spot c.requires c0)
+    let c0 = two-part c.loop-hi.w c.loop-hi.invariant c.kind.ensures c.loop-hi-test.true c.height-n.ensures in
+    (omega (arith, c.decreases, (root c.loop-hi.w (here c.requires c.loop-hi.invariant)).some, c.loop-hi.invariant.goes.node), spot c.requires c0)
 
 pub expr-returns-in_err-operand : goal.expr-returns-in_err-operand
 expr-returns-in_err-operand t c =
-    let c0 = two-part c.loop-w.w c.loop-w.invariant c.kind.ensures c.if-kind-ne-BINARY_EXPR.false c.height-n.ensures in
+    let c0 = two-part c.loop-hi.w c.loop-hi.invariant c.kind.ensures c.loop-hi-test.true c.height-n.ensures in
     stop c0 c.in_err-operand.ensures c.from_residual.ensures.0
 
 pub expr-put_token-requires : goal.expr-put_token-requires
 expr-put_token-requires t c =
-    let c0 = two-part c.loop-w.w c.loop-w.invariant c.kind.ensures c.if-kind-ne-BINARY_EXPR.false c.height-n.ensures in
+    let c0 = two-part c.loop-hi.w c.loop-hi.invariant c.kind.ensures c.loop-hi-test.true c.height-n.ensures in
     let c1 = put c.requires c0 c.in_ok-operand.ensures in
     spot c.requires c1
 
 pub expr-returns-in_err-put_token : goal.expr-returns-in_err-put_token
 expr-returns-in_err-put_token t c =
-    let c0 = two-part c.loop-w.w c.loop-w.invariant c.kind.ensures c.if-kind-ne-BINARY_EXPR.false c.height-n.ensures in
+    let c0 = two-part c.loop-hi.w c.loop-hi.invariant c.kind.ensures c.loop-hi-test.true c.height-n.ensures in
     let c1 = put c.requires c0 c.in_ok-operand.ensures in
     stop c1 c.in_err-put_token.ensures c.from_residual-in_err-put_token.ensures.0
 
 pub expr-height-requires : goal.expr-height-requires
 expr-height-requires t c =
-    let c0 = two-part c.loop-w.w c.loop-w.invariant c.kind.ensures c.if-kind-ne-BINARY_EXPR.false c.height-n.ensures in
+    let c0 = two-part c.loop-hi.w c.loop-hi.invariant c.kind.ensures c.loop-hi-test.true c.height-n.ensures in
     let c1 = put c.requires c0 c.in_ok-operand.ensures in
     let c2 = put c.requires c1 c.in_ok-put_token.ensures in
     readable (inp_of c.put_token.new.self) (here c.requires c2).tree (here c.requires c2).lo c.put_token.new.self.node (here c.requires c2).spans
 
 pub expr-operand-requires-then-n-height : goal.expr-operand-requires-then-n-height
 expr-operand-requires-then-n-height t c =
-    let c0 = two-part c.loop-w.w c.loop-w.invariant c.kind.ensures c.if-kind-ne-BINARY_EXPR.false c.height-n.ensures in
+    let c0 = two-part c.loop-hi.w c.loop-hi.invariant c.kind.ensures c.loop-hi-test.true c.height-n.ensures in
     let c1 = put c.requires c0 c.in_ok-operand.ensures in
     let c2 = put c.requires c1 c.in_ok-put_token.ensures in
-    (omega (arith, c.decreases, (root c.loop-w.w (here c.requires c.loop-w.invariant)).some, c.loop-w.invariant.goes.node, c.in_ok-operand.ensures.goes.node, c.in_ok-put_token.ensures.goes.node), here c.requires c2)
+    (omega (arith, c.decreases, (root c.loop-hi.w (here c.requires c.loop-hi.invariant)).some, c.loop-hi.invariant.goes.node, c.in_ok-operand.ensures.goes.node, c.in_ok-put_token.ensures.goes.node), here c.requires c2)
 
 pub expr-returns-then-n-height : goal.expr-returns-then-n-height
 expr-returns-then-n-height t c =
-    let c0 = two-part c.loop-w.w c.loop-w.invariant c.kind.ensures c.if-kind-ne-BINARY_EXPR.false c.height-n.ensures in
+    let c0 = two-part c.loop-hi.w c.loop-hi.invariant c.kind.ensures c.loop-hi-test.true c.height-n.ensures in
     let c1 = put c.requires c0 c.in_ok-operand.ensures in
     let c2 = put c.requires c1 c.in_ok-put_token.ensures in
     end c.requires c2 c.operand-then-n-height.ensures
 
-pub expr-loop-w-smaller : goal.expr-loop-w-smaller
-expr-loop-w-smaller t c = omega (arith, (root c.loop-w.w (here c.requires c.loop-w.invariant)).some, c.in_ok-operand.ensures.goes.node, c.in_ok-put_token.ensures.goes.node)
+pub expr-loop-hi-smaller : goal.expr-loop-hi-smaller
+expr-loop-hi-smaller t c = omega (arith, (root c.loop-hi.w (here c.requires c.loop-hi.invariant)).some, c.in_ok-operand.ensures.goes.node, c.in_ok-put_token.ensures.goes.node)
 
-pub expr-loop-w-preserved : goal.expr-loop-w-preserved
-expr-loop-w-preserved t c =
-    let c0 = two-part c.loop-w.w c.loop-w.invariant c.kind.ensures c.if-kind-ne-BINARY_EXPR.false c.height-n.ensures in
+pub expr-loop-hi-preserved : goal.expr-loop-hi-preserved
+expr-loop-hi-preserved t c =
+    let c0 = two-part c.loop-hi.w c.loop-hi.invariant c.kind.ensures c.loop-hi-test.true c.height-n.ensures in
     let c1 = put c.requires c0 c.in_ok-operand.ensures in
     let c2 = put c.requires c1 c.in_ok-put_token.ensures in
     left-part c.put_token.new.self c2 c.height.ensures c.if-n-height.false
 
-pub exprs-expr-requires : goal.exprs-expr-requires
-exprs-expr-requires t c =
-    let c0 = next-list expr_l c.loop-left.left (λ e. omega (arith, c.loop-left-test.true, e)) c.loop-left.invariant in
-    (omega (arith, c.decreases, c.loop-left.invariant.goes.node), spot c.requires c0)
-
-pub exprs-returns-in_err-expr : goal.exprs-returns-in_err-expr
-exprs-returns-in_err-expr t c =
-    let c0 = next-list expr_l c.loop-left.left (λ e. omega (arith, c.loop-left-test.true, e)) c.loop-left.invariant in
-    stop c0 c.in_err-expr.ensures c.from_residual.ensures.0
-
-pub exprs-returns-in_err-separator : goal.exprs-returns-in_err-separator
-exprs-returns-in_err-separator t c =
-    let c0 = next-list expr_l c.loop-left.left (λ e. omega (arith, c.loop-left-test.true, e)) c.loop-left.invariant in
-    let c1 = put c.requires c0 c.in_ok-expr.ensures in
-    stop c1 c.in_err-separator.ensures c.from_residual-in_err-separator.ensures.0
-
-pub exprs-loop-left-preserved : goal.exprs-loop-left-preserved
-exprs-loop-left-preserved t c =
-    let c0 = next-list expr_l c.loop-left.left (λ e. omega (arith, c.loop-left-test.true, e)) c.loop-left.invariant in
-    let c1 = put c.requires c0 c.in_ok-expr.ensures in
-    let c2 = put c.requires c1 c.in_ok-separator.ensures in
-    c2
+pub exprs-list-requires : goal.exprs-list-requires
+exprs-list-requires t c = items-at {K = expr_l} c.requires (record { ready = λ p g z. search (rules, g.node, c.decreases); writes = λ p q r z d. search rules })
 
 pub exprs-returns : goal.exprs-returns
-exprs-returns t c = no-list expr_l c.loop-left.left (omega (arith, c.loop-left-test.false)) c.loop-left.invariant
+exprs-returns t c = items-written {K = expr_l} c.requires (record { ready = λ p g z. search (rules, g.node, c.decreases); writes = λ p q r z d. search rules }) c.list.ensures
 
 pub linked-expr-requires : goal.linked-expr-requires
 linked-expr-requires t c =

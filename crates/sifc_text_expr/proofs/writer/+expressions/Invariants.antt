@@ -1,7 +1,7 @@
 use Rattle.std.proofs.Common.{◌+◌, ◌*◌}
 use Rattle.sifc_put.specs.Post.{one}
 use Rattle.sifc_put.proofs.Frame.{Part}
-use Rattle.sifc_text_expr.specs.Kinds.{expr_l, exprs_l}
+use Rattle.sifc_text_expr.specs.Kinds.{expr_l}
 use Rattle.sifc_text_expr.proofs.writer.+expressions.Given as goal
 
 abbrev pub decreases-call : goal.decreases-call
@@ -31,11 +31,11 @@ decreases-subscript l = l.w.now.node * 8 + 7
 abbrev pub decreases-unary : goal.decreases-unary
 decreases-unary l = l.w.now.node * 8 + 3
 
-abbrev pub invariant-expr-loop-w : goal.invariant-expr-loop-w
-invariant-expr-loop-w l = Part expr_l (one expr_l) l.initial.w l.w
+abbrev pub invariant-expr-loop-hi : goal.invariant-expr-loop-hi
+invariant-expr-loop-hi l = Part expr_l (one expr_l) l.initial.w l.w
 
-abbrev pub decreases-expr-loop-w : goal.decreases-expr-loop-w
-decreases-expr-loop-w l = l.w.node
+abbrev pub decreases-expr-loop-hi : goal.decreases-expr-loop-hi
+decreases-expr-loop-hi l = l.w.node
 
-abbrev pub invariant-exprs-loop-left : goal.invariant-exprs-loop-left
-invariant-exprs-loop-left l = Part (exprs_l l.count) (one (exprs_l l.left)) l.initial.w l.w
+abbrev pub decreases-exprs-list : goal.decreases-exprs-list
+decreases-exprs-list l = l.w.now.node * 8 + 6

@@ -1,4 +1,4 @@
-use Rattle.std.proofs.Common.{Err, ◌≡◌, refl, ◌<◌, ◌∙◌, ap, ℕ, rules, arith, length, lt-ltb, le-ltb, zero-add}
+use Rattle.std.proofs.Common.{Err, ◌≡◌, refl, ◌<◌, ap, ℕ, rules, arith, length, lt-ltb, le-ltb}
 use Rattle.sifc_err.specs.declared.Refusal.TheVariants.{NotAscii}
 use Rattle.sifc_word.specs.Base.{if◌then◌otherwise◌, span}
 use Rattle.sifc_lex.specs.Lex.{ascii}
@@ -22,6 +22,6 @@ pub returns : goal.returns
 unfolding check_of if◌then◌otherwise◌
 returns c =
     let s = c.args.script.now in
-    let f : c.run_end.result ≡ span ascii s = c.run_end.ensures.run ascii (λ b r h p. search (rules, ascii_is)) ∙ zero-add (span ascii s) in
+    let f : c.run.result ≡ span ascii s = c.run.ensures.run ascii (λ b r h p. search (rules, ascii_is)) in
     let n : span ascii s < length s = not_ascii 0 s (omega arith) (rw c.greatest.ensures at c.if-greatest-lt128.false) in
     rw (le-ltb 65535 (length s) c.if-script-gt65535.false) (rw (lt-ltb (span ascii s) (length s) n) (ap (λ (k : ℕ). Err (NotAscii k)) f))

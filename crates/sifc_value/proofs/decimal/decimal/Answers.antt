@@ -7,8 +7,8 @@ pub int_to_float-result : goal.int_to_float-result
 unfolding in_float
 int_to_float-result c = le→leb c.args.number (2 ^ 53) (omega arith)
 
-pub returns-then-number-le9007199254740992 : goal.returns-then-number-le9007199254740992
-returns-then-number-le9007199254740992 c = rw c.nearest_u64_to_f64.ensures (short-way c.args.number c.args.scale c.args.places (omega arith) c.requires.places_bound c.requires.scale_value)
+pub returns-then-number-le-EXACT : goal.returns-then-number-le-EXACT
+returns-then-number-le-EXACT c = rw c.nearest_u64_to_f64.ensures (short-way c.args.number c.args.scale c.args.places (omega arith) c.requires.places_bound c.requires.scale_value)
 
 pub returns-then-places-eq0 : goal.returns-then-places-eq0
 unfolding of_int

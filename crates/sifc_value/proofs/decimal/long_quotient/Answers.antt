@@ -1,6 +1,7 @@
 use Rattle.std.proofs.Common.{◌≡◌, ℕ, ◌+◌, ◌*◌, ◌^◌, ◌<◌, pos, sym, ap, ◌∙◌, subst, mod-lt, div-add-mod', mul-one, arith}
 use lib.Ieee.{binary64, of_int}
 use Rattle.sifc_value.specs.Decimal.{bit, long-way, power-held, power-number}
+use Rattle.sifc_value.specs.Steps.{Deeper}
 use Rattle.sifc_value.proofs.Worked.{first}
 use Rattle.sifc_value.proofs.decimal.long_quotient.Goals as goal
 
@@ -10,23 +11,20 @@ nonzero_div-first c = (first c.args.number c.args.places c.args.five c.requires.
 pub nonzero_rem-first : goal.nonzero_rem-first
 nonzero_rem-first c = (first c.args.number c.args.places c.args.five c.requires.five_value c.requires.places_nonzero c.requires.places_bound c.requires.number_large c.ranges.number.fits).some
 
-pub deeper-second-requires : goal.deeper-second-requires
-deeper-second-requires c =
-    let f = first c.args.number c.args.places c.args.five c.requires.five_value c.requires.places_nonzero c.requires.places_bound c.requires.number_large c.ranges.number.fits in
-    record { rest_lt_five = mod-lt c.args.number f.some; five_bound = f.below; whole_bound = f.high; shift_bound = omega arith }
+pub deeper-requires-clause-rest_lt_five : goal.deeper-requires-clause-rest_lt_five
+deeper-requires-clause-rest_lt_five c = mod-lt c.args.number (first c.args.number c.args.places c.args.five c.requires.five_value c.requires.places_nonzero c.requires.places_bound c.requires.number_large c.ranges.number.fits).some
 
-pub deeper-third-requires : goal.deeper-third-requires
-deeper-third-requires c =
-    let f = first c.args.number c.args.places c.args.five c.requires.five_value c.requires.places_nonzero c.requires.places_bound c.requires.number_large c.ranges.number.fits in
-    let d = c.deeper-second.ensures in
-    record { rest_lt_five = d.less; five_bound = f.below; whole_bound = d.fits; shift_bound = omega arith }
+pub deeper-requires-clause-five_bound : goal.deeper-requires-clause-five_bound
+deeper-requires-clause-five_bound c = (first c.args.number c.args.places c.args.five c.requires.five_value c.requires.places_nonzero c.requires.places_bound c.requires.number_large c.ranges.number.fits).below
 
-pub deeper-last-requires : goal.deeper-last-requires
-deeper-last-requires c =
-    let f = first c.args.number c.args.places c.args.five c.requires.five_value c.requires.places_nonzero c.requires.places_bound c.requires.number_large c.ranges.number.fits in
-    let d = c.deeper-second.ensures in
-    let e = c.deeper-third.ensures in
-    record { rest_lt_five = e.less; five_bound = f.below; whole_bound = e.fits; shift_bound = omega arith }
+pub deeper-requires-clause-whole_bound : goal.deeper-requires-clause-whole_bound
+deeper-requires-clause-whole_bound c = (first c.args.number c.args.places c.args.five c.requires.five_value c.requires.places_nonzero c.requires.places_bound c.requires.number_large c.ranges.number.fits).high
+
+pub deeper-requires-2-clause-five_bound : goal.deeper-requires-2-clause-five_bound
+deeper-requires-2-clause-five_bound c = rw c.deeper.ensures.same (first c.args.number c.args.places c.args.five c.requires.five_value c.requires.places_nonzero c.requires.places_bound c.requires.number_large c.ranges.number.fits).below
+
+pub deeper-last-requires-clause-five_bound : goal.deeper-last-requires-clause-five_bound
+deeper-last-requires-clause-five_bound c = rw (c.deeper-2.ensures.same, c.deeper.ensures.same) (first c.args.number c.args.places c.args.five c.requires.five_value c.requires.places_nonzero c.requires.places_bound c.requires.number_large c.ranges.number.fits).below
 
 pub float_from_bits-power : goal.float_from_bits-power
 float_from_bits-power c = power-number (c.deeper-last.result.shift + 1 + c.args.places) (omega arith)
@@ -38,9 +36,9 @@ returns c =
     let five = c.args.five in
     let r = c.deeper-last.result in
     let e : five ≡ 5 ^ p = c.requires.five_value in
-    let d = c.deeper-second.ensures in
-    let g = c.deeper-third.ensures in
-    let h = c.deeper-last.ensures in
+    let d = c.deeper.ensures.deeper in
+    let g = subst (λ (z : ℕ). Deeper z c.deeper.result.whole c.deeper.result.rest c.deeper.result.shift c.deeper-2.result.whole c.deeper-2.result.rest c.deeper-2.result.shift) c.deeper.ensures.same c.deeper-2.ensures.deeper in
+    let h = subst (λ (z : ℕ). Deeper z c.deeper-2.result.whole c.deeper-2.result.rest c.deeper-2.result.shift r.whole r.rest r.shift) (c.deeper-2.ensures.same ∙ c.deeper.ensures.same) c.deeper-last.ensures.deeper in
     let f = first c.args.number c.args.places c.args.five c.requires.five_value c.requires.places_nonzero c.requires.places_bound c.requires.number_large c.ranges.number.fits in
     let held = h.keeps m (g.keeps m (d.keeps m (div-add-mod' m five ∙ sym (mul-one m)))) in
     let n : c.nearest_u64_to_f64.result ≡ of_int binary64 (pos (2 * r.whole + bit r.rest)) = c.nearest_u64_to_f64.ensures ∙ ap (λ (z : ℕ). of_int binary64 (pos z)) c.with_bit.ensures in

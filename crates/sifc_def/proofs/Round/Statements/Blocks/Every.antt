@@ -12,8 +12,8 @@ use Rattle.std.proofs.Math.ListN.{length}
 use Rattle.std.proofs.lemmas.List.{length-map}
 use Rattle.sifc_word.specs.Base.{if◌then◌otherwise◌, member}
 use Rattle.sifc_word.specs.Kind.{LeftParen, RightParen, LeftBracket, Semicolon, Eq, Comma, DoubleLeftBracket, Ident, Var, Fn, If, Elif, Else, For, In as InKind, Eof}
-use Rattle.sifc_def.specs.declared.Why.{Why}
-use Rattle.sifc_def.specs.declared.Why.TheVariants.{InvalidIfStmt, ExpectedIdent}
+use Rattle.sifc_def.specs.Why.{Why}
+use Rattle.sifc_err.specs.declared.parse_err.ParseErrTy.TheVariants.{InvalidIfStmt, ExpectedIdent}
 use Rattle.sifc_def.specs.declared.What.TheVariants.{Placeholder, Function}
 use Rattle.sifc_def.specs.Ast.{IfStmt, ElifStmt, ForStmt, VarDecl, FnDecl, FnParams, IdentPair, ItemList, Table, PrimaryExpr}
 use Rattle.sifc_def.specs.State.{Node, Sym, Ctx, St, M, Void, go_on, ◌>>◌, ok, W, name_of, word_at, add_error_w_pos, add_error, list, push}

@@ -1,6 +1,0 @@
-use Rattle.sifc_symtab.specs.Toks.{toks_of}
-use Rattle.sifc_lent.proofs.PartLaws.{parsed-bare}
-use Rattle.sifc_lent.proofs.error.parse_err.Goals as goal
-
-pub returns : goal.returns
-returns c = parsed-bare _ (toks_of c.args.offs.now c.args.words.now) _ _ _ _ c.token_at-token.ensures c.place_at-place.ensures c.ty_of-ty.ensures
