@@ -19,8 +19,8 @@ use Rattle.sifc_step.specs.declared.walk.Parser.{Parser}
 use Rattle.sifc_step.specs.declared.walk.Stop.{Stop}
 use Rattle.sifc_step.specs.declared.walk.Stop.TheVariants.{Failed, Refused}
 use Rattle.sifc_step.specs.declared.walk.Target.{Target}
-use Rattle.sifc_step.specs.Abs.{Inp, Mem, Walk, inp_of, mem_of, walk_of, rooms_of, kind_in, flag_in, kids_in, node_in, nodes_of, ctx_at, abs, abs_at, kind_at, here, listed_by, with_err, ReadyOf, Ready, Fine, Broke, Kept, Does, passes, lifted, StandsAt}
-use Rattle.sifc_step.specs.Small.{OnlyMoves, OnlyLists, OnlyPasses, OnlyGrows, OnlyGrowsPast, Consumes, Literals, Expects, passes_if, throw_at, Adds, ThrowsAt, Throws, Pasts, Pushes, newest, accesses, Idents, HeadWord, Accesses}
+use Rattle.sifc_step.specs.Abs.{Inp, Mem, Walk, inp_of, mem_of, walk_of, rooms_of, kind_in, flag_in, kids_in, node_in, nodes_of, ctx_at, abs, abs_at, inp, mem, kind_at, here, listed_by, with_err, ReadyOf, Ready, Fine, Broke, Kept, among, Does, passes, lifted, StandsAt}
+use Rattle.sifc_step.specs.Small.{OnlyMoves, OnlyLists, OnlyPasses, OnlyGrows, OnlyGrowsPast, over, under, growing, naming, Consumes, Literals, Expects, passes_if, throw_at, Adds, Throwing, ThrowsAt, Throws, Pasts, Pushes, newest, accesses, Idents, HeadWord, Accesses, Puts}
 use Rattle.sifc_step.proofs.Steps.{At, begin, go, last, kind-is, off-is, kind-here, length-nodes, nodes-more, kept-same, kept-on, ctx-kept, farther, not_last, blank, blanks}
 
 -- ── a parser that stays where it is, and one that moves ──
@@ -66,9 +66,9 @@ pub passes_if-yes : (ty : ℕ) (p : Parser) → here p ≡ ty → passes_if ty p
 passes_if-yes ty p e = rw (passes_if, eq-eqb (here p) ty e) refl
 
 module _ {p : Parser} where
-  pub consume-stays : here p ≡ 47 → Consumes p (Ok tt) p
+  rests : here p ≡ 47 → Does (passes p) (λ c. consume c) p (Ok tt) p
   unfolding consume if◌then◌otherwise◌
-  consume-stays e = record { does = rw (passes-eof p e) (stays (λ r E l. rw (kind-here p r, eq-eqb (here p) 47 e) refl)); alone = refl; stays = λ z. (refl, refl) }
+  rests e = rw (passes-eof p e) (stays (λ r E l. rw (kind-here p r, eq-eqb (here p) 47 e) refl))
 
   module _ (ne : here p ≡ 47 → ⊥) where
     moves : (kind_at p.words.now (p.at + 1) ≡ 48 → ⊥) → Does (passes p) (λ c. consume c) p (Ok tt) (record p { at = p.at + 1 })
@@ -79,17 +79,31 @@ module _ {p : Parser} where
       fine = λ r. record { here = not_last p r.stands ne; calm = nf; used = r.used; holds = r.holds; level = omega (arith, r.level); room = r.room; errors = refl; on = omega arith };
     })
 
-    pub consume-moves : (kind_at p.words.now (p.at + 1) ≡ 48 → ⊥) → Consumes p (Ok tt) (record p { at = p.at + 1 })
-    consume-moves nf = record { does = moves nf; alone = refl; stays = λ z. absurd (ne z) }
-
     faults : kind_at p.words.now (p.at + 1) ≡ 48 → Does (passes p) (λ c. consume c) p (Stopped (Refused (SourceFault p.lim.fault (get_or p.offs.now (p.at + 1) 0)))) p
     unfolding consume arrive if◌then◌otherwise◌
     faults f = refuses (kept-same p) (λ r E l.
         rw (kind-here p r, ne_eqb (here p) 47 ne, sym (add-one p.at), kind-is (inp_of p) (rooms_of (mem_of p)) (p.at + 1) r.stands.toks (not_last p r.stands ne), eq-eqb (kind_at p.words.now (p.at + 1)) 48 f)
         (ap (λ (z : ℕ). refuse (SourceFault p.lim.fault z)) (off-is (inp_of p) (rooms_of (mem_of p)) (p.at + 1) r.stands.toks (not_last p r.stands ne))))
 
+module _ {p : Parser} where
+  pub consume-stays : here p ≡ 47 → Consumes p (Ok tt) p
+  consume-stays e = record { does = rests e; alone = refl; stays = λ z. (refl, refl); whatever = λ s M. rests {p = over s M p p} e }
+
+  module _ (ne : here p ≡ 47 → ⊥) where
+    pub consume-moves : (kind_at p.words.now (p.at + 1) ≡ 48 → ⊥) → Consumes p (Ok tt) (record p { at = p.at + 1 })
+    consume-moves nf = record { does = moves ne nf; alone = refl; stays = λ z. absurd (ne z); whatever = λ s M. moves {p = over s M p p} ne nf }
+
     pub consume-faults : kind_at p.words.now (p.at + 1) ≡ 48 → Consumes p (Stopped (SourceFault p.lim.fault (get_or p.offs.now (p.at + 1) 0))) p
-    consume-faults f = record { does = faults f; alone = refl; stays = λ z. absurd (ne z) }
+    consume-faults f = record { does = faults ne f; alone = refl; stays = λ z. absurd (ne z); whatever = λ s M. faults {p = over s M p p} ne f }
+
+-- what it promises, over another script and other arrays
+consumes-over : {p q : Parser} {r : Result (Unit {0}) Refusal} (s : List ℕ) (M : Mem) → Consumes p r q → Consumes (over s M p p) r (over s M p q)
+consumes-over {p} {q} s M d = record {
+  does = d.whatever s M;
+  alone = ap (λ (x : Parser). over s M p x) d.alone;
+  stays = λ z. ((d.stays z).0, ap (λ (x : Parser). over s M p x) (d.stays z).1);
+  whatever = λ t N. d.whatever t N;
+}
 
 -- ── expect and the separator ──
 
@@ -102,12 +116,6 @@ module _ {p : Parser} where
   unfolding expect if◌then◌otherwise◌ go_on
   expected {ty} e d = rw (passes_if-yes ty p e) (alike (λ c. consume c) (λ r E l. sym (rw (kind-here p r, eq-eqb (here p) ty e) refl)) d)
 
-  pub expect-yes : {ty : ℕ} {q : Parser} → here p ≡ ty → Consumes p (Ok tt) q → Expects p ty (Ok tt) q
-  expect-yes e d = record { does = expected e d.does; alone = d.alone }
-
-  pub expect-stops : {ty : ℕ} {g : Refusal} {x : Result (Unit {0}) Stop} {q : Parser} → here p ≡ ty → Consumes p (Stopped g) q → IsErr x × IsErrAnd x (λ t. t ≡ Refused g) → Expects p ty x q
-  expect-stops e d h = record { does = conveyed (expected e d.does) h; alone = d.alone }
-
   mismatch : (ty : ℕ) → (here p ≡ ty → ⊥) → Does (passes_if ty p) (λ c. expect c ty) p (Stopped (Failed (record { place = p.at; why = TknMismatch ty p.at }))) p
   unfolding expect if◌then◌otherwise◌ go_on raise
   mismatch ty e = rw (passes_if-no ty p e) (record {
@@ -116,9 +124,6 @@ module _ {p : Parser} where
     fine = λ r. record { here = r.stands.here; calm = r.stands.calm; used = r.used; holds = r.holds; level = r.level; room = r.room; errors = omega arith; on = inl (omega arith) };
   })
 
-  pub expect-no : (ty : ℕ) → (here p ≡ ty → ⊥) → Expects p ty (Stopped (Failed (record { place = p.at; why = TknMismatch ty p.at }))) p
-  expect-no ty e = record { does = mismatch ty e; alone = refl }
-
   pub separate-not : here p ≡ 2 → Does 0 (λ c. separator c) p (Ok tt) p
   unfolding separator if◌then◌otherwise◌ go_on
   separate-not e = stays (λ r E l. rw (kind-here p r, eq-eqb (here p) 2 e) refl)
@@ -126,6 +131,16 @@ module _ {p : Parser} where
   pub separate-by : {x : Result (Unit {0}) Stop} {q : Parser} → (here p ≡ 2 → ⊥) → Does 0 (λ c. expect c 12) p x q → Does 0 (λ c. separator c) p x q
   unfolding separator if◌then◌otherwise◌ go_on
   separate-by ne d = alike (λ c. expect c 12) (λ r E l. sym (rw (kind-here p r, ne_eqb (here p) 2 ne) refl)) d
+
+module _ {p : Parser} where
+  pub expect-yes : {ty : ℕ} {q : Parser} → here p ≡ ty → Consumes p (Ok tt) q → Expects p ty (Ok tt) q
+  expect-yes e d = record { does = expected e d.does; alone = d.alone; whatever = λ s M. expected {p = over s M p p} e (d.whatever s M) }
+
+  pub expect-stops : {ty : ℕ} {g : Refusal} {x : Result (Unit {0}) Stop} {q : Parser} → here p ≡ ty → Consumes p (Stopped g) q → IsErr x × IsErrAnd x (λ t. t ≡ Refused g) → Expects p ty x q
+  expect-stops e d h = record { does = conveyed (expected e d.does) h; alone = d.alone; whatever = λ s M. conveyed (expected {p = over s M p p} e (d.whatever s M)) h }
+
+  pub expect-no : (ty : ℕ) → (here p ≡ ty → ⊥) → Expects p ty (Stopped (Failed (record { place = p.at; why = TknMismatch ty p.at }))) p
+  expect-no ty e = record { does = mismatch ty e; alone = refl; whatever = λ s M. mismatch {p = over s M p p} ty e }
 
 -- fewer tokens than it has passed
 pub less : {A : Type 0} {i j : ℕ} {f : Ctx → St → Out A} {p q : Parser} {x : Result A Stop} → j ≤ i → Does i f p x q → Does j f p x q
@@ -146,9 +161,6 @@ module _ {p : Parser} (h tk : ℕ) where
   unfolding push if◌then◌otherwise◌
   full ge = refuses (kept-same p) (λ r E l. rw (length-nodes p.nodes p.head.now p.load.now, le-ltb _ _ ge) refl)
 
-  pub push-full : length p.head.now ≤ p.nodes → Pushes p h tk (Stopped NodesFull) p
-  push-full ge = record { does = full ge; alone = refl; holds = λ e. e }
-
   grown : p.nodes < length p.head.now → Does 0 (λ c. push c (kind_in h) (flag_in h) (kids_in h) tk) p (Ok tt) (with_node p h tk)
   unfolding push if◌then◌otherwise◌
   grown lt =
@@ -159,8 +171,17 @@ module _ {p : Parser} (h tk : ℕ) where
         fine = λ r. record { here = r.stands.here; calm = r.stands.calm; used = simp length-set (omega (arith, lt)); holds = r.holds; level = r.level; room = r.room; errors = refl; on = omega arith };
       }
 
+module _ {p : Parser} (h tk : ℕ) where
+  pub push-full : length p.head.now ≤ p.nodes → Pushes p h tk (Stopped NodesFull) p
+  push-full ge = record { does = full h tk ge; alone = refl; holds = λ e. e; whatever = λ I ys. full {p = growing I ys p} h tk ge }
+
   pub push-done : p.nodes < length p.head.now → Pushes p h tk (Ok tt) (with_node p h tk)
-  push-done lt = record { does = grown lt; alone = refl; holds = λ e. (length-set p.head.now p.nodes h ∙ e.0 ∙ sym (length-set p.load.now p.nodes tk), simp length-set (omega (arith, lt))) }
+  push-done lt = record {
+    does = grown h tk lt;
+    alone = refl;
+    holds = λ e. (length-set p.head.now p.nodes h ∙ e.0 ∙ sym (length-set p.load.now p.nodes tk), simp length-set (omega (arith, lt)));
+    whatever = λ I ys. grown {p = growing I ys p} h tk lt;
+  }
 
 -- a node by the first word that head_word has made
 pub pushed-as : {p q : Parser} {x : Result (Unit {0}) Stop} {k n w : ℕ} {f : Bool} (t : ℕ) → HeadWord k f n w → Does 0 (λ c. push c (kind_in w) (flag_in w) (kids_in w) t) p x q → Does 0 (λ c. push c k f n t) p x q
@@ -179,7 +200,18 @@ module _ {p : Parser} (t : Target) (h fault i : ℕ) where
 
 -- what is promised, by what the node's end is
 pub access-is : {p : Parser} {t : Target} {h fault i : ℕ} {x : Result (Unit {0}) Refusal} {q : Parser} → (t.head % 32 ≡ 24) → Pushes p h 0 x q → Accesses p t h fault i x q
-access-is {p} {t} {h} {fault} {i} e d = record { does = access-pushes t h fault i e d.does; alone = d.alone }
+access-is {p} {t} {h} {fault} {i} e d = record {
+  does = access-pushes t h fault i e d.does;
+  alone = d.alone;
+  whatever = λ s ks ys l. access-pushes t h fault i e (d.whatever (inp s p.offs.now ks l) ys);
+}
+
+pub access-refused : {p : Parser} (t : Target) (h fault i : ℕ) → (t.head % 32 ≡ 24 → ⊥) → i < length p.offs.now → Accesses p t h fault i (Stopped (SourceFault fault (get_or p.offs.now i 0))) p
+access-refused {p} t h fault i ne lt = record {
+  does = access-faults t h fault i ne lt;
+  alone = refl;
+  whatever = λ s ks ys l. access-faults {p = growing (inp s p.offs.now ks l) ys p} t h fault i ne lt;
+}
 
 -- ── errors ──
 
@@ -194,27 +226,48 @@ module _ {p : Parser} (why : Why) (lw : listed_by why ≡ 1) where
         fine = λ r. record { here = r.stands.here; calm = r.stands.calm; used = r.used; holds = r.holds; level = r.level; room = omega (arith, lt); errors = ap (λ (m : ℕ). p.errors + m) (sym lw); on = inl (omega arith) };
       }
 
-  pub throw-listed : (i : ℕ) → p.errors < p.lim.errors → ThrowsAt p i why (Failed (err i why)) (record p { errors = p.errors + 1 })
+  listed-at : (i : ℕ) → p.errors < p.lim.errors → Throwing (throw_at i why) (throw_at i why) (λ c. add_error_w_pos c i why) why p (Failed (err i why)) (record p { errors = p.errors + 1 })
   unfolding add_error_w_pos list raise go_on if◌then◌otherwise◌
-  throw-listed i lt = record {
+  listed-at i lt = record {
     does = raised i lt (λ E l. rw (l, lt-ltb _ _ lt) refl);
     counts = raised i lt (λ E l. rw (l, lt-ltb _ _ lt) refl);
     adds = record { says = λ E l. rw (l, lt-ltb _ _ lt) refl; which = refl; there = refl; more = refl };
-    alone = refl;
   }
 
-  pub throw-full : (i : ℕ) → p.lim.errors ≤ p.errors → ThrowsAt p i why (Refused ErrorsFull) p
+  full-at : (i : ℕ) → p.lim.errors ≤ p.errors → Throwing (throw_at i why) (throw_at i why) (λ c. add_error_w_pos c i why) why p (Refused ErrorsFull) p
   unfolding add_error_w_pos list raise go_on if◌then◌otherwise◌
-  throw-full i ge = record { does = refuses (kept-same p) (λ r E l. rw (l, le-ltb _ _ ge) refl); counts = refuses (kept-same p) (λ r E l. rw (l, le-ltb _ _ ge) refl); adds = λ E l. rw (l, le-ltb _ _ ge) refl; alone = refl }
+  full-at i ge = record { does = refuses (kept-same p) (λ r E l. rw (l, le-ltb _ _ ge) refl); counts = refuses (kept-same p) (λ r E l. rw (l, le-ltb _ _ ge) refl); adds = λ E l. rw (l, le-ltb _ _ ge) refl }
+
+module _ {p : Parser} (why : Why) (lw : listed_by why ≡ 1) where
+  pub throw-listed : (i : ℕ) → p.errors < p.lim.errors → ThrowsAt p i why (Failed (err i why)) (record p { errors = p.errors + 1 })
+  throw-listed i lt =
+      let d = listed-at why lw i lt in
+      record { does = d.does; counts = d.counts; adds = d.adds; alone = refl; whatever = λ s os ks M. listed-at {p = under s os ks M p p} why lw i lt }
+
+  pub throw-full : (i : ℕ) → p.lim.errors ≤ p.errors → ThrowsAt p i why (Refused ErrorsFull) p
+  throw-full i ge =
+      let d = full-at why lw i ge in
+      record { does = d.does; counts = d.counts; adds = d.adds; alone = refl; whatever = λ s os ks M. full-at {p = under s os ks M p p} why lw i ge }
 
 added-here : (p : Parser) (why : Why) (s : Stop) (q : Parser) → Adds (λ c. add_error_w_pos c p.at why) why p s q → Adds (λ c. add_error c why) why p s q
 unfolding add_error go_on
 added-here p why (Failed e) q d = record { says = λ E l. d.says E l; which = d.which; there = d.there; more = d.more }
 added-here p why (Refused g) q d = λ E l. d E l
 
-pub throw-here : {p : Parser} {why : Why} {s : Stop} {q : Parser} → ThrowsAt p p.at why s q → Throws p why s q
+here-at : {p : Parser} {why : Why} {s : Stop} {q : Parser} → Throwing (throw_at p.at why) (throw_at p.at why) (λ c. add_error_w_pos c p.at why) why p s q → Throwing (λ c. throw c why) (λ c. throw c why) (λ c. add_error c why) why p s q
 unfolding throw add_error go_on
-throw-here {p} {why} {s} {q} d = record { does = alike (throw_at p.at why) (λ r E l. refl) d.does; counts = alike (throw_at p.at why) (λ r E l. refl) d.counts; adds = added-here p why s q d.adds; alone = d.alone }
+here-at {p} {why} {s} {q} d = record { does = alike (throw_at p.at why) (λ r E l. refl) d.does; counts = alike (throw_at p.at why) (λ r E l. refl) d.counts; adds = added-here p why s q d.adds }
+
+pub throw-here : {p : Parser} {why : Why} {s : Stop} {q : Parser} → ThrowsAt p p.at why s q → Throws p why s q
+throw-here {p} {why} {s} {q} d =
+    let h : Throwing (λ c. throw c why) (λ c. throw c why) (λ c. add_error c why) why p s q = here-at (record { does = d.does; counts = d.counts; adds = d.adds }) in
+    record { does = h.does; counts = h.counts; adds = h.adds; alone = d.alone; whatever = λ t os ks M. here-at (d.whatever t os ks M) }
+
+-- what is promised of an error that is listed, over another script and other arrays
+throws-over : {p q : Parser} {why : Why} {stop : Stop} (s : List ℕ) (M : Mem) → Throws p why stop q → Throws (over s M p p) why stop (over s M p q)
+throws-over {p} {q} s M t =
+    let h = t.whatever s p.offs.now p.words.now M in
+    record { does = h.does; counts = h.counts; adds = h.adds; alone = ap (λ (x : Parser). over s M p x) t.alone; whatever = λ v os ks N. t.whatever v os ks N }
 
 -- ── an error whose token is passed ──
 
@@ -257,7 +310,7 @@ unfolding throw_past go_on
 past_full {p} why t = refuses t.does.kept (λ r E l. ap (λ (o : Out Err). go_on o (λ y s. go_on (consume (ctx_at p) s) (λ a. raise (ctx_at p) y))) (t.adds E l))
 
 pub past-full : {p : Parser} (why : Why) {q : Parser} {g : Refusal} → Throws p why (Refused g) q → Pasts p why (Refused g) q
-past-full {p} why {q} t = record { does = past_full why t; alone = counts-pass p q t.alone }
+past-full {p} why {q} t = record { does = past_full why t; alone = counts-pass p q t.alone; whatever = λ s M. past_full why (throws-over s M t) }
 
 -- two steps that leave all but the token and how many errors are listed
 passes-on : (p q x : Parser) → OnlyLists p q → OnlyMoves q x → OnlyPasses p x
@@ -278,9 +331,6 @@ module _ {p : Parser} (why : Why) (lw : listed_by why ≡ 1) {e : Err} {q : Pars
       (λ r E l. ap (λ (o : Out Err). go_on o (λ y s. go_on (consume (ctx_at p) s) (λ a. raise (ctx_at p) y))) (t.adds.says E l)
       ∙ ap (λ (c : Ctx). go_on (consume c (abs_at (e ∷ E) q)) (λ a. raise (ctx_at p) e)) (sym (ctx-kept t.does.kept))
       ∙ ap (λ (o : Out (Unit {0})). go_on o (λ a. raise (ctx_at p) e)) (sym (d.same (ready r) (e ∷ E) (ap suc l ∙ sym (add-one p.errors) ∙ sym t.adds.more))))
-
-  pub past-refused : {x : Parser} {g : Refusal} → Consumes q (Stopped g) x → Pasts p why (Refused g) x
-  past-refused d = record { does = past_refused d.does; alone = passes-on p q _ t.alone d.alone }
 
   past_fails : {x : Parser} → Does (passes q) (λ c. consume c) q (Ok tt) x → Does {A = Unit {0}} 1 (λ c. throw_past c why) p (Stopped (Failed e)) x
   unfolding throw_past add_error go_on raise
@@ -322,8 +372,24 @@ module _ {p : Parser} (why : Why) (lw : listed_by why ≡ 1) {e : Err} {q : Pars
           let w : Fine (inp_of q) (mem_of x) (passes q + q.at) q.errors (walk_of x) = d.fine (ready r) in
           inl (omega (arith, w.on, passes-one q ne, t.adds.there))
 
+-- over another script and other arrays, a call after a step that leaves all that is read
+over-on : (p : Parser) {q x : Parser} {r : Result (Unit {0}) Refusal} (s : List ℕ) (M : Mem) → inp_of q ≡ inp_of p → Consumes q r x → Does (passes (over s M p q)) (λ c. consume c) (over s M p q) (lifted r) (over s M p x)
+over-on p {q} {x} {r} s M i d = subst (λ (J : Inp). Does (passes (among (inp s J.offs J.words J.lim) M q)) (λ c. consume c) (among (inp s J.offs J.words J.lim) M q) (lifted r) (among (inp s J.offs J.words J.lim) M x)) i (d.whatever s M)
+
+module _ {p : Parser} (why : Why) (lw : listed_by why ≡ 1) {e : Err} {q : Parser} (t : Throws p why (Failed e) q) where
+  pub past-refused : {x : Parser} {g : Refusal} → Consumes q (Stopped g) x → Pasts p why (Refused g) x
+  past-refused d = record {
+    does = past_refused why lw t d.does;
+    alone = passes-on p q _ t.alone d.alone;
+    whatever = λ s M. past_refused why lw (throws-over s M t) (over-on p s M t.does.kept.inp d);
+  }
+
   pub past-fails : {x : Parser} → Consumes q (Ok tt) x → Pasts p why (Failed e) x
-  past-fails d = record { does = past_fails d.does; alone = passes-on p q _ t.alone d.alone }
+  past-fails d = record {
+    does = past_fails why lw t d.does;
+    alone = passes-on p q _ t.alone d.alone;
+    whatever = λ s M. past_fails why lw (throws-over s M t) (over-on p s M t.does.kept.inp d);
+  }
 
 -- ── what a step asks, of a parser that is ready ──
 
@@ -359,6 +425,15 @@ module _ {p : Parser} (i : ℕ) (what : What) {ys : List ℕ} (ly : length ys �
   put_full {g} d =
       rw d.is (refuses lent (λ r E l. store-full (ctx_at p) p.offs.now p.words.now (abs_at E p) p.symbols.now p.stored i (record { name = refl; table = refl }) refl what ys d))
 
+pub put-is : {p : Parser} (i : ℕ) (what : What) {ys : List ℕ} {n : ℕ} → length ys ≡ length p.symbols.now → Stores p.script.now p.offs.now p.words.now p.symbols.now p.stored p.level i what (Ok n) ys
+    → Puts p i what (Ok tt) (record p { symbols = record (p.symbols) { now = ys }; stored = n })
+put-is {p} i what ly d = record { does = put-done i what ly d; alone = refl; whatever = λ l hs ls. put-done {p = naming l hs ls p p} i what ly d }
+
+pub put-stops : {p : Parser} (i : ℕ) (what : What) {ys : List ℕ} {g : Refusal} (x : Result (Unit {0}) Refusal) → length ys ≡ length p.symbols.now
+    → Stores p.script.now p.offs.now p.words.now p.symbols.now p.stored p.level i what (Stopped g) ys → IsErr x × IsErrAnd x (λ h. h ≡ g)
+    → Puts p i what x (record p { symbols = record (p.symbols) { now = ys } })
+put-stops {p} i what x ly d h = record { does = handed x (put_full i what ly d) h; alone = refl; whatever = λ l hs ls. handed x (put_full {p = naming l hs ls p p} i what ly d) h }
+
 -- ── levels ──
 
 module _ {p : Parser} where
@@ -380,52 +455,70 @@ module _ {p : Parser} where
 
 -- ── names ──
 
+-- how far a name is passed
+abbrev named_if : Parser → ℕ
+named_if p = elim (eqb (here p) 31) [ true ↦ 1 | false ↦ 0 ]
+
+module _ {p : Parser} (y : ℕ → Why) where
+  ident-taken : here p ≡ 31 → {q : Parser} → Does (passes p) (λ c. consume c) p (Ok tt) q → Does (named_if p) (λ c. ident c y) p (Ok p.at) q
+  unfolding ident match_ident or_throw if◌then◌otherwise◌ go_on
+  ident-taken e {q} d = rw (named_if, eq-eqb (here p) 31 e) (record {
+    kept = d.kept;
+    same = λ r E l. sym (rw (kind-here p r, eq-eqb (here p) 31 e, sym (d.same r E l)) refl);
+    fine = λ r. subst (λ (j : ℕ). Fine (inp_of p) (mem_of q) (j + p.at) p.errors (walk_of q)) (passes-one p (λ z. let v : ⊥ = omega (arith, e, z) in v)) (d.fine r);
+  })
+
+  ident-refused : here p ≡ 31 → {q : Parser} {g : Refusal} → Does (passes p) (λ c. consume c) p (Stopped (Refused g)) q → Does (named_if p) (λ c. ident c y) p (Stopped (Refused g)) q
+  unfolding ident match_ident or_throw if◌then◌otherwise◌ go_on
+  ident-refused e {q} d = refuses d.kept (λ r E l. rw (kind-here p r, eq-eqb (here p) 31 e, sym (d.same r E l)) refl)
+
+  module _ (ne : here p ≡ 31 → ⊥) where
+    missed : {why : Why} → listed_by why ≡ 2 → y p.at ≡ why → p.errors + 2 ≤ p.lim.errors → Does (named_if p) (λ c. ident c y) p (Stopped (Failed (err p.at why))) (record p { errors = p.errors + 2 })
+    unfolding ident match_ident or_throw throw add_error add_error_w_pos list raise if◌then◌otherwise◌ go_on
+    missed lw ey le =
+        let lt : p.errors < p.lim.errors = omega (arith, le) in
+        let lt2 : suc p.errors < p.lim.errors = omega (arith, le) in
+        rw (named_if, ne_eqb (here p) 31 ne) (record {
+          kept = record { inp = refl; symbols_name = refl; head_name = refl; load_name = refl; symbols = refl; head = refl; load = refl };
+          same = λ r E l. rw (lw, kind-here p r, ne_eqb (here p) 31 ne, ey, l, lt-ltb _ _ lt) (rw (l, lt-ltb _ _ lt2) refl);
+          fine = λ r. record { here = r.stands.here; calm = r.stands.calm; used = r.used; holds = r.holds; level = r.level; room = le; errors = ap (λ (m : ℕ). p.errors + m) (sym lw); on = inl (omega arith) };
+        })
+
+    no_room : p.lim.errors - p.errors < 2 → Does (named_if p) (λ c. ident c y) p (Stopped (Refused ErrorsFull)) p
+    unfolding ident match_ident or_throw throw add_error add_error_w_pos list raise if◌then◌otherwise◌ go_on
+    no_room h = refuses (kept-same p) (λ r E l. full-at-once r E l (ltb p.errors p.lim.errors) refl)
+      where
+        full-at-once : Ready p → (E : List Err) → length E ≡ p.errors → (b : Bool) → ltb p.errors p.lim.errors ≡ b → ident (ctx_at p) y (abs_at E p) ≡ refuse ErrorsFull
+        full-at-once r E l true t =
+            let ge : p.lim.errors ≤ suc p.errors = omega (arith, h) in
+            rw (kind-here p r, ne_eqb (here p) 31 ne, l, t) (rw (l, le-ltb _ _ ge) refl)
+        full-at-once r E l false t = rw (kind-here p r, ne_eqb (here p) 31 ne, l, t) refl
+
 module _ {p : Parser} {why : Why} where
   pub ident-there : here p ≡ 31 → {q : Parser} → Consumes p (Ok tt) q → Idents p why (Ok p.at) q
-  unfolding ident match_ident or_throw if◌then◌otherwise◌ go_on
   ident-there e {q} d = record {
-    does = λ y ey. rw (eq-eqb (here p) 31 e) (record {
-      kept = d.does.kept;
-      same = λ r E l. sym (rw (kind-here p r, eq-eqb (here p) 31 e, sym (d.does.same r E l)) refl);
-      fine = λ r. subst (λ (j : ℕ). Fine (inp_of p) (mem_of q) (j + p.at) p.errors (walk_of q)) (passes-one p (λ z. let v : ⊥ = omega (arith, e, z) in v)) (d.does.fine r);
-    });
+    does = λ y ey. ident-taken y e d.does;
     alone = moves-pass p q d.alone;
-  }
-
-  ident-refused : here p ≡ 31 → {q : Parser} {g : Refusal} → Consumes p (Stopped g) q → Idents p why (Stopped (Refused g)) q
-  unfolding ident match_ident or_throw if◌then◌otherwise◌ go_on
-  ident-refused e {q} d = record {
-    does = λ y ey. refuses d.does.kept (λ r E l. rw (kind-here p r, eq-eqb (here p) 31 e, sym (d.does.same r E l)) refl);
-    alone = moves-pass p q d.alone;
+    whatever = λ s M y ey. ident-taken {p = over s M p p} y e (d.whatever s M);
   }
 
   pub ident-conveyed : here p ≡ 31 → {q : Parser} {g : Refusal} {x : Result ℕ Stop} → Consumes p (Stopped g) q → IsErr x × IsErrAnd x (λ s. s ≡ Refused g) → Idents p why x q
-  ident-conveyed e {q} {g} {x} d h = record { does = λ y ey. conveyed ((ident-refused e d).does y ey) h; alone = moves-pass p q d.alone }
+  ident-conveyed e {q} {g} {x} d h = record {
+    does = λ y ey. conveyed (ident-refused y e d.does) h;
+    alone = moves-pass p q d.alone;
+    whatever = λ s M y ey. conveyed (ident-refused {p = over s M p p} y e (d.whatever s M)) h;
+  }
 
   module _ (ne : here p ≡ 31 → ⊥) where
     pub ident-missed : listed_by why ≡ 2 → p.errors + 2 ≤ p.lim.errors → Idents p why (Stopped (Failed (err p.at why))) (record p { errors = p.errors + 2 })
-    unfolding ident match_ident or_throw throw add_error add_error_w_pos list raise if◌then◌otherwise◌ go_on
     ident-missed lw le = record {
-      does = λ y ey.
-          let lt : p.errors < p.lim.errors = omega (arith, le) in
-          let lt2 : suc p.errors < p.lim.errors = omega (arith, le) in
-          rw (ne_eqb (here p) 31 ne) (record {
-            kept = record { inp = refl; symbols_name = refl; head_name = refl; load_name = refl; symbols = refl; head = refl; load = refl };
-            same = λ r E l. rw (lw, kind-here p r, ne_eqb (here p) 31 ne, ey, l, lt-ltb _ _ lt) (rw (l, lt-ltb _ _ lt2) refl);
-            fine = λ r. record { here = r.stands.here; calm = r.stands.calm; used = r.used; holds = r.holds; level = r.level; room = le; errors = ap (λ (m : ℕ). p.errors + m) (sym lw); on = inl (omega arith) };
-          });
+      does = λ y ey. missed y ne lw ey le;
       alone = refl;
+      whatever = λ s M y ey. missed {p = over s M p p} y ne lw ey le;
     }
 
     pub ident-full : p.lim.errors - p.errors < 2 → Idents p why (Stopped (Refused ErrorsFull)) p
-    unfolding ident match_ident or_throw throw add_error add_error_w_pos list raise if◌then◌otherwise◌ go_on
-    ident-full h = record { does = λ y ey. refuses (kept-same p) (λ r E l. full r E l (ltb p.errors p.lim.errors) refl y); alone = refl }
-      where
-        full : Ready p → (E : List Err) → length E ≡ p.errors → (b : Bool) → ltb p.errors p.lim.errors ≡ b → (y : ℕ → Why) → ident (ctx_at p) y (abs_at E p) ≡ refuse ErrorsFull
-        full r E l true t y =
-            let ge : p.lim.errors ≤ suc p.errors = omega (arith, h) in
-            rw (kind-here p r, ne_eqb (here p) 31 ne, l, t) (rw (l, le-ltb _ _ ge) refl)
-        full r E l false t y = rw (kind-here p r, ne_eqb (here p) 31 ne, l, t) refl
+    ident-full h = record { does = λ y ey. no_room y ne h; alone = refl; whatever = λ s M y ey. no_room {p = over s M p p} y ne h }
 
 -- the name that a caller asks for, by what it says of one that is missing
 pub named : {p q : Parser} {why : Why} {r : Result ℕ Stop} (y : ℕ → Why) → Idents p why r q → y p.at ≡ why → Does 0 (λ c. ident c y) p r q
@@ -476,14 +569,31 @@ module _ {p : Parser} where
   unfolding literal go_on
   stopped d = refuses d.kept (λ r E l. ap (λ (o : Out (Unit {0})). go_on o (λ a. consume (ctx_at p))) (sym (d.same r E l)))
 
+  passed-on : (x : Result (Unit {0}) Refusal) {q z : Parser} → Does 0 (λ c. push c 24 false 0 p.at) p (Ok tt) q → Does (passes q) (λ c. consume c) q (lifted x) z → Does (passes p) (λ c. literal c p.at) p (lifted x) z
+  passed-on x {q} {z} d e = given (kept-on d.kept e.kept) (λ r. last (λ c. consume c) (λ c. literal c p.at) (go (λ c. push c 24 false 0 p.at) _ (begun r) d) (pushed-passes 24 false 0 p.at r d) e)
+
+module _ {p : Parser} where
   pub literal-refused : {q : Parser} {g : Refusal} (x : Result (Unit {0}) Refusal) → Pushes p 24 p.at (Stopped g) q → IsErr x × IsErrAnd x (λ h. h ≡ g) → Literals p x q
-  literal-refused {q} x d h = record { does = handed x (stopped d.does) h; alone = d.alone ∙ ap (λ (n : ℕ). record p { at = n; head = q.head; load = q.load; nodes = q.nodes }) (sym (ap (λ (y : Parser). y.at) d.alone)) }
+  literal-refused {q} x d h = record {
+    does = handed x (stopped d.does) h;
+    alone = d.alone ∙ ap (λ (n : ℕ). record p { at = n; head = q.head; load = q.load; nodes = q.nodes }) (sym (ap (λ (y : Parser). y.at) d.alone));
+    whatever = λ s ys. handed x (stopped (d.whatever (inp s p.offs.now p.words.now p.lim) ys)) h;
+  }
 
   pub literal-done : {q z : Parser} {x : Result (Unit {0}) Refusal} → Pushes p 24 p.at (Ok tt) q → Consumes q x z → Literals p x z
   literal-done {q} {z} {x} d e = record {
-    does = given (kept-on d.does.kept e.does.kept) done-at;
+    does = passed-on x d.does e.does;
     alone = grown-past p q z d.alone e.alone;
+    whatever = λ s ys. passed-on x (d.whatever (inp s p.offs.now p.words.now p.lim) ys) (grown-on s ys);
   }
     where
-      done-at : Ready p → Does (passes p) (λ c. literal c p.at) p (lifted x) z
-      done-at r = last (λ c. consume c) (λ c. literal c p.at) (go (λ c. push c 24 false 0 p.at) _ (begun r) d.does) (pushed-passes 24 false 0 p.at r d.does) e.does
+      -- the nodes' words are those that the token's passing left
+      heads : z.head ≡ q.head
+      heads = ap (λ (y : Parser). y.head) e.alone
+
+      loads : z.load ≡ q.load
+      loads = ap (λ (y : Parser). y.load) e.alone
+
+      grown-on : (s ys : List ℕ) → Does (passes (growing (inp s p.offs.now p.words.now p.lim) ys q)) (λ c. consume c) (growing (inp s p.offs.now p.words.now p.lim) ys q) (lifted x) (growing (inp s p.offs.now p.words.now p.lim) ys z)
+      grown-on s ys =
+          rw (ap (λ b. b.now) heads, ap (λ b. b.now) loads) (over-on p s (mem ys q.head.now q.load.now) d.does.kept.inp e)

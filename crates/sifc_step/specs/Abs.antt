@@ -193,6 +193,19 @@ here p = kind_at p.words.now p.at
 abbrev pub Ready : Parser → Type 0
 Ready p = ReadyOf (inp_of p) (mem_of p) (walk_of p)
 
+-- the parser with this read and this lent in the place of its own
+abbrev pub among : Inp → Mem → Parser → Parser
+among I M p =
+    record p {
+      script = record (p.script) { now = I.script };
+      offs = record (p.offs) { now = I.offs };
+      words = record (p.words) { now = I.words };
+      lim = I.lim;
+      symbols = record (p.symbols) { now = M.symbols };
+      head = record (p.head) { now = M.head };
+      load = record (p.load) { now = M.load };
+    }
+
 -- what is read is as it was, and what is lent is the same memory and as long
 pub record Kept (p q : Parser) : Type 0 where
   pub inp : inp_of q ≡ inp_of p
