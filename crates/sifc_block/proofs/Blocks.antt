@@ -9,34 +9,34 @@ use Rattle.sifc_def.specs.declared.Err.{Err}
 use Rattle.sifc_def.specs.Why.{Why}
 use Rattle.sifc_err.specs.declared.parse_err.ParseErrTy.TheVariants.{InvalidIdent, InvalidTkn, InvalidTknMsg, InvalidAssign, InvalidForStmt, InvalidIfStmt, TknMismatch, FnParmCntExceeded, WrongFnParmCnt, UndeclSym, UnassignedVar, ExpectedIdent}
 use Rattle.sifc_def.specs.declared.What.TheVariants.{Other}
-use Rattle.sifc_def.specs.State.{Ctx, err, St, Out, done, fail, refuse, go_on, list, add_error_w_pos, add_error}
+use Rattle.sifc_def.specs.State.{Ctx, err, St, Out, done, fail, refuse, go_on, list, add_error_w_pos, add_error, push}
 use Rattle.sifc_def.specs.Symbols.{store}
-use Rattle.sifc_def.specs.Stmt.{bind, with_return}
+use Rattle.sifc_def.specs.Stmt.{bind, with_return, end_if}
 use Rattle.sifc_step.specs.declared.walk.Parser.{Parser}
 use Rattle.sifc_step.specs.declared.walk.Stop.{Stop}
 use Rattle.sifc_step.specs.declared.walk.Stop.TheVariants.{Refused}
-use Rattle.sifc_step.specs.Abs.{ctx_at, listed_by, lifted, Ready, Does, Paired}
-use Rattle.sifc_step.specs.Small.{HeadWord, OnlyLists, OnlyDeclares, SameNodes}
+use Rattle.sifc_step.specs.Abs.{inp, mem, kind_in, flag_in, kids_in, ctx_at, listed_by, lifted, Ready, Does, Paired}
+use Rattle.sifc_step.specs.Small.{HeadWord, OnlyLists, OnlyDeclares, SameNodes, under, growing, Pushes}
 use Rattle.sifc_step.specs.Book.{reason_of}
-use Rattle.sifc_step.proofs.Steps.{At, begin, by, fin, kept-same}
-use Rattle.sifc_step.proofs.Small.{handed}
+use Rattle.sifc_step.proofs.Steps.{At, begin, by, fin, kept-same, kept-on}
+use Rattle.sifc_step.proofs.Small.{handed, pushed-as}
 use Rattle.sifc_step.proofs.Book.{notes-more}
 use Rattle.sifc_block.specs.declared.book.Book.{Book}
 use Rattle.sifc_block.specs.declared.block.Names.{Names}
 use Rattle.sifc_block.specs.declared.block.Names.TheVariants.{Unnamed}
 use Rattle.sifc_block.specs.Bound.{between, names_of, NamesFit}
-use Rattle.sifc_block.specs.Lists.{Roomy, Writes, Lists, SameSymbols, second_else, Noting, Noted}
-use Rattle.sifc_block.proofs.Steps.{book-same, book-on, listing, ends, given}
+use Rattle.sifc_block.specs.Lists.{Roomy, Writes, Lists, SameSymbols, second_else, Elses, EndsIf, Noting, Noted}
+use Rattle.sifc_block.proofs.Steps.{book-same, book-on, listing, ends, given, quiet, goes, stops, lasts}
 
 -- ── the second else ──
 
 module _ {p : Parser} {b : Book} {elses : ℕ} where
-  pub else-none : elses ≤ 1 → Lists 0 (λ c. second_else c elses) p b (Ok tt) p b
+  else-none : elses ≤ 1 → Lists 0 (λ c. second_else c elses) p b (Ok tt) p b
   unfolding if◌then◌otherwise◌
   else-none le = given (kept-same p) (book-same b) (λ r. ends (λ c. second_else c elses) (listing b (by (begin 0 (λ c. second_else c elses) r) (λ s. rw (le-ltb 1 elses le) refl))))
 
   module _ (lt : 1 < elses) where
-    pub else-full : p.lim.errors ≤ p.errors → Lists 0 (λ c. second_else c elses) p b (Stopped (Refused ErrorsFull)) p b
+    else-full : p.lim.errors ≤ p.errors → Lists 0 (λ c. second_else c elses) p b (Stopped (Refused ErrorsFull)) p b
     unfolding if◌then◌otherwise◌ add_error add_error_w_pos list go_on
     else-full ge = record {
       kept = kept-same p;
@@ -45,7 +45,7 @@ module _ {p : Parser} {b : Book} {elses : ℕ} where
       tells = λ r E e t. record { errs = E; notes = t; count = tt; same = sym (rw (lt-ltb 1 elses lt, e, le-ltb _ _ ge) refl) };
     }
 
-    pub else-listed : p.errors < p.lim.errors → Roomy p b → {c : Book} → Writes b p.errors p.at (reason_of InvalidIfStmt) c → Lists 0 (λ c. second_else c elses) p b (Ok tt) (record p { errors = p.errors + 1 }) c
+    else-listed : p.errors < p.lim.errors → Roomy p b → {c : Book} → Writes b p.errors p.at (reason_of InvalidIfStmt) c → Lists 0 (λ c. second_else c elses) p b (Ok tt) (record p { errors = p.errors + 1 }) c
     unfolding if◌then◌otherwise◌ add_error add_error_w_pos list go_on
     else-listed lw room {c} d = record {
       kept = record { inp = refl; symbols_name = refl; head_name = refl; load_name = refl; symbols = refl; head = refl; load = refl };
@@ -58,6 +58,17 @@ module _ {p : Parser} {b : Book} {elses : ℕ} where
         same = sym (rw (lt-ltb 1 elses lt, e, lt-ltb _ _ lw) refl);
       };
     }
+
+module _ {p : Parser} {b : Book} {elses : ℕ} where
+  pub elses-none : elses ≤ 1 → Elses p b elses (Ok tt) p b
+  elses-none le = record { does = else-none le; alone = refl; whatever = λ s os ks M. else-none {p = under s os ks M p p} le }
+
+  module _ (lt : 1 < elses) where
+    pub elses-full : p.lim.errors ≤ p.errors → Elses p b elses (Stopped (Refused ErrorsFull)) p b
+    elses-full ge = record { does = else-full lt ge; alone = refl; whatever = λ s os ks M. else-full {p = under s os ks M p p} lt ge }
+
+    pub elses-listed : p.errors < p.lim.errors → Roomy p b → {c : Book} → Writes b p.errors p.at (reason_of InvalidIfStmt) c → Elses p b elses (Ok tt) (record p { errors = p.errors + 1 }) c
+    elses-listed lw room d = record { does = else-listed lt lw room d; alone = refl; whatever = λ s os ks M. else-listed {p = under s os ks M p p} lt lw room d }
 
 -- the end of an if statement, after the else's error
 pub paired-still : (p q : Parser) → OnlyLists p q → Paired p → Paired q
@@ -178,3 +189,31 @@ return-stops (Stopped s) n d h e = (handed (Stopped s) d h, tt, e)
 -- the code's n + 2 is the definition's 2 + n
 pub plus-two : {k r : ℕ} {f : Bool} (n : ℕ) → HeadWord k f (n + 2) r → HeadWord k f (2 + n) r
 plus-two {k} {r} {f} n h = subst (λ (m : ℕ). HeadWord k f m r) (let e : n + 2 ≡ 2 + n = omega arith in e) h
+
+-- after the else's error, and with the node
+module _ {p : Parser} {b : Book} (n elses : ℕ) where
+  pub if-stops : {q : Parser} {c : Book} {s : Stop} → Lists 0 (λ x. second_else x elses) p b (Stopped s) q c → Lists 0 (λ x. end_if x n elses) p b (Stopped s) q c
+  unfolding end_if
+  if-stops e = given e.kept e.book (λ r. stops (λ x. second_else x elses) _ (λ x. end_if x n elses) (listing b (begin 0 (λ x. end_if x n elses) r)) (omega arith) e)
+
+  pub if-ends : {q z : Parser} {c : Book} {word : ℕ} {x : Result (Unit {0}) Stop} → HeadWord 3 false (2 + n) word → Lists 0 (λ y. second_else y elses) p b (Ok tt) q c
+      → Does 0 (λ y. push y (kind_in word) (flag_in word) (kids_in word) 0) q x z → Lists 0 (λ y. end_if y n elses) p b x z c
+  unfolding end_if
+  if-ends h e d = given (kept-on e.kept d.kept) e.book (λ r.
+      lasts (λ y. push y 3 false (2 + n) 0) (λ y. end_if y n elses) (goes (λ y. second_else y elses) _ (listing b (begin 0 (λ y. end_if y n elses) r)) e) (omega arith) (quiet _ (pushed-as 0 h d)))
+
+-- the same, whatever is read and whatever the symbols are
+module _ {p : Parser} {b : Book} (n elses : ℕ) where
+  pub if-stopped : {q : Parser} {c : Book} {s : Stop} → Elses p b elses (Stopped s) q c → (sc os ks ys : List ℕ) → Lists 0 (λ x. end_if x n elses) (growing (inp sc os ks p.lim) ys p) b (Stopped s) (growing (inp sc os ks p.lim) ys q) c
+  if-stopped {q} {c} {s} e sc os ks ys =
+      rw (ap (λ (y : Parser). y.head.now) e.alone, ap (λ (y : Parser). y.load.now) e.alone)
+      (if-stops n elses (e.whatever sc os ks (mem ys p.head.now p.load.now)))
+
+  pub if-ended : {q z : Parser} {c : Book} {word : ℕ} {x : Result (Unit {0}) Refusal} → HeadWord 3 false (2 + n) word → Elses p b elses (Ok tt) q c → Pushes q word 0 x z → (sc os ks ys : List ℕ)
+      → Lists 0 (λ y. end_if y n elses) (growing (inp sc os ks p.lim) ys p) b (lifted x) (growing (inp sc os ks p.lim) ys z) c
+  if-ended {q} {z} {c} {word} {x} h e d sc os ks ys = if-ends n elses h (e.whatever sc os ks (mem ys p.head.now p.load.now)) grown
+    where
+      grown : Does 0 (λ y. push y (kind_in word) (flag_in word) (kids_in word) 0) (under sc os ks (mem ys p.head.now p.load.now) p q) (lifted x) (growing (inp sc os ks p.lim) ys z)
+      grown =
+          rw (sym (ap (λ (y : Parser). y.lim) e.alone), sym (ap (λ (y : Parser). y.head.now) e.alone), sym (ap (λ (y : Parser). y.load.now) e.alone))
+          (d.whatever (inp sc os ks q.lim) ys)

@@ -8,7 +8,8 @@ use Rattle.sifc_def.specs.Stmt.{end_if}
 use Rattle.sifc_step.specs.declared.walk.Parser.{Parser}
 use Rattle.sifc_step.specs.declared.walk.Stop.{Stop}
 use Rattle.sifc_step.specs.declared.walk.Stop.TheVariants.{Failed, Refused}
-use Rattle.sifc_step.specs.Abs.{Inp, Mem, Walk, inp_of, mem_of, walk_of, ctx_at, abs_at, listed_by, with_err, outcome_of, Ready, Fine, Broke, Kept}
+use Rattle.sifc_step.specs.Abs.{Inp, inp, Mem, Walk, inp_of, mem_of, walk_of, ctx_at, abs_at, listed_by, with_err, outcome_of, Ready, Fine, Broke, Kept}
+use Rattle.sifc_step.specs.Small.{OnlyLists, under, growing}
 use Rattle.sifc_step.specs.Book.{Notes}
 use Rattle.sifc_block.specs.declared.book.Book.{Book}
 
@@ -71,22 +72,30 @@ pub record Lists {A : Type 0} (j : ℕ) (f : Ctx → St → Out A) (p : Parser) 
   pub fine : Ready p → NextOf (inp_of p) (mem_of q) (j + p.at) r (walk_of q)
   pub tells : Ready p → (E : List Err) → length E ≡ p.errors → Holding b E → Told (f (ctx_at p) (abs_at E p)) p r q c
 
--- ── the end of an if statement ──
-
--- its symbols are as they were
-abbrev pub SameSymbols : Parser → Parser → Type 0
-SameSymbols p q = q.symbols ≡ p.symbols
-
-pub record EndsIf (p : Parser) (b : Book) (n elses : ℕ) (r : Result (Unit {0}) Stop) (q : Parser) (c : Book) : Type 0 where
-  pub does : Lists 0 (λ x. end_if x n elses) p b r q c
-  pub alone : SameSymbols p q
-
 -- ── the second else ──
 
 abbrev pub second_else : Ctx → ℕ → Void
 second_else c elses = when (ltb 1 elses) (do
   add_error c InvalidIfStmt
   ok)
+
+-- whatever is read and lent beside
+pub record Elses (p : Parser) (b : Book) (elses : ℕ) (r : Result (Unit {0}) Stop) (q : Parser) (c : Book) : Type 0 where
+  pub does : Lists 0 (λ x. second_else x elses) p b r q c
+  pub alone : OnlyLists p q
+  pub whatever : (s os ks : List ℕ) (M : Mem) → Lists 0 (λ x. second_else x elses) (under s os ks M p p) b r (under s os ks M p q) c
+
+-- ── the end of an if statement ──
+
+-- its symbols are as they were
+abbrev pub SameSymbols : Parser → Parser → Type 0
+SameSymbols p q = q.symbols ≡ p.symbols
+
+-- whatever is read and whatever the symbols are
+pub record EndsIf (p : Parser) (b : Book) (n elses : ℕ) (r : Result (Unit {0}) Stop) (q : Parser) (c : Book) : Type 0 where
+  pub does : Lists 0 (λ x. end_if x n elses) p b r q c
+  pub alone : SameSymbols p q
+  pub whatever : (s os ks ys : List ℕ) → Lists 0 (λ x. end_if x n elses) (growing (inp s os ks p.lim) ys p) b r (growing (inp s os ks p.lim) ys q) c
 
 -- ── the errors of a failure ──
 

@@ -3,8 +3,7 @@ ghost use Rattle.std.specs.Prelude.{◌≡◌, ◌+◌, ◌≤◌, ◌<◌, leng
 ghost use Rattle.sifc_def.specs.Error.{carried, carried_too};
 ghost use Rattle.sifc_step.specs.Book.{reason_of};
 ghost use Rattle.sifc_step.specs.Abs.{listed_by, by_message, Paired};
-ghost use Rattle.sifc_step.specs.Small.{OnlyLists};
-ghost use Rattle.sifc_block.specs.Lists.{Writes, Roomy, Lists, second_else, EndsIf, Noted, Noting};
+ghost use Rattle.sifc_block.specs.Lists.{Writes, Roomy, Elses, EndsIf, Noted, Noting};
 
 use sifc_def::ast::IF_STMT;
 use sifc_def::{Err, Why};
@@ -92,7 +91,7 @@ impl<'a> Book<'a> {
     // InvalidIfStmt is listed where there are two else branches, and the reading goes on: refusal 9.
     fn second_else(&mut self, p: &mut Parser<'_>, elses: usize) -> Result<(), Stop>
         requires { (p.old.at < 65536) × Roomy p.old self.old }
-        ensures { Lists 0 (λ c. second_else c elses) p.old self.old result p.new self.new × OnlyLists p.old p.new }
+        ensures { Elses p.old self.old elses result p.new self.new }
     {
         if elses <= 1 {
             return Ok(());

@@ -1,20 +1,25 @@
 -- What the proofs of the declarations cite.
-use Rattle.std.specs.Prelude.{ℕ, suc, ◌≤◌, ◌<◌, ◌≡◌, refl, List, length, false, Result, Ok, Err as Stopped, IsErr, IsErrAnd, IfOk}
+use Rattle.std.specs.Prelude.{ℕ, suc, ◌≤◌, ◌<◌, ◌≡◌, refl, List, length, false, eqb, Result, Ok, Err as Stopped, IsErr, IsErrAnd, IfOk}
 use Rattle.std.proofs.Common.{subst, arith, sym, ap, ◌∙◌, eq-eqb, ne_eqb}
 use Rattle.sifc_word.specs.Base.{if◌then◌otherwise◌}
+use Rattle.sifc_err.specs.declared.Refusal.{Refusal}
 use Rattle.sifc_err.specs.declared.parse_err.ParseErrTy.TheVariants.{ExpectedIdent}
-use Rattle.sifc_def.specs.declared.What.TheVariants.{Other}
+use Rattle.sifc_def.specs.declared.What.{What}
+use Rattle.sifc_def.specs.declared.What.TheVariants.{Variable, Other}
 use Rattle.sifc_def.specs.State.{Node, Ctx, St, Out, M, go_on, push}
 use Rattle.sifc_def.specs.Symbols.{store}
-use Rattle.sifc_def.specs.Stmt.{ident_node, param, array_nodes}
+use Rattle.sifc_def.specs.Stmt.{ident_node, param, declare_var, array_nodes}
 use Rattle.sifc_def.proofs.OutcomeLaws.{Holds, is-done, call}
 use Rattle.sifc_step.specs.declared.walk.Parser.{Parser}
+use Rattle.sifc_step.specs.declared.walk.Limits.{Limits}
 use Rattle.sifc_step.specs.declared.walk.Stop.{Stop}
-use Rattle.sifc_step.specs.Abs.{Inp, inp, Mem, Walk, ctx_at, abs_at, ReadyOf, Ready, Paired, Does}
-use Rattle.sifc_step.specs.Small.{OnlyGrows}
-use Rattle.sifc_step.proofs.Steps.{nested, begin, go, stop, fin, blank, length-nodes}
+use Rattle.sifc_step.specs.declared.walk.Stop.TheVariants.{Refused}
+use Rattle.sifc_step.specs.Abs.{Inp, inp, Mem, mem_of, Walk, inp_of, kind_in, flag_in, kids_in, ctx_at, abs_at, ReadyOf, Ready, Paired, among, Does, lifted}
+use Rattle.sifc_step.specs.Small.{OnlyGrows, HeadWord, Pushes, Puts}
+use Rattle.sifc_step.proofs.Steps.{nested, begin, by, read, go, stop, refused, last, fin, kept-on, blank, length-nodes}
+use Rattle.sifc_step.proofs.Small.{given, handed, pushed-as}
 use Rattle.sifc_step.proofs.Told.{Any, told, ident-passes, push-grows}
-use Rattle.sifc_declare.specs.Promise.{freely, listed, node_and_name, array_and_name}
+use Rattle.sifc_declare.specs.Promise.{freely, limited, Declares, listed, node_and_name, array_and_name}
 
 -- a token passed and a node more, which is the token's
 abbrev NodedAs : St → ℕ → St → Type 0
@@ -79,3 +84,48 @@ array-some c i n s ne = rw (ne_eqb n 0 ne) (nested (push c 17 false n 0 s) (λ a
 
 pub table_step : {A : Type 0} (c : Ctx) (i : ℕ) (s : St) (K : Unit {0} → M A) → go_on (push c 14 false 1 i s) (λ a s'. go_on (store c i Other s') K) ≡ go_on (node_and_name c 78 i s) K
 table_step c i s K = sym (nested (push c 14 false 1 i s) (λ a. store c i Other) K)
+
+-- ── a node and a name, whatever the limits are ──
+
+-- with the limits l, a node appended
+pub pushed-limited : {p q : Parser} {w t : ℕ} {r : Result (Unit {0}) Refusal} (l : Limits) → Pushes p w t r q → Does 0 (λ c. push c (kind_in w) (flag_in w) (kids_in w) t) (limited l p p) (lifted r) (limited l p q)
+pushed-limited {p} {q} l d = rw (ap (λ (y : Parser). y.symbols.now) d.alone) (d.whatever (inp p.script.now p.offs.now p.words.now l) p.symbols.now)
+
+-- and a name stored, after a step that leaves all that is read
+pub stored-limited : (p : Parser) {q x : Parser} {i : ℕ} {what : What} {r : Result (Unit {0}) Refusal} (l : Limits) → inp_of q ≡ inp_of p → Puts q i what r x → Does 0 (λ c. store c i what) (limited l p q) (lifted r) (limited l p x)
+stored-limited p {q} {x} {i} {what} {r} l e d =
+    subst (λ (I : Inp). Does 0 (λ c. store c i what) (among (inp I.script I.offs I.words l) (mem_of q) q) (lifted r) (among (inp I.script I.offs I.words l) (mem_of x) x)) e
+    (rw (ap (λ (y : Parser). y.head.now) d.alone, ap (λ (y : Parser). y.load.now) d.alone) (d.whatever l q.head.now q.load.now))
+
+-- a function of this kind that another calls
+pub declared-limited : (p : Parser) {q x : Parser} {f : Ctx → St → Out (Unit {0})} {r : Result (Unit {0}) Refusal} (l : Limits) → inp_of q ≡ inp_of p → Declares f q r x → Does 0 f (limited l p q) (lifted r) (limited l p x)
+declared-limited p {q} {x} {f} {r} l e d =
+    subst (λ (I : Inp). Does 0 f (among (inp I.script I.offs I.words l) (mem_of q) q) (lifted r) (among (inp I.script I.offs I.words l) (mem_of x) x)) e (d.whatever l)
+
+module _ {p : Parser} (i n : ℕ) where
+  pub var-stops : {q : Parser} {g : Refusal} → Does 0 (λ c. push c 8 (eqb p.level 0) n i) p (Stopped (Refused g)) q → Does 0 (λ c. declare_var c i n) p (Stopped (Refused g)) q
+  unfolding declare_var
+  var-stops d = given d.kept (λ r. refused (λ x. push x 8 (eqb p.level 0) n i) _ (λ x. declare_var x i n) (read (λ (s : St). eqb s.level 0) _ (begin 0 (λ x. declare_var x i n) r) (λ E. refl)) d refl)
+
+  pub var-ends : {q z : Parser} {x : Result (Unit {0}) Stop} → Does 0 (λ c. push c 8 (eqb p.level 0) n i) p (Ok tt) q → Does 0 (λ c. store c i (Variable i (eqb p.level 0))) q x z → Does 0 (λ c. declare_var c i n) p x z
+  unfolding declare_var
+  var-ends d e = given (kept-on d.kept e.kept) (λ r.
+      last (λ x. store x i (Variable i (eqb p.level 0))) (λ x. declare_var x i n) (go (λ x. push x 8 (eqb p.level 0) n i) _ (read (λ (s : St). eqb s.level 0) _ (begin 0 (λ x. declare_var x i n) r) (λ E. refl)) d) (omega arith) e)
+
+  pub array-stops : {q : Parser} {g : Refusal} → (n ≡ 0 → ⊥) → Does 0 (λ c. push c 17 false n 0) p (Stopped (Refused g)) q → Does 0 (λ c. array_and_name c i n) p (Stopped (Refused g)) q
+  array-stops ne d = given d.kept (λ r. refused (λ x. push x 17 false n 0) _ (λ x. array_and_name x i n) (by (begin 0 (λ x. array_and_name x i n) r) (λ s. array-some _ _ _ s ne)) d refl)
+
+  pub array-ends : {q z : Parser} {x : Result (Unit {0}) Stop} → (n ≡ 0 → ⊥) → Does 0 (λ c. push c 17 false n 0) p (Ok tt) q → Does 0 (λ c. node_and_name c 80 i) q x z → Does 0 (λ c. array_and_name c i n) p x z
+  array-ends ne d e = given (kept-on d.kept e.kept) (λ r.
+      last (λ x. node_and_name x 80 i) (λ x. array_and_name x i n) (go (λ x. push x 17 false n 0) _ (by (begin 0 (λ x. array_and_name x i n) r) (λ s. array-some _ _ _ s ne)) d) (omega arith) e)
+
+  pub array-empty : {q : Parser} {x : Result (Unit {0}) Stop} → n ≡ 0 → Does 0 (λ c. node_and_name c 16 i) p x q → Does 0 (λ c. array_and_name c i n) p x q
+  array-empty e d = given d.kept (λ r. last (λ x. node_and_name x 16 i) (λ x. array_and_name x i n) (by (begin 0 (λ x. array_and_name x i n) r) (λ s. array-none _ _ _ s e)) (omega arith) d)
+
+module _ {p : Parser} (word i : ℕ) where
+  pub other-stops : {q : Parser} {g : Refusal} → Does 0 (λ c. push c (kind_in word) (flag_in word) (kids_in word) i) p (Stopped (Refused g)) q → Does 0 (λ c. node_and_name c word i) p (Stopped (Refused g)) q
+  other-stops d = given d.kept (λ r. refused (λ x. push x (kind_in word) (flag_in word) (kids_in word) i) _ (λ x. node_and_name x word i) (begin 0 (λ x. node_and_name x word i) r) d refl)
+
+  pub other-ends : {q z : Parser} {x : Result (Unit {0}) Stop} → Does 0 (λ c. push c (kind_in word) (flag_in word) (kids_in word) i) p (Ok tt) q → Does 0 (λ c. store c i Other) q x z → Does 0 (λ c. node_and_name c word i) p x z
+  other-ends d e = given (kept-on d.kept e.kept) (λ r.
+      last (λ x. store x i Other) (λ x. node_and_name x word i) (go (λ x. push x (kind_in word) (flag_in word) (kids_in word) i) _ (begin 0 (λ x. node_and_name x word i) r) d) (omega arith) e)

@@ -1,13 +1,15 @@
 -- What the functions of this crate promise beside the definition of their own name.
 use Rattle.std.specs.Prelude.{ℕ, ◌<◌, List, [], ◌∷◌, Result, Ok, Err as Stopped, IfOk}
+use Rattle.sifc_err.specs.declared.Refusal.{Refusal}
 use Rattle.sifc_def.specs.declared.What.TheVariants.{Other}
 use Rattle.sifc_def.specs.State.{Ctx, Void, ◌>>◌, consume, push}
 use Rattle.sifc_def.specs.Symbols.{store}
 use Rattle.sifc_def.specs.Expr.{Rec}
 use Rattle.sifc_def.specs.Stmt.{declare_var, array_nodes, initial}
+use Rattle.sifc_step.specs.declared.walk.Limits.{Limits}
 use Rattle.sifc_step.specs.declared.walk.Parser.{Parser}
 use Rattle.sifc_step.specs.declared.walk.Stop.{Stop}
-use Rattle.sifc_step.specs.Abs.{kind_in, flag_in, kids_in}
+use Rattle.sifc_step.specs.Abs.{inp, mem_of, kind_in, flag_in, kids_in, among, Does, lifted}
 
 -- a parser that a value leaves is past token a
 abbrev pub AheadOf : {A : Type 0} → ℕ → Result A Stop → Parser → Type 0
@@ -16,6 +18,15 @@ AheadOf a r q = IfOk r (λ x. a < q.at)
 -- with limits that leave room for what is listed: for a function that lists nothing
 abbrev pub freely : Parser → Parser
 freely p = record p { lim = record { errors = p.errors; fault = p.lim.fault } }
+
+-- with what is read of p, and other limits
+abbrev pub limited : Limits → Parser → Parser → Parser
+limited l p x = among (inp p.script.now p.offs.now p.words.now l) (mem_of x) x
+
+-- what such a function promises: f, whatever the limits are
+pub record Declares (f : Ctx → Void) (p : Parser) (r : Result (Unit {0}) Refusal) (q : Parser) : Type 0 where
+  pub does : Does 0 f p (lifted r) q
+  pub whatever : (l : Limits) → Does 0 f (limited l p p) (lifted r) (limited l p q)
 
 -- two tokens, as the definition has them: in a list
 abbrev pub listed : Result (ℕ × ℕ) Stop → Result (List ℕ) Stop

@@ -1,8 +1,8 @@
 // The end of a declaration: the node and the name of a variable, a table or an array.
 ghost use Rattle.std.specs.Prelude.{◌≤◌, ◌<◌};
 ghost use Rattle.sifc_def.specs.Stmt.{declare_var};
-ghost use Rattle.sifc_step.specs.Abs.{Ready, Does, lifted};
-ghost use Rattle.sifc_declare.specs.Promise.{freely, node_and_name, array_and_name};
+ghost use Rattle.sifc_step.specs.Abs.{Ready};
+ghost use Rattle.sifc_declare.specs.Promise.{freely, Declares, node_and_name, array_and_name};
 
 use sifc_def::What;
 use sifc_def::ast::{self, ARRAY_ITEMS, CHILD, VAR_DECL};
@@ -17,7 +17,7 @@ const ARRAY: u32 = ast::ARRAY + CHILD;
 // The end of var_decl: token i is declared, with n initial values.
 pub fn declare_var(p: &mut Parser<'_>, i: usize, n: usize) -> Result<(), Refusal>
     requires { Ready (freely p.old) × (i < 65536) × (n ≤ 1) }
-    ensures { Does 0 (λ c. declare_var c i n) p.old (lifted result) p.new }
+    ensures { Declares (λ c. declare_var c i n) p.old result p.new }
 {
     let global = p.level == 0;
     p.push_node(head_word(VAR_DECL, global, n), i as u32)?;
@@ -27,7 +27,7 @@ pub fn declare_var(p: &mut Parser<'_>, i: usize, n: usize) -> Result<(), Refusal
 // The node of a table or an array, and the name at token i.
 pub fn declare_other(p: &mut Parser<'_>, i: usize, word: u32) -> Result<(), Refusal>
     requires { Ready (freely p.old) × (i < 65536) }
-    ensures { Does 0 (λ c. node_and_name c word i) p.old (lifted result) p.new }
+    ensures { Declares (λ c. node_and_name c word i) p.old result p.new }
 {
     p.push_node(word, i as u32)?;
     p.store_name(i, What::Other)
@@ -36,7 +36,7 @@ pub fn declare_other(p: &mut Parser<'_>, i: usize, word: u32) -> Result<(), Refu
 // The end of array_decl: token i is declared, with n items.
 pub fn declare_array(p: &mut Parser<'_>, i: usize, n: usize) -> Result<(), Refusal>
     requires { Ready (freely p.old) × (i < 65536) × (n ≤ 65536) }
-    ensures { Does 0 (λ c. array_and_name c i n) p.old (lifted result) p.new }
+    ensures { Declares (λ c. array_and_name c i n) p.old result p.new }
 {
     if n == 0 {
         return declare_other(p, i, EMPTY_ARRAY);

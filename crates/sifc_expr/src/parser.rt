@@ -239,7 +239,6 @@ fn dot(p: &mut Parser<'_>, depth: usize, target: Target) -> Result<(), Stop>
     p.consume()?;
     p.check = false;
     assign_expr(p, depth)?;
-    p.check = true;
     p.end_dot(target, at)?;
     Ok(())
 }

@@ -144,6 +144,10 @@ node_of t = node_in t.head t.load
 abbrev pub newest : Parser → Node
 newest p = get_or (nodes_of p.nodes p.head.now p.load.now) 0 (node 0 false 0 0)
 
+-- with name checking on or off
+abbrev pub checked_by : Parser → Bool → Parser
+checked_by p b = record p { check = b }
+
 -- the end of a table access and of an array access, by their node's first word, panic and opening sign
 abbrev pub accesses : Target → ℕ → ℕ → ℕ → Ctx → Void
 accesses t h fault i c s = go_on (single c (node_of t) fault i s) (λ a. push c (kind_in h) (flag_in h) (kids_in h) 0)

@@ -4,7 +4,7 @@ ghost use Rattle.std.specs.Prelude.{◌≡◌, true, ◌<◌, ◌≤◌, ◌+◌
 ghost use Rattle.sifc_def.specs.Expr.{looseness as looseness_of, is_unary, is_literal};
 ghost use Rattle.sifc_symtab.specs.Table.{Fits};
 ghost use Rattle.sifc_step.specs.Abs.{here, listed_by, StandsAt, Paired};
-ghost use Rattle.sifc_step.specs.Small.{Consumes, Expects, Separates, Throws, ThrowsAt, Pasts, Pushes, Literals, node_of, newest, Accesses, Idents, HeadWord, Puts, InitsScope, ClosesScope};
+ghost use Rattle.sifc_step.specs.Small.{Consumes, Expects, Separates, Throws, ThrowsAt, Pasts, Pushes, Literals, node_of, newest, checked_by, Accesses, Idents, HeadWord, Puts, InitsScope, ClosesScope};
 
 use crate::walk::{Parser, Stop, Target};
 use sifc_def::ast::{self, CHILD, PRIMARY_EXPR};
@@ -198,11 +198,12 @@ impl<'a> Parser<'a> {
         self.push_node(word, 0)
     }
 
-    // The end of a table access, after its expression.
+    // The end of a table access, after its expression: names are checked again.
     pub fn end_dot(&mut self, target: Target, i: usize) -> Result<(), Refusal>
         requires { (i < length self.old.offs.now) × Paired self.old }
-        ensures { Accesses self.old target 143 4 i result self.new }
+        ensures { Accesses (checked_by self.old true) target 143 4 i result self.new }
     {
+        self.check = true;
         self.access(target, TABLE_ACCESS, Fault::TableAccess as u32, i)
     }
 

@@ -51,7 +51,7 @@ returns-in_err-declare_array c =
     let p2 = go (λ x. comma_list x 6 (walkers x c.args.depth).assign (fuel x) 0) _ p1 (c.in_ok-n.ensures.does _ (reads (λ p q r z x. search rules))) in
     let p3 = go (λ x. expect x 6) _ p2 c.in_ok-expect-2.ensures.does in
     let p4 = go (λ x. expect x 7) _ p3 c.in_ok-expect-3.ensures.does in
-    conveyed (last (λ x. array_and_name x c.args.i c.in_ok-n.n) (λ x. array_decl x (walkers x c.args.depth) c.args.i) p4 (omega arith) c.in_err-declare_array.ensures) c.from_residual-in_err-declare_array.ensures
+    conveyed (last (λ x. array_and_name x c.args.i c.in_ok-n.n) (λ x. array_decl x (walkers x c.args.depth) c.args.i) p4 (omega arith) c.in_err-declare_array.ensures.does) c.from_residual-in_err-declare_array.ensures
 
 pub declare_array-requires : goal.declare_array-requires
 unfolding array_decl
@@ -71,7 +71,7 @@ returns c =
     let p2 = go (λ x. comma_list x 6 (walkers x c.args.depth).assign (fuel x) 0) _ p1 (c.in_ok-n.ensures.does _ (reads (λ p q r z x. search rules))) in
     let p3 = go (λ x. expect x 6) _ p2 c.in_ok-expect-2.ensures.does in
     let p4 = go (λ x. expect x 7) _ p3 c.in_ok-expect-3.ensures.does in
-    last (λ x. array_and_name x c.args.i c.in_ok-n.n) (λ x. array_decl x (walkers x c.args.depth) c.args.i) p4 (omega arith) c.in_ok-declare_array.ensures
+    last (λ x. array_and_name x c.args.i c.in_ok-n.n) (λ x. array_decl x (walkers x c.args.depth) c.args.i) p4 (omega arith) c.in_ok-declare_array.ensures.does
 
 pub expect-requires-2 : goal.expect-requires-2
 unfolding array_decl

@@ -41,7 +41,7 @@ returns-in_err-declare_other c =
     let p2 = go (λ x. item_list x (walkers x c.args.depth)) _ p1 c.in_ok-item_list.ensures in
     let p3 = go (λ x. expect x 30) _ p2 c.in_ok-expect-2.ensures.does in
     let p4 = by p3 (λ s. sym (nested (push (ctx_at c.args.p.now) 14 false 1 c.args.i s) (λ u. store (ctx_at c.args.p.now) c.args.i Other) (λ u. expect (ctx_at c.args.p.now) 7))) in
-    conveyed (refused (λ x. node_and_name x 78 c.args.i) _ (λ x. table_decl x (walkers x c.args.depth) c.args.i) p4 c.in_err-declare_other.ensures refl) c.from_residual-in_err-declare_other.ensures
+    conveyed (refused (λ x. node_and_name x 78 c.args.i) _ (λ x. table_decl x (walkers x c.args.depth) c.args.i) p4 c.in_err-declare_other.ensures.does refl) c.from_residual-in_err-declare_other.ensures
 
 pub declare_other-requires : goal.declare_other-requires
 unfolding table_decl
@@ -60,5 +60,5 @@ returns c =
     let p2 = go (λ x. item_list x (walkers x c.args.depth)) _ p1 c.in_ok-item_list.ensures in
     let p3 = go (λ x. expect x 30) _ p2 c.in_ok-expect-2.ensures.does in
     let p4 = by p3 (λ s. sym (nested (push (ctx_at c.args.p.now) 14 false 1 c.args.i s) (λ u. store (ctx_at c.args.p.now) c.args.i Other) (λ u. expect (ctx_at c.args.p.now) 7))) in
-    let p5 = go (λ x. node_and_name x 78 c.args.i) _ p4 c.in_ok-declare_other.ensures in
+    let p5 = go (λ x. node_and_name x 78 c.args.i) _ p4 c.in_ok-declare_other.ensures.does in
     last (λ x. expect x 7) (λ x. table_decl x (walkers x c.args.depth) c.args.i) p5 (omega arith) c.expect-3.ensures.does

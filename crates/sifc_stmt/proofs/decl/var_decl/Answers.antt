@@ -61,7 +61,7 @@ returns-in_err-declare_var c =
     let p3 = no _ _ p2 (ne_eqb _ 8 (λ z. c.if-k-eq-EQ.false (c.kind-k.ensures ∙ z))) in
     let p4 = yes _ _ p3 (eq-eqb _ 7 (sym c.kind-k.ensures ∙ c.if-k-ne-SEMICOLON.false)) in
     let p5 = go (λ x. consume x) _ p4 c.in_ok-consume.ensures.does in
-    conveyed (last (λ x. declare_var x c.in_ok-i.i 0) (λ x. var_decl x (walkers x c.args.depth)) p5 (omega arith) c.in_err-declare_var.ensures) c.from_residual-in_err-declare_var.ensures
+    conveyed (last (λ x. declare_var x c.in_ok-i.i 0) (λ x. var_decl x (walkers x c.args.depth)) p5 (omega arith) c.in_err-declare_var.ensures.does) c.from_residual-in_err-declare_var.ensures
 
 pub returns : goal.returns
 unfolding var_decl
@@ -72,7 +72,7 @@ returns c =
     let p3 = no _ _ p2 (ne_eqb _ 8 (λ z. c.if-k-eq-EQ.false (c.kind-k.ensures ∙ z))) in
     let p4 = yes _ _ p3 (eq-eqb _ 7 (sym c.kind-k.ensures ∙ c.if-k-ne-SEMICOLON.false)) in
     let p5 = go (λ x. consume x) _ p4 c.in_ok-consume.ensures.does in
-    last (λ x. declare_var x c.in_ok-i.i 0) (λ x. var_decl x (walkers x c.args.depth)) p5 (omega arith) c.in_ok-declare_var.ensures
+    last (λ x. declare_var x c.in_ok-i.i 0) (λ x. var_decl x (walkers x c.args.depth)) p5 (omega arith) c.in_ok-declare_var.ensures.does
 
 pub kind-k-requires : goal.kind-k-requires
 unfolding var_decl

@@ -25,7 +25,7 @@ returns-in_err-declare_var c =
     let p0 = begin 0 (λ x. var_value x (walkers x c.args.depth) c.args.i) c.requires.0 in
     let p1 = go (λ x. consume x) _ p0 c.in_ok-consume.ensures.does in
     let p2 = go (λ x. initial x (walkers x c.args.depth) c.args.i) _ p1 c.in_ok-initial.ensures in
-    conveyed (last (λ x. declare_var x c.args.i 1) (λ x. var_value x (walkers x c.args.depth) c.args.i) p2 (omega arith) c.in_err-declare_var.ensures) c.from_residual-in_err-declare_var.ensures
+    conveyed (last (λ x. declare_var x c.args.i 1) (λ x. var_value x (walkers x c.args.depth) c.args.i) p2 (omega arith) c.in_err-declare_var.ensures.does) c.from_residual-in_err-declare_var.ensures
 
 pub declare_var-requires : goal.declare_var-requires
 declare_var-requires c =
@@ -39,4 +39,4 @@ returns c =
     let p0 = begin 0 (λ x. var_value x (walkers x c.args.depth) c.args.i) c.requires.0 in
     let p1 = go (λ x. consume x) _ p0 c.in_ok-consume.ensures.does in
     let p2 = go (λ x. initial x (walkers x c.args.depth) c.args.i) _ p1 c.in_ok-initial.ensures in
-    last (λ x. declare_var x c.args.i 1) (λ x. var_value x (walkers x c.args.depth) c.args.i) p2 (omega arith) c.in_ok-declare_var.ensures
+    last (λ x. declare_var x c.args.i 1) (λ x. var_value x (walkers x c.args.depth) c.args.i) p2 (omega arith) c.in_ok-declare_var.ensures.does
