@@ -4,10 +4,17 @@ use native.Mathlib.Omega.{arith}
 use mathlib.Core.Path.{◌≡◌, refl, sym, ap, ap₂, ◌∙◌}
 use mathlib.Core.List.{List, [], ◌∷◌, ◌++◌, append_assoc}
 use lib.ListN.{length, take, drop, set, length-append, length-drop}
-use lib.Seq.{length-take-le, set_split}
+use lib.Seq.{length-take-le, set_split, paste}
 use borrow.Rule.Slice.PartMut.{put_mid, same_len_mid}
+use Rattle.std.proofs.Math.ListN.{drop_of_length-le}
+use Rattle.std.proofs.lemmas.List.{append-nil}
+use Rattle.std.proofs.lemmas.List.Edits.{paste_all}
 use Rattle.std.proofs.lemmas.Slice.{take-put_mid, drop-put_mid}
 use Rattle.sifc_put.specs.Post.{Placed}
+
+-- bytes put one after the other in the place of as many
+pub paste-whole : (t w : List ℕ) (n : ℕ) → n ≡ length w → length t ≡ length w → paste t 0 w n ≡ w
+paste-whole t w n e h = paste_all t 0 w n e ∙ ap (λ (l : List ℕ). w ++ l) (drop_of_length-le t (omega (arith, e, h))) ∙ append-nil w
 
 -- the word is stored first, then the space behind it
 pub worded-mid : (t w : List ℕ) (at : ℕ) → length w < at → at ≤ length t

@@ -29,6 +29,16 @@ pub struct Writer<'a> {
 #[derive(Clone, Copy)]
 pub struct Full;
 
+// Puts bytes in the place of as many. The library's `copy_from_slice` would have those who link the archive give a `memmove`.
+fn place(part: &mut [u8], word: &[u8])
+    requires { length part.old ≡ length word.now }
+    ensures { part.new ≡ word.now }
+{
+    for i in 0..word.len() {
+        part[i] = word[i];
+    }
+}
+
 impl<'a> Writer<'a> {
     // The kind of the node before which the writing goes on.
     pub fn kind(&self) -> u32
@@ -72,7 +82,7 @@ impl<'a> Writer<'a> {
         }
         let space = self.at - 1;
         let start = space - word.len();
-        self.text[start..space].copy_from_slice(word);
+        place(&mut self.text[start..space], word);
         self.text[space] = b' ';
         self.at = start;
         Ok(())
