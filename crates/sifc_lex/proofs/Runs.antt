@@ -5,12 +5,13 @@ use mathlib.Core.List.{List, [], ◌∷◌}
 use mathlib.Core.Bool.{true, false}
 use native.Mathlib.Omega.{arith}
 use borrow.Author.Tests.{eq-eqb, ne_eqb}
-use lib.ListN.{take, drop, length, get_or, drop_of_length-le}
+use lib.ListN.{get_or-eq_default, take, drop, length, get_or, drop_of_length-le}
 use lib.Seq.{drop-cons}
 use Rattle.std.specs.Prelude.{Some, None}
 use Rattle.sifc_err.specs.declared.Ending.TheVariants.{TrueEnd, UnknownChar, UnterminatedString, Panic}
 use Rattle.sifc_lex.specs.declared.lex.Step.TheVariants.{Skip, Word, Stop}
 use Rattle.sifc_word.specs.Base.{if◌then◌otherwise◌, within, span}
+use Rattle.sifc_word.specs.BaseLaws.{and-false}
 use Rattle.sifc_word.specs.Reserved.{name_kind}
 use Rattle.sifc_lex.specs.Lex.{white, letter, step, alnum, digit, in_line, in_str, hash_comment, line_end, slash_comment, next_is, lex_slash, closed, lex_str, pointed, fraction, lex_num, lex_ident, one_sign, singles, single_kind, doubles, double_kind, lex_sign}
 use Rattle.sifc_lex.specs.Bytes.{kind_if_any}
@@ -116,20 +117,19 @@ unfolding one_sign if◌then◌otherwise◌
 sign-unknown b e = rw (eq-eqb (single_kind singles b) 0 (none-is (single_kind singles b) e)) refl
 
 -- a sign: no next byte, one that makes no sign of two, one that does
-pub sign-last : (s : List ℕ) (b : ℕ) → length s < 1 → one_sign b ≡ lex_sign b s
-unfolding lex_sign
-sign-last [] b h = refl
-sign-last (c ∷ s) b h = absurd (omega arith)
+pub none-at : (s : List ℕ) (b : ℕ) → length s ≤ 0 → double_kind doubles b (get_or s 0 0) ≡ 0
+unfolding double_kind doubles if◌then◌otherwise◌
+none-at s b h = rw (get_or-eq_default s 0 h) (simp (and-false))
 
-pub sign-one : (s : List ℕ) (b : ℕ) → 1 ≤ length s → None ≡ kind_if_any (double_kind doubles b (get_or s 0 0)) → one_sign b ≡ lex_sign b s
+pub sign-one : (s : List ℕ) (b : ℕ) → None ≡ kind_if_any (double_kind doubles b (get_or s 0 0)) → one_sign b ≡ lex_sign b s
 unfolding lex_sign if◌then◌otherwise◌
-sign-one [] b h e = absurd (omega arith)
-sign-one (c ∷ s) b h e = rw (eq-eqb (double_kind doubles b c) 0 (none-is (double_kind doubles b c) e)) refl
+sign-one [] b e = refl
+sign-one (c ∷ s) b e = rw (eq-eqb (double_kind doubles b c) 0 (none-is (double_kind doubles b c) e)) refl
 
-pub sign-two : (s : List ℕ) (b kind : ℕ) → 1 ≤ length s → Some kind ≡ kind_if_any (double_kind doubles b (get_or s 0 0)) → Word kind 2 ≡ lex_sign b s
+pub sign-two : (s : List ℕ) (b kind : ℕ) → Some kind ≡ kind_if_any (double_kind doubles b (get_or s 0 0)) → Word kind 2 ≡ lex_sign b s
 unfolding lex_sign if◌then◌otherwise◌
-sign-two [] b kind h e = absurd (omega arith)
-sign-two (c ∷ s) b kind h e = let z = some-is kind (double_kind doubles b c) e in rw (ne_eqb (double_kind doubles b c) 0 z.1) (ap (λ (k : ℕ). Word k 2) (sym z.0))
+sign-two [] b kind e = absurd ((some-is kind (double_kind doubles b 0) e).1 (none-at [] b (omega arith)))
+sign-two (c ∷ s) b kind e = let z = some-is kind (double_kind doubles b c) e in rw (ne_eqb (double_kind doubles b c) 0 z.1) (ap (λ (k : ℕ). Word k 2) (sym z.0))
 
 -- One turn on the bytes that are left, arm by arm.
 pub turn_end : (s : List ℕ) → length s < 1 → Stop 0 TrueEnd ≡ step s

@@ -182,14 +182,18 @@ fn one_sign(b: u8) -> Step
     }
 }
 
+// The kind of the sign that b makes with what follows it.
+fn double_at(b: u8, rest: &[u8]) -> Option<u32>
+    ensures { result ≡ kind_if_any (double_kind doubles b (get_or rest.now 0 0)) }
+{
+    double_kind(b, *rest.first()?)
+}
+
 // A sign b; rest is what follows it.
 fn lex_sign(b: u8, rest: &[u8]) -> Step
     ensures { result ≡ lex_sign b rest.now }
 {
-    let [c, ..] = rest else {
-        return one_sign(b);
-    };
-    match double_kind(b, *c) {
+    match double_at(b, rest) {
         Some(kind) => Step::Word(kind, 2),
         None => one_sign(b),
     }
