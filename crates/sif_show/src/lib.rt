@@ -36,6 +36,7 @@ fn print_hex<W: Write>(out: &mut W, kind: u32, text: &[u8]) -> io::Result<()> {
 fn print_token<W: Write, F: Fn(&mut W, u32, &[u8]) -> io::Result<()>>(
     out: &mut W,
     script: &[u8],
+    fixed: &[u8],
     off: u32,
     word: u32,
     spell: F,
@@ -47,7 +48,7 @@ fn print_token<W: Write, F: Fn(&mut W, u32, &[u8]) -> io::Result<()>>(
     let at = off as usize;
     let place = sifc_tokens::place_at(script, at);
     write!(out, "{kind}:{}:{}:", place.line, place.pos)?;
-    spell(out, kind, sifc_word::spelling(script, kind, at, len))
+    spell(out, kind, sifc_word::spelling(script, fixed, kind, at, len))
 }
 
 // `refused`, number, kind, offset.
@@ -69,11 +70,12 @@ fn print_tokens<W: Write, F: Fn(&mut W, u32, &[u8]) -> io::Result<()>>(
 ) -> io::Result<()>
     requires { F.IsAlwaysCallable spell }
 {
+    let fixed = sifc_word::spellings();
     for (i, (off, word)) in offs.iter().zip(words).take(n).enumerate() {
         if 0 < i {
             write!(out, "{between}")?;
         }
-        print_token(out, script, *off, *word, &spell)?;
+        print_token(out, script, &fixed, *off, *word, &spell)?;
     }
     Ok(())
 }
