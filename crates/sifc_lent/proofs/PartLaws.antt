@@ -199,7 +199,7 @@ module _ (s : List ℕ) (a b : Arrays) (d : Held s a b) where
 
       module _ (z : Walked) (w : Ending I (mem a.symbols a.heads a.loads) z (mem b.symbols b.heads b.loads) b.places b.reasons) where
         abbrev what : Found
-        what = record { toks = lex s; nodes = reverse (nodes_of w.x.nodes b.heads b.loads); errs = reverse w.listed; flag = z.flag; early = last_of z.last }
+        what = record { toks = lex s; nodes = reverse (nodes_of z.nodes b.heads b.loads); errs = reverse w.listed; flag = z.flag; early = last_of z.last }
 
         read_found : read (rooms_of a) s ≡ found what
         unfolding ended
@@ -210,15 +210,15 @@ module _ (s : List ℕ) (a b : Arrays) (d : Held s a b) where
         unfolding summary_of
         told =
             let et : length (take n b.offs) ≡ length (lex s) = ap length used-offs ∙ length-offs (lex s) in
-            let en : z.nodes ≡ length (reverse (nodes_of w.x.nodes b.heads b.loads)) = sym (length-reverse (nodes_of w.x.nodes b.heads b.loads) ∙ length-nodes w.x.nodes b.heads b.loads ∙ w.nodes) in
+            let en : z.nodes ≡ length (reverse (nodes_of z.nodes b.heads b.loads)) = sym (length-reverse (nodes_of z.nodes b.heads b.loads) ∙ length-nodes z.nodes b.heads b.loads) in
             let ee : z.errors ≡ length (reverse w.listed) = sym (length-reverse w.listed ∙ w.errors) in
             let ey : early_of (bare s (toks_of (take n b.offs) (take n b.words))) (last_of z.last) ≡ early_of c (last_of z.last) = early-same c s (toks_of (take n b.offs) (take n b.words)) (last_of z.last) refl (sym used-toks) in
             cc
 
-        used-heads : w.x.nodes ≤ length b.heads
+        used-heads : z.nodes ≤ length b.heads
         used-heads = w.fine.used
 
-        used-loads : w.x.nodes ≤ length b.loads
+        used-loads : z.nodes ≤ length b.loads
         used-loads = omega (arith, w.fine.used, w.fine.even)
 
         -- the arrays
@@ -228,8 +228,8 @@ module _ (s : List ℕ) (a b : Arrays) (d : Held s a b) where
             same-arrays
             d.offs
             d.words
-            (ap₂ padded (ap (λ (k : ℕ). take k b.heads) (sym w.nodes) ∙ sym (heads-back w.x.nodes b.heads b.loads used-heads)) d.heads)
-            (ap₂ padded (ap (λ (k : ℕ). take k b.loads) (sym w.nodes) ∙ sym (loads-back w.x.nodes b.heads b.loads used-loads)) d.loads)
+            (ap₂ padded (sym (heads-back z.nodes b.heads b.loads used-heads)) d.heads)
+            (ap₂ padded (sym (loads-back z.nodes b.heads b.loads used-loads)) d.loads)
             (zeroed-long b.symbols a.symbols d.symbols)
             (ap₂ padded (ap (λ (k : ℕ). map (place_word_at s (take n b.offs)) (take k b.places)) (sym w.errors) ∙ sym (places-back c (take n b.offs) (take n b.words) b.places b.reasons w.listed used-even (sym used-toks) w.notes (omega (arith, w.errors, w.room)))) d.places)
             (ap₂ padded (ap (λ (k : ℕ). take k b.reasons) (sym w.errors) ∙ sym (reasons-back c b.places b.reasons w.listed w.notes (omega (arith, w.errors, w.room)))) d.reasons)
@@ -250,7 +250,7 @@ module _ (s : List ℕ) (a b : Arrays) (d : Held s a b) where
         where
           go : (z : Result Walked Refusal) → Walks I (mem a.symbols a.heads a.loads) z (mem b.symbols b.heads b.loads) b.places b.reasons → WithinOf b z
           go (Err f) v = tt
-          go (Ok z) v = record { heads = omega (arith, v.fine.used, v.nodes); loads = omega (arith, v.fine.used, v.fine.even, v.nodes); places = v.room; reasons = omega (arith, v.room, e, d.places, d.reasons) }
+          go (Ok z) v = record { heads = v.fine.used; loads = omega (arith, v.fine.used, v.fine.even); places = v.room; reasons = omega (arith, v.room, e, d.places, d.reasons) }
 
       -- What the walk gave, made into the answer, is the definition's.
       pub finish-is : (r : Result Walked Refusal) → length a.places ≡ length a.reasons → Walks I (mem a.symbols a.heads a.loads) r (mem b.symbols b.heads b.loads) b.places b.reasons → finish_of s n r b ≡ answered s a (read (rooms_of a) s)

@@ -1,6 +1,6 @@
 -- What the proofs of the walk over all declarations cite.
 use Rattle.std.specs.Prelude.{ℕ, zero, suc, ◌+◌, ◌-◌, ◌≤◌, ◌<◌, ◌≡◌, refl, ◌⊎◌, List, [], Bool, true, false, length, get_or, drop, ltb, eqb, Option as Maybe, None, Some, Result, Ok, Err as Stopped, IfOk, IsErr, IsErrAnd}
-use Rattle.std.proofs.Common.{add-one, arith, sym, ap, ◌∙◌, inl, inr, eq-eqb, ne_eqb, ltb-true, ltb-false}
+use Rattle.std.proofs.Common.{add-one, arith, sym, ap, ap₂, ◌∙◌, inl, inr, eq-eqb, ne_eqb, ltb-true, ltb-false}
 use Rattle.std.proofs.Math.ListN.{length-append}
 use Rattle.std.proofs.Math.Option.{none, some}
 use Rattle.std.proofs.Math.Path.{subst}
@@ -32,7 +32,7 @@ use Rattle.sifc_step.specs.declared.walk.Stop.{Stop}
 use Rattle.sifc_step.specs.declared.walk.Stop.TheVariants.{Failed, Refused}
 use Rattle.sifc_step.specs.declared.walk.Walked.{Walked}
 use Rattle.sifc_step.specs.Abs.{Inp, Mem, inp, Walk, inp_of, mem_of, walk_of, rooms_of, ctx_of, ctx_at, abs, abs_at, nodes_of, listed_by, with_err, outcome_of, kind_at, here, ReadyOf, Ready, Fine, Broke, Kept, Does, lifted}
-use Rattle.sifc_step.specs.Book.{last_of, Walks}
+use Rattle.sifc_step.specs.Book.{last_of, walk_in, Walks}
 use Rattle.sifc_step.proofs.Steps.{kind-is, off-is, length-nodes, kept-same, kept-on, ctx-kept}
 use Rattle.sifc_step.proofs.Book.{notes-none}
 use Rattle.sifc_block.specs.declared.book.Book.{Book}
@@ -256,27 +256,25 @@ module _ {p₀ p : Parser} (k : Kept p₀ p) where
   -- the Program node after the errors E
   pub closes : (b : Book) (n : ℕ) (flag : Bool) (last : Maybe Err) (E : List Err) (r : Result Walked Refusal) {q : Parser} → Ready p → Holding b E → length E ≡ p.errors → p.lim.errors ≡ length b.places.now
       → walk (ctx_at p₀) depth_limit ≡ end_read (ctx_at p₀) n flag (last_of last) (abs (inp_of p₀) E (walk_of p) (mem_of p))
-      → Does 0 (λ c. end_read c n flag (last_of last)) p (lifted (ended r)) q → IfOk r (λ w. (w.nodes ≡ q.nodes) × (w.errors ≡ q.errors))
+      → Does 0 (λ c. end_read c n flag (last_of last)) p (lifted (ended r)) q → IfOk r (λ w. walk_in w ≡ walk_of q)
       → Walks (inp_of p₀) (mem_of p₀) r (mem_of q) b.places.now b.reasons.now
   closes b n flag last E (Ok w) {q} rp notes count room is d h =
       let f : Fine (inp_of p) (mem_of q) (0 + p.at) p.errors (walk_of q) = d.fine rp in
+      let e : walk_of q ≡ walk_in w = sym h in
       record {
-        x = walk_of q;
         listed = E;
         notes = notes;
-        errors = count ∙ sym f.errors ∙ sym h.1;
-        is = is ∙ sym (as-first (λ c. end_read c n flag (last_of last)) E) ∙ sym (d.same rp E count) ∙ ap (λ (I : Inp). done (end w.flag (last_of w.last)) (abs I E (walk_of q) (mem_of q))) k.inp;
-        fine = subst (λ (I : Inp). ReadyOf I (mem_of q) (walk_of q)) k.inp (record {
+        errors = count ∙ sym f.errors ∙ ap (λ (x : Walk). x.errors) e;
+        is = is ∙ sym (as-first (λ c. end_read c n flag (last_of last)) E) ∙ sym (d.same rp E count) ∙ ap₂ (λ (I : Inp) (x : Walk). done (end w.flag (last_of w.last)) (abs I E x (mem_of q))) k.inp e;
+        fine = subst (λ (x : Walk). ReadyOf (inp_of p₀) (mem_of q) x) e (subst (λ (I : Inp). ReadyOf I (mem_of q) (walk_of q)) k.inp (record {
           stands = record { toks = rp.stands.toks; here = f.here; calm = f.calm };
           even = d.kept.head ∙ rp.even ∙ sym d.kept.load;
           used = f.used;
           holds = f.holds;
           level = f.level;
           room = f.room;
-        });
-        nodes = sym h.0;
-        counted = sym h.1;
-        room = omega (arith, h.1, f.errors, rp.room, room);
+        }));
+        room = omega (arith, ap (λ (x : Walk). x.errors) e, f.errors, rp.room, room);
       }
   closes b n flag last E (Stopped g) rp notes count room is d h = is ∙ sym (as-first (λ c. end_read c n flag (last_of last)) E) ∙ sym (d.same rp E count)
 
@@ -313,7 +311,7 @@ module _ {p₀ : Parser} {b₀ : Book} {p : Parser} {b : Book} {n : ℕ} {flag :
   pub few-declared : n < 65536
   few-declared = omega (arith, t.few, t.is.stands.here, t.is.stands.toks.few)
 
-  pub at-end : here p ≡ 47 → (r : Result Walked Refusal) {q : Parser} → Does 0 (λ c. end_read c n flag none) p (lifted (ended r)) q → IfOk r (λ w. (w.nodes ≡ q.nodes) × (w.errors ≡ q.errors))
+  pub at-end : here p ≡ 47 → (r : Result Walked Refusal) {q : Parser} → Does 0 (λ c. end_read c n flag none) p (lifted (ended r)) q → IfOk r (λ w. walk_in w ≡ walk_of q)
       → Walks (inp_of p₀) (mem_of p₀) r (mem_of q) b.places.now b.reasons.now
   at-end k r {q} d h =
       closes t.kept b n flag None t.book.errs r t.is t.book.notes t.book.count t.book.room (left-suc ∙ turn-eof c₀ (declare c₀) now_is (t.f - 1) n flag (eq-eqb _ 47 (front-is ∙ k))) d h
@@ -483,7 +481,7 @@ module _ {p₀ : Parser} {b₀ : Book} {p : Parser} {b : Book} {n : ℕ} {flag :
           }
 
           -- it is not
-          pub given-up : does_go_on z.why ≡ false → (r : Result Walked Refusal) {x : Parser} → Does 0 (λ c. end_read c n true (some z)) back (lifted (ended r)) x → IfOk r (λ w. (w.nodes ≡ x.nodes) × (w.errors ≡ x.errors))
+          pub given-up : does_go_on z.why ≡ false → (r : Result Walked Refusal) {x : Parser} → Does 0 (λ c. end_read c n true (some z)) back (lifted (ended r)) x → IfOk r (λ w. walk_in w ≡ walk_of x)
               → Walks (inp_of p₀) (mem_of p₀) r (mem_of x) d'.places.now d'.reasons.now
           unfolding if◌then◌otherwise◌
           given-up g r {x} e h =

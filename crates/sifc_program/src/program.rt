@@ -1,8 +1,8 @@
 // Parser::new and parse: the declarations of a script one after another, and the Program node.
 ghost use Rattle.std.specs.Prelude.{◌≡◌, ◌≤◌, IfOk};
 ghost use Rattle.sifc_def.specs.Walk.{end_read};
-ghost use Rattle.sifc_step.specs.Abs.{inp, mem, inp_of, mem_of, Ready, Kept, Does, lifted};
-ghost use Rattle.sifc_step.specs.Book.{Walks, last_of};
+ghost use Rattle.sifc_step.specs.Abs.{inp, mem, inp_of, mem_of, walk_of, Ready, Kept, Does, lifted};
+ghost use Rattle.sifc_step.specs.Book.{Walks, last_of, walk_in};
 ghost use Rattle.sifc_block.specs.Lists.{KeptBook};
 ghost use Rattle.sifc_program.specs.Program.{Starts, Started, does_go_on, ended};
 
@@ -33,12 +33,16 @@ fn end_read(
     last: Option<Error>,
 ) -> Result<Walked, Refusal>
     requires { Ready p.old × (n ≤ 65536) }
-    ensures { Does 0 (λ c. end_read c n flag (last_of last)) p.old (lifted (ended result)) p.new × IfOk result (λ w. (w.nodes ≡ p.new.nodes) × (w.errors ≡ p.new.errors)) }
+    ensures { Does 0 (λ c. end_read c n flag (last_of last)) p.old (lifted (ended result)) p.new × IfOk result (λ w. walk_in w ≡ walk_of p.new) }
 {
     p.push_node(head_word(PROGRAM, false, n), 0)?;
     Ok(Walked {
+        at: p.at,
         nodes: p.nodes,
+        stored: p.stored,
+        level: p.level,
         errors: p.errors,
+        check: p.check,
         flag,
         last,
     })

@@ -32,16 +32,17 @@ abbrev pub last_of : Maybe Err → Option Err
 last_of None = none
 last_of (Some e) = some e
 
--- where it ends, at x: E is what was listed, and the words hold it
+-- the walk of the answer: where it ends
+abbrev pub walk_in : Walked → Walk
+walk_in w = record { at = w.at; nodes = w.nodes; symbols = w.stored; level = w.level; errors = w.errors; check = w.check }
+
+-- where it ends, as its answer says: E is what was listed, and the words hold it
 pub record Ending (I : Inp) (M : Mem) (w : Walked) (M' : Mem) (ps rs : List ℕ) : Type 0 where
-  pub x : Walk
   pub listed : List Err
   pub notes : Notes ps rs listed
   pub errors : length listed ≡ w.errors
-  pub is : walk (ctx_of I M) depth_limit ≡ done (end w.flag (last_of w.last)) (abs I listed x M')
-  pub fine : ReadyOf I M' x
-  pub nodes : x.nodes ≡ w.nodes
-  pub counted : x.errors ≡ w.errors
+  pub is : walk (ctx_of I M) depth_limit ≡ done (end w.flag (last_of w.last)) (abs I listed (walk_in w) M')
+  pub fine : ReadyOf I M' (walk_in w)
   pub room : w.errors ≤ length ps
 
 -- from the arrays M, parse gives r and leaves M' and the words of the errors

@@ -55,12 +55,16 @@ pub struct Target {
     pub load: u32,
 }
 
-// What a walk over all declarations comes to: how many nodes and errors there are, has_err, and the
-// error that ended it before Eof.
+// What a walk over all declarations comes to: the walk where it ends, each field as it is in Parser,
+// and has_err, and the error that ended it before Eof.
 #[derive(Clone, Copy)]
 pub struct Walked {
+    pub at: usize,
     pub nodes: usize,
+    pub stored: usize,
+    pub level: usize,
     pub errors: usize,
+    pub check: bool,
     pub flag: bool,
     pub last: Option<sifc_def::Err>,
 }
