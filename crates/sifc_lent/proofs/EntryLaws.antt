@@ -1,6 +1,6 @@
 -- What the tests of entry let pass.
-use Rattle.std.specs.Prelude.{ℕ, ◌<◌, ◌≡◌, refl, List, Bool, ◌&&◌, ltb, length, Ok, Err}
-use Rattle.std.proofs.Common.{arith}
+use Rattle.std.specs.Prelude.{ℕ, ◌<◌, ◌≡◌, refl, List, [], Bool, ◌&&◌, ltb, length, Ok, Err}
+use Rattle.std.proofs.Common.{arith, sym, ◌∙◌}
 use Rattle.std.proofs.Math.Bool.{true, false}
 use borrow.Author.Tests.{ltb-false, eqb-true}
 use Rattle.std.proofs.Math.Dec.{eqb}
@@ -10,7 +10,7 @@ use Rattle.sifc_word.specs.Base.{if◌then◌otherwise◌, span}
 use Rattle.sifc_lex.specs.Lex.{ascii}
 use Rattle.sifc_tokens.specs.Tokens.{Checked, passed, check_of}
 use Rattle.sifc_def.specs.Read.{Arrays, even, entry}
-use Rattle.sifc_lent.specs.Parts.{Entered}
+use Rattle.sifc_lent.specs.Parts.{arrays, Entered}
 
 -- A refusal is none.
 never-refused : {X : Type 0} (f : Refusal) → Err f ≡ passed → X
@@ -57,3 +57,12 @@ module _ (s : List ℕ) (a : Arrays) where
   -- The tests of entry let this pass.
   pub entered-is : entry s a ≡ passed → Entered s a
   entered-is e = entry-even (entry-both e).1 (check-short s (entry-both e).0)
+
+-- the tests of entry look at no symbol word
+pub entry-same : (s o w h l y p r : List ℕ) → entry s (arrays o w h l [] p r) ≡ entry s (arrays o w h l y p r)
+unfolding entry even
+entry-same s o w h l y p r = refl
+
+-- so what they let pass is entered, whatever the symbol words are
+pub entered : (s o w h l y p r : List ℕ) (k : Checked) → k ≡ entry s (arrays o w h l [] p r) → k ≡ passed → Entered s (arrays o w h l y p r)
+entered s o w h l y p r k e f = entered-is s (arrays o w h l y p r) (sym (entry-same s o w h l y p r) ∙ sym e ∙ f)

@@ -1,13 +1,14 @@
 // The arrays that a reading is lent.
 ghost use Rattle.std.specs.Prelude.{◌≡◌, ◌≤◌, length, take};
 ghost use Rattle.sifc_tokens.specs.Loaded.{Used};
-ghost use Rattle.sifc_def.specs.Read.{cleared_arrays, entry as entry_of, even as even_of};
+ghost use Rattle.sifc_def.specs.Read.{cleared_arrays, entry as entry_of};
 ghost use Rattle.sifc_lent.specs.Parts.{arrays_of, KeptLent, UsedBy, TokensIn, cleared_beside};
 
 use crate::clear::clear;
+use crate::entry::entry;
 use crate::error::Toks;
 use sifc_err::Refusal;
-use sifc_tokens::{check_script, clear_front};
+use sifc_tokens::clear_front;
 
 // The two words of each token and of each node, the symbol words, and the two words of each error.
 #[derive(Drop)]
@@ -22,24 +23,19 @@ pub struct Lent<'a> {
 }
 
 impl<'a> Lent<'a> {
-    // Whether each two parallel arrays have one length.
-    fn even(&self) -> bool
-        ensures { result ≡ even_of (arrays_of self.now) }
-    {
-        self.offs.len() == self.words.len()
-            && self.heads.len() == self.loads.len()
-            && self.places.len() == self.reasons.len()
-    }
-
     // The tests of entry, refusals 1 to 3 in order.
     pub fn entry_tests(&self, script: &[u8]) -> Result<(), Refusal>
         ensures { result ≡ entry_of script.now (arrays_of self.now) }
     {
-        check_script(script)?;
-        if self.even() {
-            return Ok(());
-        }
-        Err(Refusal::Uneven)
+        entry(
+            script,
+            self.offs,
+            self.words,
+            self.heads,
+            self.loads,
+            self.places,
+            self.reasons,
+        )
     }
 
     // The first n tokens.

@@ -20,7 +20,7 @@ use Rattle.sifc_step.specs.declared.walk.Stop.{Stop}
 use Rattle.sifc_step.specs.declared.walk.Stop.TheVariants.{Failed, Refused}
 use Rattle.sifc_step.specs.declared.walk.Target.{Target}
 use Rattle.sifc_step.specs.Abs.{Inp, Mem, Walk, inp_of, mem_of, walk_of, rooms_of, kind_in, flag_in, kids_in, node_in, nodes_of, ctx_at, abs, abs_at, inp, mem, kind_at, here, listed_by, with_err, ReadyOf, Ready, Fine, Broke, Kept, among, Does, passes, lifted, StandsAt}
-use Rattle.sifc_step.specs.Small.{OnlyMoves, OnlyLists, OnlyPasses, OnlyGrows, OnlyGrowsPast, over, under, growing, naming, Consumes, Literals, Expects, passes_if, throw_at, Adds, Throwing, ThrowsAt, Throws, Pasts, Pushes, newest, accesses, Idents, HeadWord, Accesses, Puts}
+use Rattle.sifc_step.specs.Small.{OnlyMoves, OnlyLists, OnlyPasses, OnlyGrows, OnlyGrowsPast, over, under, growing, naming, Consumes, Literals, Expects, passes_if, throw_at, Adds, Throwing, ThrowsAt, Throws, Pasts, Pushes, newest_of, accesses, Idents, HeadWord, Accesses, Puts}
 use Rattle.sifc_step.proofs.Steps.{At, begin, go, last, kind-is, off-is, kind-here, length-nodes, nodes-more, kept-same, kept-on, ctx-kept, farther, not_last, blank, blanks}
 
 -- ── a parser that stays where it is, and one that moves ──
@@ -526,17 +526,14 @@ named y d e = least (d.does y e)
 
 -- ── the newest node ──
 
-pub top-none : (p : Parser) → p.nodes ≡ 0 → node_in 0 0 ≡ newest p
+pub top-none : (n : ℕ) (hs ls : List ℕ) → n ≡ 0 → node_in 0 0 ≡ newest_of n hs ls
 unfolding nodes_of
-top-none p e = sym (ap (λ (m : ℕ). get_or (nodes_of m p.head.now p.load.now) 0 (node_in 0 0)) e)
+top-none n hs ls e = sym (ap (λ (m : ℕ). get_or (nodes_of m hs ls) 0 (node_in 0 0)) e)
 
-some_top : (n : ℕ) (hs ls : List ℕ) → (n ≡ 0 → ⊥) → node_in (get_or hs (n - 1) 0) (get_or ls (n - 1) 0) ≡ get_or (nodes_of n hs ls) 0 (node_in 0 0)
+pub top-some : (n : ℕ) (hs ls : List ℕ) → (n ≡ 0 → ⊥) → node_in (get_or hs (n - 1) 0) (get_or ls (n - 1) 0) ≡ newest_of n hs ls
 unfolding nodes_of
-some_top zero hs ls f = absurd (f refl)
-some_top (suc n) hs ls f = ap (λ (m : ℕ). node_in (get_or hs m 0) (get_or ls m 0)) (sub-one (suc n))
-
-pub top-some : (p : Parser) → (p.nodes ≡ 0 → ⊥) → node_in (get_or p.head.now (p.nodes - 1) 0) (get_or p.load.now (p.nodes - 1) 0) ≡ newest p
-top-some p f = some_top p.nodes p.head.now p.load.now f
+top-some zero hs ls f = absurd (f refl)
+top-some (suc n) hs ls f = ap (λ (m : ℕ). node_in (get_or hs m 0) (get_or ls m 0)) (sub-one (suc n))
 
 -- a node appended lets the token in front be
 still : (b : Bool) (s t : St) (g : Refusal) → ◌≡◌ {A = Out (Unit {0})} (done (tt {0}) t) (if◌then◌otherwise◌ {A = Out (Unit {0})} b (done (tt {0}) s) (refuse g)) → t.at ≡ s.at

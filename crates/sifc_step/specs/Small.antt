@@ -141,8 +141,11 @@ pub record Literals (p : Parser) (r : Result (Unit {0}) Refusal) (q : Parser) : 
 abbrev pub node_of : Target → Node
 node_of t = node_in t.head t.load
 
+abbrev pub newest_of : ℕ → List ℕ → List ℕ → Node
+newest_of n hs ls = get_or (nodes_of n hs ls) 0 (node 0 false 0 0)
+
 abbrev pub newest : Parser → Node
-newest p = get_or (nodes_of p.nodes p.head.now p.load.now) 0 (node 0 false 0 0)
+newest p = newest_of p.nodes p.head.now p.load.now
 
 -- with name checking on or off
 abbrev pub checked_by : Parser → Bool → Parser

@@ -4,7 +4,7 @@ ghost use Rattle.std.specs.Prelude.{◌≡◌, true, ◌<◌, ◌≤◌, ◌+◌
 ghost use Rattle.sifc_def.specs.Expr.{looseness as looseness_of, is_unary, is_literal};
 ghost use Rattle.sifc_symtab.specs.Table.{Fits};
 ghost use Rattle.sifc_step.specs.Abs.{here, listed_by, StandsAt, Paired};
-ghost use Rattle.sifc_step.specs.Small.{Consumes, Expects, Separates, Throws, ThrowsAt, Pasts, Pushes, Literals, node_of, newest, checked_by, Accesses, Idents, HeadWord, Puts, InitsScope, ClosesScope};
+ghost use Rattle.sifc_step.specs.Small.{Consumes, Expects, Separates, Throws, ThrowsAt, Pasts, Pushes, Literals, node_of, newest_of, newest, checked_by, Accesses, Idents, HeadWord, Puts, InitsScope, ClosesScope};
 
 use crate::walk::{Parser, Stop, Target};
 use sifc_def::ast::{self, CHILD, PRIMARY_EXPR};
@@ -58,6 +58,21 @@ pub fn head_word(kind: u32, mark: bool, kids: usize) -> u32
     ensures { HeadWord kind mark kids result }
 {
     kind + 32 * u32::from(mark) + CHILD * (kids as u32)
+}
+
+// The root of what was read last, of n nodes.
+pub fn top(head: &[u32], load: &[u32], n: usize) -> Target
+    requires { (length head.now ≡ length load.now) × (n ≤ length head.now) }
+    ensures { node_of result ≡ newest_of n head.now load.now }
+{
+    if n == 0 {
+        return Target { head: 0, load: 0 };
+    }
+    let last = n - 1;
+    Target {
+        head: head[last],
+        load: load[last],
+    }
 }
 
 impl<'a> Parser<'a> {
@@ -176,14 +191,7 @@ impl<'a> Parser<'a> {
         requires { Paired self.now }
         ensures { node_of result ≡ newest self.now }
     {
-        if self.nodes == 0 {
-            return Target { head: 0, load: 0 };
-        }
-        let last = self.nodes - 1;
-        Target {
-            head: self.head[last],
-            load: self.load[last],
-        }
+        top(self.head, self.load, self.nodes)
     }
 
     // The end of a table or an array access whose sign is token i: the target must be a single token,

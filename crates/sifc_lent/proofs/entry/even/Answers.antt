@@ -1,8 +1,8 @@
 use Rattle.std.proofs.Common.{refl, sym, ◌∙◌, eq-eqb, ne_eqb}
 use Rattle.sifc_def.specs.Read.{even as even_of}
 use Rattle.sifc_def.proofs.StepLaws.{clash}
-use Rattle.sifc_lent.proofs.lent.Lent.even.Goals as goal
-use Rattle.sifc_lent.proofs.lent.Lent.even.Goals.{then-self, else-self}
+use Rattle.sifc_lent.proofs.entry.even.Goals as goal
+use Rattle.sifc_lent.proofs.entry.even.Goals.{then-self, else-self}
 
 pub returns-then-self-2 : goal.returns-then-self-2
 unfolding even_of
