@@ -17,7 +17,10 @@ fn even(
 ) -> bool
     ensures { result ≡ even_of (arrays offs.now words.now heads.now loads.now [] places.now reasons.now) }
 {
-    offs.len() == words.len() && heads.len() == loads.len() && places.len() == reasons.len()
+    if offs.len() != words.len() || heads.len() != loads.len() {
+        return false;
+    }
+    places.len() == reasons.len()
 }
 
 // The tests of entry, refusals 1 to 3 in order.

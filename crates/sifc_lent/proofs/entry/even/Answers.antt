@@ -1,21 +1,16 @@
-use Rattle.std.proofs.Common.{refl, sym, ◌∙◌, eq-eqb, ne_eqb}
+use Rattle.std.proofs.Common.{refl, eq-eqb, ne_eqb}
 use Rattle.sifc_def.specs.Read.{even as even_of}
-use Rattle.sifc_def.proofs.StepLaws.{clash}
 use Rattle.sifc_lent.proofs.entry.even.Goals as goal
-use Rattle.sifc_lent.proofs.entry.even.Goals.{then-self, else-self}
+use Rattle.sifc_lent.proofs.entry.even.Goals.{then-offs-words-via-then-offs-words, then-offs-words-via-else-offs-words+then-heads-loads}
 
-pub returns-then-self-2 : goal.returns-then-self-2
+pub returns-then-offs-words : goal.returns-then-offs-words
 unfolding even_of
-returns-then-self-2 c =
-    elim c.if-self.branch [
-      | then-self w ↦ rw (eq-eqb _ _ w.if-self.true, sym w.value-is ∙ c.if-self-2.true) refl
-      | else-self w ↦ absurd (clash c.if-self-2.true (w.value-is ∙ ne_eqb _ _ w.if-self.false))
+returns-then-offs-words c =
+    elim c.then-offs-words.branch [
+      | then-offs-words-via-then-offs-words w ↦ rw (ne_eqb _ _ w.if-offs-words.true) refl
+      | then-offs-words-via-else-offs-words+then-heads-loads w ↦ rw (eq-eqb _ _ w.if-offs-words.false, ne_eqb _ _ w.if-heads-loads.true) refl
     ]
 
-pub returns-else-self-2 : goal.returns-else-self-2
+pub returns : goal.returns
 unfolding even_of
-returns-else-self-2 c =
-    elim c.if-self.branch [
-      | then-self w ↦ rw (eq-eqb _ _ w.if-self.true, w.value-is, sym w.value-is ∙ c.if-self-2.false) refl
-      | else-self w ↦ rw (w.value-is, ne_eqb _ _ w.if-self.false) refl
-    ]
+returns c = rw (eq-eqb _ _ c.if-offs-words.false, eq-eqb _ _ c.if-heads-loads.false) refl
