@@ -2,13 +2,18 @@
 """Which edits that must fail there are for which public function, by counting.
 
 An edit that must fail is a file crates/CRATE/must-fail/LABEL.edit. Its first lines say of which functions it
-makes a wrong answer and which, one line each: `# FUNCTION: sentence`, or `# TYPE::METHOD: sentence`. An edit
-that changes a definition, and that a law or a worked case refuses, has `# definition: sentence`. An edit may
-change the bodies of several functions; then the prover must find a fault in each, since a proof knows of
-another function its contract alone.
+makes a wrong answer and which, one line each: `# FUNCTION: sentence`, or `# TYPE::METHOD: sentence`, where the
+type may be left out if no other function of the crate has the name. A trait's method has the trait's name too, as
+`rt` writes it: `ScriptsIterator::next`. An edit that changes a definition, and that a law or a worked case
+refuses, has `# definition: sentence`. An edit may change the bodies of several functions; then the prover must
+find a fault in each, since a proof knows of another function its contract alone.
 
 A wrong answer counts for a public function if the edit names it, or names a function of the same crate that it
 reaches through functions that no other crate calls: what these answer is a part of its answer.
+
+Another crate calls a function if its source imports it or names it by its path, a method also by `.METHOD(`, and
+a method or another function of a type by `TYPE::NAME`, where it imports the type; and the `next` of an iterator
+by a `for` over what a function of its type gives.
 
   tools/edits.py           prints the table (docs/EDITS.md has it)
   tools/edits.py --check   fails where an edit names no function, where a public function that another crate or
@@ -44,18 +49,22 @@ ERROR = re.compile(r"^\S*?proofs/(\S+?)/(Answers|Invariants|Proof|Proof/\w+)\.an
 GONE = re.compile(r"has no field|is not in scope|has no `|no module, record or data type|expected (a measure|an invariant)")
 LATER = re.compile(r"was not admitted|which was rejected, was not checked")
 FUNCTION = re.compile(r'^( *)(pub )?(extern "C" )?fn (\w+)', re.M)
+# the head of an `impl`: the trait, if there is one, and the type
+IMPL = re.compile(r"^impl(?:<[^>]*>)? (?:([\w:]+(?:<[^>]*>)?) for )?([\w:]+)", re.M)
 
 
 class Function:
-    """A function of a crate: its name (with its type, for a method), whether it is public, and its body."""
+    """A function of a crate: its name (with its type, if it has one), whether it is public, and its body."""
 
-    def __init__(self, crate, name, public, exported, text):
-        self.crate, self.name, self.public, self.exported = crate, name, public, exported
-        self.short = name.split("::")[-1]
+    def __init__(self, crate, owner, trait, short, public, exported, text):
+        self.crate, self.owner, self.trait, self.short = crate, owner, trait, short
+        self.name = f"{owner}{trait}::{short}" if owner else short
+        # (a trait's method is as public as its type)
+        self.public, self.exported = public or trait != "", exported
         head, self.body = re.split(r"\{$", text, maxsplit=1, flags=re.M)
-        # (also one of an `impl` with lifetimes, whose name here has no type, and one with a type parameter that is a function)
         self.method = re.search(r"\(\s*&?(?:'\w+ )?(?:mut )?self\b", head) is not None
-        self.promises = "ensures" in head
+        # (what a trait's method promises is said by the trait, and by the ghost items of the `impl`)
+        self.promises = "ensures" in head or trait != ""
         # (what prints to a writer that it is lent answers whether the writer failed, and no more than that)
         prints = re.search(r"\bout: &mut W\b", head) and re.search(r"\)\s*->\s*io::Result<\(\)>\s*$", head)
         self.answers = re.search(r"\)\s*->", head) is not None and not prints
@@ -74,16 +83,17 @@ def functions_of(crate):
         starts = list(FUNCTION.finditer(text))
         for start, after in zip(starts, starts[1:] + [None]):
             body = text[start.start() : after.start() if after else len(text)]
-            owner = owner_at(text, start.start()) if start.group(1) else ""
-            name = owner + start.group(4)
-            found[name] = Function(crate, name, bool(start.group(2)), bool(start.group(3)), body)
+            owner, trait = owner_at(text, start.start()) if start.group(1) else ("", "")
+            function = Function(crate, owner, trait, start.group(4), bool(start.group(2)), bool(start.group(3)), body)
+            found[function.name] = function
     return found
 
 
 def owner_at(text, place):
-    """The type whose `impl` holds the method at a place, as a path."""
-    owners = re.findall(r"^impl(?:<[A-Z][^>]*>)? (\w+)", text[:place], re.M)
-    return owners[-1] + "::" if owners else ""
+    """The type whose `impl` holds the function at a place, and the trait of that `impl`; an empty text where there is none."""
+    found = IMPL.findall(text[:place])
+    trait, owner = found[-1] if found else ("", "")
+    return owner.split("::")[-1], "".join(re.findall(r"\w+(?!\w*::)", trait))
 
 
 def source_of(crate):
@@ -113,22 +123,32 @@ def uses(source, public=False):
     return [it for is_public, text in USE.findall(source) if is_public or not public for it in named(text)]
 
 
+def calls(function, path, source, imports):
+    """Whether a source with these imports calls a function of another crate: the path is the function's, or its type's."""
+    if not function.owner:
+        return path in {it for it, _ in imports} or re.search(r"\b%s\b" % path, source)
+    owner = r"\b(?:%s)::" % "|".join([path, *(name for it, name in imports if it == path)])
+    forms = [owner + r"%s\b" % function.short]
+    if function.method:
+        forms.append(r"\.%s\(" % function.short)
+    if function.trait == "Iterator" and function.short == "next":
+        forms.append(r"\bfor [^;{}]* in [^;{}]*" + owner)
+    return any(re.search(form, source) for form in forms)
+
+
 def called_elsewhere(crates):
     """The public functions that another crate calls, and those that hosts link: crate and name, with the callers."""
     sources = {crate: source_of(crate) for crate in crates}
-    imports = {crate: {path for path, _ in uses(source)} for crate, source in sources.items()}
+    imports = {crate: set(uses(source)) for crate, source in sources.items()}
     callers = {}
     for crate, functions in crates.items():
         aliases = {path.split("::")[-1]: name for path, name in uses(sources[crate], public=True)}
         for function in functions.values():
             if not function.public:
                 continue
-            path = f"{crate}::{aliases.get(function.short, function.short)}"
-            if function.method:
-                used = re.compile(r"\.%s\(" % function.short)
-            else:
-                used = re.compile(r"\b%s\b" % path)
-            names = [c for c in sources if c != crate and (path in imports[c] or used.search(sources[c]))]
+            item = function.owner or function.short
+            path = f"{crate}::{aliases.get(item, item)}"
+            names = [c for c in sources if c != crate and calls(function, path, sources[c], imports[c])]
             if function.exported:
                 names.append("hosts")
             if names:
@@ -187,16 +207,27 @@ def reach(function, functions, callers):
     return seen
 
 
+def meant(name, functions):
+    """The names of the functions that a name in a header may mean: a method's may leave its type out."""
+    return [name] if name in functions else [function.name for function in functions.values() if function.short == name]
+
+
+def meant_by(edit, functions):
+    """The names of the functions that an edit names."""
+    return {full for name in edit.names for full in meant(name, functions)}
+
+
 def faults_of(edit, functions):
     """What is wrong with an edit's header."""
     where = f"{edit.crate}/{edit.label}"
     faults = [f"{where}: a header line without a function: {line}" for line in edit.bad]
     if not edit.names:
         faults.append(f"{where}: it names no function")
-    for name in edit.names:
-        if name != "definition" and name not in functions:
-            faults.append(f"{where}: {name} is no function of {edit.crate}")
-    if len(set(edit.names)) < len(edit.names):
+    names = [name for name in edit.names if name != "definition"]
+    for name in names:
+        if len(meant(name, functions)) != 1:
+            faults.append(f"{where}: {name} is {'more than one' if meant(name, functions) else 'no'} function of {edit.crate}")
+    if len(set(edit.names)) < len(edit.names) or len(meant_by(edit, functions)) < len(names):
         faults.append(f"{where}: it names a function twice")
     return faults
 
@@ -214,8 +245,8 @@ def table():
             if (crate, function.name) not in callers:
                 continue
             reached = reach(function, functions, callers)
-            labels = [edit.label for edit in edits if reached & set(edit.names)]
-            count = sum(len(reached & set(edit.names)) for edit in edits)
+            labels = [edit.label for edit in edits if reached & meant_by(edit, functions)]
+            count = sum(len(reached & meant_by(edit, functions)) for edit in edits)
             if function.answers and not function.promises:
                 faults.append(f"{crate}::{function.name} answers and promises nothing")
             if function.promises and count < LEAST:
