@@ -1,4 +1,5 @@
 // What the programs lend to a reading.
+ghost use Rattle.std.specs.Prelude.{◌≡◌, replicate};
 
 // Arrays for a script of at most 4,096 bytes: its tokens, its nodes, 2,048 symbols and 1,024 errors.
 #[derive(Drop)]
@@ -13,7 +14,13 @@ pub struct Buffers {
 }
 
 impl Buffers {
-    pub fn new() -> Self {
+    // All of them 0.
+    pub fn new() -> Self
+        ensures tokens { (result.offs ≡ replicate 4097 0) × (result.words ≡ replicate 4097 0) }
+        ensures nodes { (result.heads ≡ replicate 4097 0) × (result.loads ≡ replicate 4097 0) }
+        ensures symbols { result.symbols ≡ replicate 8192 0 }
+        ensures errors { (result.places ≡ replicate 1024 0) × (result.reasons ≡ replicate 1024 0) }
+    {
         Buffers {
             offs: [0; 4097],
             words: [0; 4097],
