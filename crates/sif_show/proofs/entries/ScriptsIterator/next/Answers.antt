@@ -3,7 +3,7 @@ use Rattle.sif_show.specs.EntryLaws.{entry-within, entry-end}
 use Rattle.sif_show.proofs.entries.ScriptsIterator.next.Goals as goal
 
 pub slice_bounds-result-count : goal.slice_bounds-result-count
-slice_bounds-result-count c = (entry-within _ _ _ c.entry_at-entry.ensures).0
+slice_bounds-result-count c = let w = entry-within _ _ _ c.entry_at-entry.ensures in omega arith
 
 pub slice_bounds-result-start : goal.slice_bounds-result-start
 slice_bounds-result-start c = let w = entry-within _ _ _ c.entry_at-entry.ensures in omega arith
