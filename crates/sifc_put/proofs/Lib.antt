@@ -5,3 +5,4 @@ pub mod Stores
 pub mod Commas
 pub mod Heights
 pub mod Items
+pub mod Cuts
