@@ -55,7 +55,7 @@ def statements(text):
 
 def wrong_answers(text):
     """The functions that an edit names in its header, or 1 for a definition."""
-    return len(re.findall(r"^# \w+: ", text, re.M))
+    return len(re.findall(r"^# [\w:]+: ", text, re.M))
 
 
 def counted():
