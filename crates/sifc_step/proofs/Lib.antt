@@ -5,3 +5,4 @@ pub mod Tests
 pub mod Told
 pub mod Book
 pub mod Items
+pub mod Words

@@ -1,6 +1,6 @@
 -- The tests on a token's kind.
-use Rattle.std.specs.Prelude.{ℕ, suc, ◌+◌, ◌≤◌, ◌<◌, ◌≡◌, ◌⊎◌, refl, Bool, true, false, eqb}
-use Rattle.std.proofs.Common.{arith, inl, inr, ne_eqb, eqb→eq}
+use Rattle.std.specs.Prelude.{ℕ, suc, ◌+◌, ◌≤◌, ◌<◌, ◌≡◌, ◌⊎◌, refl, Bool, true, false, ◌||◌, eqb}
+use Rattle.std.proofs.Common.{arith, sym, ap, ◌∙◌, inl, inr, ne_eqb, eqb→eq}
 use Rattle.std.proofs.lemmas.Bool.{eqb-false}
 use Rattle.sifc_word.specs.Base.{if◌then◌otherwise◌, member}
 use Rattle.sifc_def.specs.Expr.{looseness, is_unary, is_literal}
@@ -22,6 +22,15 @@ pub not-literal : (k : ℕ) → (k ≡ 32 → ⊥) → (k ≡ 33 → ⊥) → (k
 unfolding is_literal member
 not-literal k a b c d = rw (ne_eqb k 32 a, ne_eqb k 33 b, ne_eqb k 44 c, ne_eqb k 45 d) refl
 
+or-false : (b : Bool) → b ≡ b || false
+or-false true = refl
+or-false false = refl
+
+-- the last of the four kinds decides
+pub last-literal : (k : ℕ) → (k ≡ 32 → ⊥) → (k ≡ 33 → ⊥) → (k ≡ 44 → ⊥) → eqb k 45 ≡ is_literal k
+unfolding is_literal member
+last-literal k a b c = rw (ne_eqb k 32 a, ne_eqb k 33 b, ne_eqb k 44 c) (or-false (eqb k 45))
+
 -- ── of Eof ──
 
 pub literal-eof : is_literal 47 ≡ false
@@ -31,3 +40,7 @@ literal-eof = refl
 pub unary-eof : is_unary 47 ≡ false
 unfolding is_unary
 unary-eof = refl
+
+pub loose-eof : {n k : ℕ} → (n ≡ 0 → ⊥) → looseness k ≡ n → k ≡ 47 → ⊥
+unfolding looseness if◌then◌otherwise◌ member
+loose-eof {n} {k} f e h = f (sym e ∙ ap looseness h)
