@@ -88,6 +88,11 @@ class Libraries(unittest.TestCase):
         self.assertEqual(self.exported("target/staticlib/libsif_c.a"), self.CALLS)
         self.assertEqual(self.exported("-D", "target/lib/libsif_c.so"), self.CALLS)
 
+    def test_the_archive_wants_nothing_but_memset(self) -> None:
+        told = run("nm", "--undefined-only", "--format=posix", "target/staticlib/libsif_c.a").stdout.decode()
+        wanted = {line.split()[0] for line in told.splitlines() if len(line.split()) > 1}
+        self.assertEqual(wanted, {"memset"})
+
     def test_the_shared_library_is_sound(self) -> None:
         told = run("readelf", "-dlW", "target/lib/libsif_c.so").stdout.decode()
         self.assertIn("[libsif_c.so.0]", told)
