@@ -2,7 +2,7 @@
 use Rattle.std.specs.Prelude.{Err, Ok}
 use Prim.Native.Nat.{ℕ}
 use mathlib.Core.Path.{◌≡◌, refl, sym, ap, ap₂, ◌∙◌}
-use mathlib.Core.List.{List}
+use mathlib.Core.List.{List, []}
 use borrow.Author.Tests.{eq-eqb, ne_eqb}
 use lib.Dec.{eqb}
 use lib.ListN.{length}
@@ -11,8 +11,8 @@ use Rattle.sifc_err.specs.declared.Refusal.{Refusal}
 use Rattle.sifc_err.specs.declared.Refusal.TheVariants.{Uneven}
 use Rattle.sifc_word.specs.Base.{if◌then◌otherwise◌}
 use Rattle.sifc_def.specs.Answer.{Reading}
-use Rattle.sifc_def.specs.Read.{Arrays, called, rooms_of, entry, read, answered}
-use Rattle.sifc_lent.specs.Parts.{Entered}
+use Rattle.sifc_def.specs.Read.{Arrays, called, rooms_of, entry, even, read, answered}
+use Rattle.sifc_lent.specs.Parts.{arrays, Entered}
 use Rattle.sifc_lent.proofs.EntryLaws.{entered-is}
 use Rattle.sifc_records.specs.declared.call.Told.{Told}
 use Rattle.sifc_records.specs.Records.{entry_records}
@@ -36,6 +36,11 @@ module _ (s : List ℕ) (a : Arrays) (n : ℕ) {k : Checked} (e : k ≡ entry s 
   -- a refusal of the call on words stays
   pub not-passed : (f : Refusal) → k ≡ Err f → Err f ≡ entry_records s a n
   not-passed f g = sym (ap (λ (x : Checked). entry_by x (eqb (length a.places) n)) (sym e ∙ g)) ∙ entry-by s a n
+
+-- the tests look at no symbol word
+pub entry-same : (s o w h l y p r : List ℕ) (n : ℕ) → entry_records s (arrays o w h l [] p r) n ≡ entry_records s (arrays o w h l y p r) n
+unfolding entry_records entry even
+entry-same s o w h l y p r n = refl
 
 -- ── the call on words ──
 
