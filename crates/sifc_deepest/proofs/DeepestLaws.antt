@@ -1,8 +1,9 @@
 -- The call by its tests, and the bytes that a success leaves in the buffer.
-use Rattle.std.specs.Prelude.{ℕ, ◌+◌, ◌-◌, ◌≤◌, ◌<◌, false, List, ◌≡◌, refl, eqb, ltb, length, get_or, replicate, Option, Some, None}
-use Rattle.std.proofs.Common.{sym, ap, ◌∙◌, arith, length-append, get_or-append-add, lt-ltb, le-ltb, eq-eqb, ne_eqb, ltb-true, ltb-false}
+use Rattle.std.specs.Prelude.{ℕ, suc, ◌+◌, ◌-◌, ◌≤◌, ◌<◌, false, List, ◌++◌, ◌≡◌, refl, eqb, ltb, length, get_or, set, take, drop, replicate, Option, Some, None}
+use Rattle.std.proofs.Common.{append-nil, sym, ap, ap₂, ◌∙◌, arith, length-append, take_all, get_or-append-add, lt-ltb, le-ltb, eq-eqb, ne_eqb, ltb-true, ltb-false}
 use Rattle.std.proofs.lemmas.List.{length-replicate, get_or-replicate}
 use Rattle.std.proofs.Math.ListN.{get_or-append}
+use Rattle.std.proofs.Math.Seq.{drop-length, paste, paste-zero, paste-suc}
 use Rattle.sifc_word.specs.Base.{if◌then◌otherwise◌}
 use Rattle.sifc_tokens.specs.Tokens.{padded}
 use Rattle.sifc_def.proofs.OutcomeLaws.{by-test}
@@ -66,6 +67,29 @@ filled_at n m i h l =
     rest k =
         let at : i ≡ length (openings n) + (i - n) = omega (arith, long) in
         ap (λ (z : ℕ). get_or (padded (openings n) m) z 0) at ∙ get_or-append-add (openings n) (replicate (m - length (openings n)) 0) (i - n) 0 ∙ get_or-replicate (m - length (openings n)) (i - n) 0 0 (omega (arith, long))
+
+-- ── byte by byte: as far as i the buffer has the bytes of a success, from there on what it had ──
+
+abbrev pub filled : ℕ → List ℕ → ℕ → List ℕ
+filled n b i = paste b 0 (padded (openings n) (length b)) i
+
+pub filled_none : (n : ℕ) (b : List ℕ) → b ≡ filled n b 0
+filled_none n b = paste-zero b 0 (padded (openings n) (length b))
+
+pub filled_more : (n : ℕ) (b s : List ℕ) (i v : ℕ) → n ≤ length b → i < length b → s ≡ filled n b i → v ≡ byte_at n i → set s i v ≡ filled n b (i + 1)
+filled_more n b s i v h l e k =
+    let full : List ℕ = padded (openings n) (length b) in
+    let at : i ≡ 0 + i = omega arith in
+    let one : suc i ≡ i + 1 = omega arith in
+    ap₂ (λ (x : List ℕ) (y : ℕ). set x i y) e (k ∙ sym (filled_at n (length b) i h l)) ∙ ap (λ (j : ℕ). set (filled n b i) j (get_or full i 0)) at
+    ∙ paste-suc b 0 full i 0 (omega arith) (omega (arith, length-filled n (length b) h)) ∙ ap (filled n b) one
+
+pub filled-all : (n : ℕ) (b : List ℕ) (i : ℕ) → n ≤ length b → i ≡ length b → filled n b i ≡ padded (openings n) (length b)
+filled-all n b i h e =
+    let full : List ℕ = padded (openings n) (length b) in
+    let whole : take (length b) full ≡ full = take_all (length b) full (omega (arith, length-filled n (length b) h)) in
+    let at : 0 + length b ≡ length b = omega arith in
+    ap (filled n b) e ∙ ap (λ (x : List ℕ). x ++ drop (0 + length b) b) whole ∙ ap (λ (j : ℕ). full ++ drop j b) at ∙ ap (λ (x : List ℕ). full ++ x) (drop-length b) ∙ append-nil full
 
 -- ── the answer in numbers ──
 
