@@ -1,5 +1,5 @@
 -- What the proofs of the functions for blocks and listed errors cite.
-use Rattle.std.specs.Prelude.{ℕ, suc, ◌+◌, ◌-◌, ◌≤◌, ◌<◌, ◌≡◌, refl, List, [], ◌∷◌, Bool, true, false, length, get_or, set, eqb, Result, Ok, Err as Stopped, IsErr, IsErrAnd, IfOk}
+use Rattle.std.specs.Prelude.{ℕ, suc, ◌+◌, ◌-◌, ◌≤◌, ◌<◌, ◌≡◌, refl, List, [], ◌∷◌, Bool, true, false, length, get_or, set, eqb, Result, Ok, Err as Stopped}
 use Rattle.std.proofs.Common.{add-one, arith, sym, ap, ◌∙◌, lt-ltb, le-ltb, length-set}
 use Rattle.std.proofs.Math.Path.{subst}
 use Rattle.sifc_err.specs.declared.Refusal.{Refusal}
@@ -9,9 +9,9 @@ use Rattle.sifc_def.specs.declared.Err.{Err}
 use Rattle.sifc_def.specs.Why.{Why}
 use Rattle.sifc_err.specs.declared.parse_err.ParseErrTy.TheVariants.{InvalidIdent, InvalidTkn, InvalidTknMsg, InvalidAssign, InvalidForStmt, InvalidIfStmt, TknMismatch, FnParmCntExceeded, WrongFnParmCnt, UndeclSym, UnassignedVar, ExpectedIdent}
 use Rattle.sifc_def.specs.declared.What.TheVariants.{Other}
-use Rattle.sifc_def.specs.State.{Ctx, err, St, Out, done, fail, refuse, go_on, list, add_error_w_pos, add_error, push}
+use Rattle.sifc_def.specs.State.{err, Out, done, fail, refuse, go_on, list, add_error_w_pos, add_error, push}
 use Rattle.sifc_def.specs.Symbols.{store}
-use Rattle.sifc_def.specs.Stmt.{bind, with_return, end_if}
+use Rattle.sifc_def.specs.Stmt.{bind, end_if}
 use Rattle.sifc_step.specs.declared.walk.Parser.{Parser}
 use Rattle.sifc_step.specs.declared.walk.Stop.{Stop}
 use Rattle.sifc_step.specs.declared.walk.Stop.TheVariants.{Refused}
@@ -19,13 +19,13 @@ use Rattle.sifc_step.specs.Abs.{inp, mem, kind_in, flag_in, kids_in, ctx_at, lis
 use Rattle.sifc_step.specs.Small.{HeadWord, OnlyLists, OnlyDeclares, SameNodes, under, growing, Pushes}
 use Rattle.sifc_step.specs.Book.{reason_of}
 use Rattle.sifc_step.proofs.Steps.{At, begin, by, fin, kept-same, kept-on}
-use Rattle.sifc_step.proofs.Small.{handed, pushed-as}
+use Rattle.sifc_step.proofs.Small.{pushed-as}
 use Rattle.sifc_step.proofs.Book.{notes-more}
 use Rattle.sifc_block.specs.declared.book.Book.{Book}
 use Rattle.sifc_block.specs.declared.block.Names.{Names}
 use Rattle.sifc_block.specs.declared.block.Names.TheVariants.{Unnamed}
 use Rattle.sifc_block.specs.Bound.{between, names_of, NamesFit}
-use Rattle.sifc_block.specs.Lists.{Roomy, Writes, Lists, SameSymbols, second_else, Elses, EndsIf, Noting, Noted}
+use Rattle.sifc_block.specs.Lists.{Roomy, Writes, Lists, second_else, Elses, Noting, Noted}
 use Rattle.sifc_block.proofs.Steps.{book-same, book-on, listing, ends, given, quiet, goes, stops, lasts}
 
 -- ── the second else ──
@@ -177,14 +177,7 @@ pub bind-none : {n : Names} {p : Parser} (ls : List ℕ) → Ready p → n ≡ U
 unfolding bind
 bind-none ls r e = bind-as ls e (fin (λ c. bind c []) (begin 0 (λ c. bind c []) r))
 
--- ── the inserted return statement ──
-
-pub body_is : {j k : ℕ} {f : St → Out ℕ} {p q : Parser} (b body : Bool) (m : ℕ) → At j k f (λ s. with_return (ctx_at p) body m s) p q → body ≡ b → At j k f (λ s. with_return (ctx_at p) b m s) p q
-body_is {p = p} b body m t e = by t (λ s. ap (λ (x : Bool). with_return (ctx_at p) x m s) e)
-
-pub return-stops : {f : Ctx → St → Out ℕ} {p q : Parser} {g : Refusal} (x : Result ℕ Refusal) (n : ℕ) → Does 0 f p (Stopped (Refused g)) q → IsErr x × IsErrAnd x (λ h. h ≡ g) → SameSymbols p q → Does 0 f p (lifted x) q × IfOk x (λ m. m ≤ n) × SameSymbols p q
-return-stops (Ok a) n d h e = absurd h.1
-return-stops (Stopped s) n d h e = (handed (Stopped s) d h, tt, e)
+-- ── the end of an if statement ──
 
 -- the code's n + 2 is the definition's 2 + n
 pub plus-two : {k r : ℕ} {f : Bool} (n : ℕ) → HeadWord k f (n + 2) r → HeadWord k f (2 + n) r

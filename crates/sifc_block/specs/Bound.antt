@@ -1,10 +1,16 @@
 -- The names that a block binds, and its end.
-use Rattle.std.specs.Prelude.{ℕ, zero, suc, ◌+◌, ◌≤◌, ◌<◌, List, [], ◌∷◌, Bool, false, length, get_or}
+use Rattle.std.specs.Prelude.{ℕ, zero, suc, ◌+◌, ◌≤◌, ◌<◌, List, [], ◌∷◌, Bool, false, length, get_or, Result, IfOk}
+use Rattle.sifc_err.specs.declared.Refusal.{Refusal}
 use Rattle.sifc_word.specs.Kind.{RightBrace}
 use Rattle.sifc_def.specs.Ast.{Block}
 use Rattle.sifc_def.specs.State.{Ctx, Void, ◌>>=◌, ◌>>◌, expect, push}
 use Rattle.sifc_def.specs.Symbols.{level_now, close_scope}
 use Rattle.sifc_def.specs.Stmt.{with_return}
+use Rattle.sifc_step.specs.declared.walk.Parser.{Parser}
+use Rattle.sifc_step.specs.declared.walk.Stop.{Stop}
+use Rattle.sifc_step.specs.Abs.{Inp, inp_of, Ready, Does, Paired, lifted}
+use Rattle.sifc_step.specs.Small.{growing}
+use Rattle.sifc_block.specs.Lists.{SameSymbols}
 use Rattle.sifc_block.specs.declared.block.Names.{Names}
 use Rattle.sifc_block.specs.declared.block.Names.TheVariants.{Unnamed, Pair, Params}
 
@@ -31,3 +37,23 @@ end_block c body n = do
   close_scope c
   n' ← with_return c body n
   push c Block false n' scope
+
+-- ── what a function promises that looks at no symbol: the same whatever they are ──
+
+-- the parser is ready, with some symbols in the place of its own: none has to be lent
+pub record Amid (p : Parser) : Type 0 where
+  pub symbols : List ℕ
+  pub ready : Ready (growing (inp_of p) symbols p)
+
+-- a function's body and its inserted return statement, whatever is read too
+pub record Returns (p : Parser) (body : Bool) (n : ℕ) (r : Result ℕ Refusal) (q : Parser) : Type 0 where
+  pub does : Does 0 (λ c. with_return c body n) p (lifted r) q
+  pub few : IfOk r (λ m. m ≤ n + 1)
+  pub holds : Paired p → Paired q
+  pub alone : SameSymbols p q
+  pub whatever : (I : Inp) (ys : List ℕ) → Does 0 (λ c. with_return c body n) (growing I ys p) (lifted r) (growing I ys q)
+
+pub record EndsBlock (p : Parser) (body : Bool) (n : ℕ) (r : Result (Unit {0}) Stop) (q : Parser) : Type 0 where
+  pub does : Does 0 (λ c. end_block c body n) p r q
+  pub alone : SameSymbols p q
+  pub whatever : (ys : List ℕ) → Does 0 (λ c. end_block c body n) (growing (inp_of p) ys p) r (growing (inp_of p) ys q)

@@ -1,10 +1,9 @@
 // The names that a block binds, and its end.
-ghost use Rattle.std.specs.Prelude.{◌≡◌, ◌&&◌, [], ◌∷◌, eqb, ltb, length, ◌+◌, ◌%◌, ◌≤◌, ◌<◌, IfOk};
-ghost use Rattle.sifc_def.specs.Stmt.{bind as bind_all, with_return};
-ghost use Rattle.sifc_step.specs.Abs.{Ready, Does, lifted};
+ghost use Rattle.std.specs.Prelude.{◌≡◌, ◌&&◌, [], ◌∷◌, eqb, ltb, length, ◌+◌, ◌%◌, ◌≤◌, ◌<◌};
+ghost use Rattle.sifc_def.specs.Stmt.{bind as bind_all};
+ghost use Rattle.sifc_step.specs.Abs.{Ready, Does, Paired, lifted};
 ghost use Rattle.sifc_step.specs.Small.{SameNodes};
-ghost use Rattle.sifc_block.specs.Bound.{names_of, NamesFit, between, end_block};
-ghost use Rattle.sifc_block.specs.Lists.{SameSymbols};
+ghost use Rattle.sifc_block.specs.Bound.{names_of, NamesFit, between, Amid, Returns, EndsBlock};
 
 use sifc_def::What;
 use sifc_def::ast::{BLOCK, RETURN_STMT};
@@ -63,8 +62,8 @@ fn ends_with_return(n: usize, word: u32) -> bool
 
 // The inserted return statement of a function's body: how many declarations there are.
 fn with_return(p: &mut Parser<'_>, body: bool, n: usize) -> Result<usize, Refusal>
-    requires { Ready p.old × (n < 65536) }
-    ensures { Does 0 (λ c. with_return c body n) p.old (lifted result) p.new × IfOk result (λ m. m ≤ n + 1) × SameSymbols p.old p.new }
+    requires { Paired p.old × (n < 65536) }
+    ensures { Returns p.old body n result p.new }
 {
     if !body {
         return Ok(n);
@@ -77,10 +76,11 @@ fn with_return(p: &mut Parser<'_>, body: bool, n: usize) -> Result<usize, Refusa
     Ok(n + 1)
 }
 
-// The end of a block with n declarations: the payload is the level inside.
+// The end of a block with n declarations: the payload is the level inside. The symbols are not looked at:
+// none has to be lent.
 pub fn end_block(p: &mut Parser<'_>, body: bool, n: usize) -> Result<(), Stop>
-    requires { Ready p.old × (n < 65536) }
-    ensures { Does 0 (λ c. end_block c body n) p.old result p.new × SameSymbols p.old p.new }
+    requires { Amid p.old × (n < 65536) }
+    ensures { EndsBlock p.old body n result p.new }
 {
     p.expect(RIGHT_BRACE)?;
     let scope = p.level;

@@ -14,6 +14,7 @@ use Rattle.sifc_step.proofs.Told.{name-next}
 use Rattle.sifc_stmt.proofs.Taken.{taken}
 use Rattle.sifc_block.specs.Bound.{names_of, end_block, between}
 use Rattle.sifc_block.proofs.Steps.{conveyed, quiet, goes, stops, lasts, ends, reads, kind-of, if-yes, if-no, booked}
+use Rattle.sifc_block.proofs.Ends.{amid}
 use Rattle.sifc_parse.proofs.Turns.{opens, block-step, block_none, block-named, turning, turn-own, onward, retold}
 use Rattle.sifc_parse.proofs.Inside.{passed, brace, expect-level, moved-nodes, scope-nodes, push-nodes, nodes-more, names-kept, names-same, names-fit, bound-as, here-few}
 use Rattle.sifc_parse.proofs.parser.+declarations.Goals.{branches-in-40+in_ok-elif_stmt-in-40, branches-in-41+in_ok-else_block-in-41}
@@ -67,7 +68,7 @@ block-end_block-requires t c =
     let e = names-same c.args.names c.args.p.now c.init_scope.new.self (scope-nodes c.init_scope.ensures ∙ moved-nodes c.args.p.now c.expect.new.self c.in_ok-expect.ensures.alone) c.requires.2 in
     let g3 = goes (λ x. bind_of x (names_of c.args.names c.args.p.now.load.now)) _ g2 (quiet c.args.book.now (bound-as e c.in_ok-bind.ensures.0)) in
     let g4 = goes (λ x. decls_of x (walkers x (c.args.depth - 1)) (fuel x) 0) _ g3 c.in_ok-n.ensures.does in
-    (g4.is, c.in_ok-n.ensures.few)
+    (amid g4.is, c.in_ok-n.ensures.few)
 
 pub block-returns-in_err-bind : goal.block-returns-in_err-bind
 unfolding block_of
@@ -108,7 +109,7 @@ block-returns t c =
           let e = names-same c.args.names c.args.p.now c.init_scope.new.self (scope-nodes c.init_scope.ensures ∙ moved-nodes c.args.p.now c.expect.new.self c.in_ok-expect.ensures.alone) c.requires.2 in
           let g3 = goes (λ x. bind_of x (names_of c.args.names c.args.p.now.load.now)) _ g2 (quiet c.args.book.now (bound-as e c.in_ok-bind.ensures.0)) in
           let g4 = goes (λ x. decls_of x (walkers x (c.args.depth - 1)) (fuel x) 0) _ g3 c.in_ok-n.ensures.does in
-          lasts (λ x. end_block x c.args.body c.in_ok-n.n) (λ x. (walkers x c.args.depth).block c.args.body (names_of c.args.names c.args.p.now.load.now)) g4 (omega (arith, h)) (quiet c.decls.new.book (c.end_block.ensures.0));
+          lasts (λ x. end_block x c.args.body c.in_ok-n.n) (λ x. (walkers x c.args.depth).block c.args.body (names_of c.args.names c.args.p.now.load.now)) g4 (omega (arith, h)) (quiet c.decls.new.book c.end_block.ensures.does);
     }
 
 pub branches-loop-p-init : goal.branches-loop-p-init
