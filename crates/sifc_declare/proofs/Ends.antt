@@ -1,25 +1,28 @@
 -- What the proofs of the declarations cite.
-use Rattle.std.specs.Prelude.{ℕ, suc, ◌≤◌, ◌<◌, ◌≡◌, refl, List, length, false, eqb, Result, Ok, Err as Stopped, IsErr, IsErrAnd, IfOk}
+use Rattle.std.specs.Prelude.{ℕ, suc, ◌≤◌, ◌<◌, ◌≡◌, refl, List, [], ◌∷◌, length, false, eqb, Result, Ok, Err as Stopped, IsErr, IsErrAnd, IfOk}
+use Rattle.std.specs.Borrow.{MutBor}
 use Rattle.std.proofs.Common.{subst, arith, sym, ap, ◌∙◌, eq-eqb, ne_eqb}
 use Rattle.sifc_word.specs.Base.{if◌then◌otherwise◌}
 use Rattle.sifc_err.specs.declared.Refusal.{Refusal}
 use Rattle.sifc_err.specs.declared.parse_err.ParseErrTy.TheVariants.{ExpectedIdent}
 use Rattle.sifc_def.specs.declared.What.{What}
 use Rattle.sifc_def.specs.declared.What.TheVariants.{Variable, Other}
-use Rattle.sifc_def.specs.State.{Node, Ctx, St, Out, M, go_on, push}
+use Rattle.sifc_def.specs.Why.{Why}
+use Rattle.sifc_def.specs.State.{Node, Ctx, St, Out, M, go_on, expect, ident, push}
 use Rattle.sifc_def.specs.Symbols.{store}
-use Rattle.sifc_def.specs.Stmt.{ident_node, param, declare_var, array_nodes}
+use Rattle.sifc_def.specs.Stmt.{ident_node, param, ident_pair, declare_var, array_nodes}
 use Rattle.sifc_def.proofs.OutcomeLaws.{Holds, is-done, call}
 use Rattle.sifc_step.specs.declared.walk.Parser.{Parser}
 use Rattle.sifc_step.specs.declared.walk.Limits.{Limits}
 use Rattle.sifc_step.specs.declared.walk.Stop.{Stop}
 use Rattle.sifc_step.specs.declared.walk.Stop.TheVariants.{Refused}
-use Rattle.sifc_step.specs.Abs.{Inp, inp, Mem, mem_of, Walk, inp_of, kind_in, flag_in, kids_in, ctx_at, abs_at, ReadyOf, Ready, Paired, among, Does, lifted}
-use Rattle.sifc_step.specs.Small.{OnlyGrows, HeadWord, Pushes, Puts}
-use Rattle.sifc_step.proofs.Steps.{nested, begin, by, read, go, stop, refused, last, fin, kept-on, blank, length-nodes}
-use Rattle.sifc_step.proofs.Small.{given, handed, pushed-as}
-use Rattle.sifc_step.proofs.Told.{Any, told, ident-passes, push-grows}
-use Rattle.sifc_declare.specs.Promise.{freely, limited, Declares, listed, node_and_name, array_and_name}
+use Rattle.sifc_step.specs.Abs.{Inp, inp, Mem, mem, mem_of, Walk, inp_of, kind_in, flag_in, kids_in, ctx_at, abs_at, ReadyOf, Ready, Paired, among, Does, lifted}
+use Rattle.sifc_step.specs.Small.{OnlyGrows, over, growing, Expects, HeadWord, Pushes, Idents, Puts}
+use Rattle.sifc_step.specs.Items.{beside}
+use Rattle.sifc_step.proofs.Steps.{nested, ready-after, begin, by, read, go, stop, refused, last, fin, kept-on, blank, length-nodes}
+use Rattle.sifc_step.proofs.Small.{given, handed, pushed-as, least}
+use Rattle.sifc_step.proofs.Told.{Any, Named, told, ident-passes, push-grows}
+use Rattle.sifc_declare.specs.Promise.{freely, limited, Declares, Midst, OnlyBuilds, DoesAny, listed, node_and_name, array_and_name}
 
 -- a token passed and a node more, which is the token's
 abbrev NodedAs : St → ℕ → St → Type 0
@@ -36,15 +39,122 @@ pub record Noded (p : Parser) (i : ℕ) (q : Parser) : Type 0 where
   pub at : q.at ≡ suc p.at
   pub nodes : q.nodes ≡ suc p.nodes
 
--- a name and its node, as a parameter
-module _ {p q : Parser} (r : Ready p) where
-  pub param-done : {i : ℕ} → Does 0 (λ c. ident_node c) p (Ok i) q → Does 0 (λ c. param c) p (Ok tt) q
-  unfolding param
-  param-done d = fin (λ c. param c) (go (λ c. ident_node c) _ (begin 0 (λ c. param c) r) d)
+-- ── over another script and other symbols ──
 
-  pub param-stops : {s : Stop} → Does 0 (λ c. ident_node c) p (Stopped s) q → Does 0 (λ c. param c) p (Stopped s) q
+-- a parser that is ready is so with its own
+pub midst : {p : Parser} → Ready p → Midst p
+midst {p} r = record { script = p.script.now; symbols = p.symbols.now; ready = r }
+
+module _ (s ys : List ℕ) where
+  -- a step that leaves what is read, and one that leaves the nodes' words too
+  still-read : (p q : Parser) → inp_of q ≡ inp_of p → growing (inp s p.offs.now p.words.now p.lim) ys q ≡ beside s ys q
+  still-read p q e = ap (λ (I : Inp). growing (inp s I.offs I.words I.lim) ys q) (sym e)
+
+  still-lent : (p q : Parser) → inp_of q ≡ inp_of p → q.head ≡ p.head → q.load ≡ p.load → over s (mem ys p.head.now p.load.now) p q ≡ beside s ys q
+  still-lent p q e a b =
+      ap (λ (x : MutBor (List ℕ)). over s (mem ys x.now p.load.now) p q) (sym a)
+      ∙ ap (λ (x : MutBor (List ℕ)). over s (mem ys q.head.now x.now) p q) (sym b)
+      ∙ still-read p q e
+
+  pub named-beside : {p q : Parser} {why : Why} {r : Result ℕ Stop} (y : ℕ → Why) → Idents p why r q → y p.at ≡ why → Does 0 (λ c. ident c y) (beside s ys p) r (beside s ys q)
+  named-beside {p} {q} {r = r} y d e =
+      subst (λ (x : Parser). Does 0 (λ c. ident c y) (beside s ys p) r x) (still-lent p q (ap inp_of d.alone) (ap (λ (x : Parser). x.head) d.alone) (ap (λ (x : Parser). x.load) d.alone))
+      (least (d.whatever s (mem ys p.head.now p.load.now) y e))
+
+  pub expect-beside : {p q : Parser} {ty : ℕ} {r : Result (Unit {0}) Stop} → Expects p ty r q → Does 0 (λ c. expect c ty) (beside s ys p) r (beside s ys q)
+  expect-beside {p} {q} {ty} {r} d =
+      subst (λ (x : Parser). Does 0 (λ c. expect c ty) (beside s ys p) r x) (still-lent p q (ap inp_of d.alone) (ap (λ (x : Parser). x.head) d.alone) (ap (λ (x : Parser). x.load) d.alone))
+      (least (d.whatever s (mem ys p.head.now p.load.now)))
+
+  pub push-beside : {p q : Parser} {w t : ℕ} {r : Result (Unit {0}) Refusal} → Pushes p w t r q → Does 0 (λ c. push c (kind_in w) (flag_in w) (kids_in w) t) (beside s ys p) (lifted r) (beside s ys q)
+  push-beside {p} {q} {w} {t} {r} d =
+      subst (λ (x : Parser). Does 0 (λ c. push c (kind_in w) (flag_in w) (kids_in w) t) (beside s ys p) (lifted r) x) (still-read p q (ap inp_of d.alone)) (d.whatever (inp s p.offs.now p.words.now p.lim) ys)
+
+-- a parser that was ready is so where a value is given
+pub past : {A : Type 0} {j : ℕ} {f : Ctx → St → Out A} {p q : Parser} {a : A} → Ready p → Does j f p (Ok a) q → Ready q
+past r d = ready-after r d.kept (d.fine r)
+
+pub past-any : {A : Type 0} {f : Ctx → St → Out A} {p q : Parser} {a : A} → Midst p → DoesAny 0 f p (Ok a) q → Midst q
+past-any m d = record { script = m.script; symbols = m.symbols; ready = past m.ready (d.whatever m.script m.symbols) }
+
+pub past-expect : {p q : Parser} {ty : ℕ} → Midst p → Expects p ty (Ok tt) q → Midst q
+past-expect m d = record { script = m.script; symbols = m.symbols; ready = past m.ready (expect-beside m.script m.symbols d) }
+
+-- the token of a name
+pub named-amid : {p q : Parser} {i : ℕ} {why : Why} (y : ℕ → Why) → Midst p → Idents p why (Ok i) q → y p.at ≡ why → i ≡ p.at
+named-amid {p} y m d e =
+    let o = beside m.script m.symbols p in
+    let z = told (Named (abs_at (blank p.errors) o)) m.ready (named-beside m.script m.symbols y d e) (λ E. ident-passes (ctx_at o) y (abs_at E o)) in
+    z.0
+
+-- ── what is left as it was ──
+
+pub name-builds : {p q : Parser} {why : Why} {r : Result ℕ Stop} → Idents p why r q → OnlyBuilds p q
+name-builds {p} d = subst (λ (x : Parser). OnlyBuilds p x) (sym d.alone) refl
+
+pub expect-builds : {p q : Parser} {ty : ℕ} {r : Result (Unit {0}) Stop} → Expects p ty r q → OnlyBuilds p q
+expect-builds {p} d = subst (λ (x : Parser). OnlyBuilds p x) (sym d.alone) refl
+
+pub push-builds : {p q : Parser} {w t : ℕ} {r : Result (Unit {0}) Refusal} → Pushes p w t r q → OnlyBuilds p q
+push-builds {p} d = subst (λ (x : Parser). OnlyBuilds p x) (sym d.alone) refl
+
+pub builds-on : (p q z : Parser) → OnlyBuilds p q → OnlyBuilds q z → OnlyBuilds p z
+builds-on p q z a b = b ∙ ap (λ (x : Parser). record x { at = z.at; errors = z.errors; head = z.head; load = z.load; nodes = z.nodes }) a
+
+-- ── a name and its node, and the same as a parameter ──
+
+module _ {p : Parser} where
+  pub node-stops : {q : Parser} {s : Stop} → Does 0 (λ c. ident c ExpectedIdent) p (Stopped s) q → Does 0 (λ c. ident_node c) p (Stopped s) q
+  unfolding ident_node
+  node-stops d = given d.kept (λ r. stop (λ c. ident c ExpectedIdent) _ (λ c. ident_node c) (begin 0 (λ c. ident_node c) r) (omega arith) d)
+
+  module _ {q z : Parser} {i : ℕ} (d : Does 0 (λ c. ident c ExpectedIdent) p (Ok i) q) where
+    pub node-refused : {g : Refusal} → Does 0 (λ c. push c 24 false 0 i) q (Stopped (Refused g)) z → Does 0 (λ c. ident_node c) p (Stopped (Refused g)) z
+    unfolding ident_node
+    node-refused e = given (kept-on d.kept e.kept) (λ r. refused (λ c. push c 24 false 0 i) _ (λ c. ident_node c) (go (λ c. ident c ExpectedIdent) _ (begin 0 (λ c. ident_node c) r) d) e refl)
+
+    pub node-done : Does 0 (λ c. push c 24 false 0 i) q (Ok tt) z → Does 0 (λ c. ident_node c) p (Ok i) z
+    unfolding ident_node
+    node-done e = given (kept-on d.kept e.kept) (λ r. fin (λ c. ident_node c) (go (λ c. push c 24 false 0 i) _ (go (λ c. ident c ExpectedIdent) _ (begin 0 (λ c. ident_node c) r) d) e))
+
+  pub param-done : {q : Parser} {i : ℕ} → Does 0 (λ c. ident_node c) p (Ok i) q → Does 0 (λ c. param c) p (Ok tt) q
   unfolding param
-  param-stops d = stop (λ c. ident_node c) _ (λ c. param c) (begin 0 (λ c. param c) r) (omega arith) d
+  param-done d = given d.kept (λ r. fin (λ c. param c) (go (λ c. ident_node c) _ (begin 0 (λ c. param c) r) d))
+
+  pub param-stops : {q : Parser} {s : Stop} → Does 0 (λ c. ident_node c) p (Stopped s) q → Does 0 (λ c. param c) p (Stopped s) q
+  unfolding param
+  param-stops d = given d.kept (λ r. stop (λ c. ident_node c) _ (λ c. param c) (begin 0 (λ c. param c) r) (omega arith) d)
+
+-- ── two names ──
+
+module _ {p : Parser} where
+  pub pair-first : {q : Parser} {s : Stop} → Does 0 (λ c. ident_node c) p (Stopped s) q → Does 0 (λ c. ident_pair c) p (Stopped s) q
+  unfolding ident_pair
+  pair-first d = given d.kept (λ r. stop (λ c. ident_node c) _ (λ c. ident_pair c) (begin 0 (λ c. ident_pair c) r) (omega arith) d)
+
+  module _ {q1 : Parser} {i : ℕ} (d1 : Does 0 (λ c. ident_node c) p (Ok i) q1) where
+    pub pair-comma : {q : Parser} {s : Stop} → Does 0 (λ c. expect c 12) q1 (Stopped s) q → Does 0 (λ c. ident_pair c) p (Stopped s) q
+    unfolding ident_pair
+    pair-comma d = given (kept-on d1.kept d.kept) (λ r. stop (λ c. expect c 12) _ (λ c. ident_pair c) (go (λ c. ident_node c) _ (begin 0 (λ c. ident_pair c) r) d1) (omega arith) d)
+
+    module _ {q2 : Parser} (d2 : Does 0 (λ c. expect c 12) q1 (Ok tt) q2) where
+      pub pair-second : {q : Parser} {s : Stop} → Does 0 (λ c. ident_node c) q2 (Stopped s) q → Does 0 (λ c. ident_pair c) p (Stopped s) q
+      unfolding ident_pair
+      pair-second d =
+          given (kept-on (kept-on d1.kept d2.kept) d.kept) (λ r. stop (λ c. ident_node c) _ (λ c. ident_pair c) (go (λ c. expect c 12) _ (go (λ c. ident_node c) _ (begin 0 (λ c. ident_pair c) r) d1) d2) (omega arith) d)
+
+      module _ {q3 q4 : Parser} {j : ℕ} (d3 : Does 0 (λ c. ident_node c) q2 (Ok j) q3) where
+        pub pair-refused : {g : Refusal} → Does 0 (λ c. push c 11 false 2 0) q3 (Stopped (Refused g)) q4 → Does 0 (λ c. ident_pair c) p (Stopped (Refused g)) q4
+        unfolding ident_pair
+        pair-refused d =
+            given (kept-on (kept-on (kept-on d1.kept d2.kept) d3.kept) d.kept) (λ r.
+                refused (λ c. push c 11 false 2 0) _ (λ c. ident_pair c) (go (λ c. ident_node c) _ (go (λ c. expect c 12) _ (go (λ c. ident_node c) _ (begin 0 (λ c. ident_pair c) r) d1) d2) d3) d refl)
+
+        pub pair-done : Does 0 (λ c. push c 11 false 2 0) q3 (Ok tt) q4 → Does 0 (λ c. ident_pair c) p (Ok (i ∷ j ∷ [])) q4
+        unfolding ident_pair
+        pair-done d =
+            given (kept-on (kept-on (kept-on d1.kept d2.kept) d3.kept) d.kept) (λ r.
+                fin (λ c. ident_pair c) (go (λ c. push c 11 false 2 0) _ (go (λ c. ident_node c) _ (go (λ c. expect c 12) _ (go (λ c. ident_node c) _ (begin 0 (λ c. ident_pair c) r) d1) d2) d3) d))
 
 -- a parser that lists nothing, before and after a node more
 pub free-on : (p q : Parser) → OnlyGrows p q → Paired q → Ready (freely p) → Ready (freely q)
@@ -55,9 +165,14 @@ free-on p q a h r =
 pub free : {I : Inp} {M : Mem} {w : Walk} → ReadyOf I M w → ReadyOf (inp I.script I.offs I.words (record { errors = w.errors; fault = I.lim.fault })) M w
 free r = record { stands = r.stands; even = r.even; used = r.used; holds = r.holds; level = r.level; room = omega arith }
 
+-- an answer that is an error, passed on by `?`
+pub conveyed-any : {A : Type 0} {f : Ctx → St → Out A} {p q : Parser} {s : Stop} {x : Result A Stop} → DoesAny 0 f p (Stopped s) q → IsErr x × IsErrAnd x (λ t. t ≡ s) → DoesAny 0 f p x q
+conveyed-any {x = Ok a} d h = absurd h.1
+conveyed-any {x = Stopped t} d h = rw h.1 d
+
 -- two names of which one is missing
 pub pair-stops : {f : Ctx → St → Out (List ℕ)} {p q : Parser} {s : Stop} (x : Result (ℕ × ℕ) Stop)
-    → Does 0 f p (Stopped s) q → IsErr x × IsErrAnd x (λ t. t ≡ s) → Does 0 f p (listed x) q × IfOk x (λ y. (y.0 < 65536) × (y.1 < 65536))
+    → DoesAny 0 f p (Stopped s) q → IsErr x × IsErrAnd x (λ t. t ≡ s) → DoesAny 0 f p (listed x) q × IfOk x (λ y. (y.0 < 65536) × (y.1 < 65536))
 pair-stops (Ok a) d h = absurd h.1
 pair-stops (Stopped t) d h = (rw h.1 d, tt)
 

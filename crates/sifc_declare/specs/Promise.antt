@@ -1,15 +1,16 @@
 -- What the functions of this crate promise beside the definition of their own name.
-use Rattle.std.specs.Prelude.{ℕ, ◌<◌, List, [], ◌∷◌, Result, Ok, Err as Stopped, IfOk}
+use Rattle.std.specs.Prelude.{ℕ, ◌<◌, ◌≡◌, List, [], ◌∷◌, Result, Ok, Err as Stopped, IfOk}
 use Rattle.sifc_err.specs.declared.Refusal.{Refusal}
 use Rattle.sifc_def.specs.declared.What.TheVariants.{Other}
-use Rattle.sifc_def.specs.State.{Ctx, Void, ◌>>◌, consume, push}
+use Rattle.sifc_def.specs.State.{Ctx, St, Out, Void, ◌>>◌, consume, push}
 use Rattle.sifc_def.specs.Symbols.{store}
 use Rattle.sifc_def.specs.Expr.{Rec}
 use Rattle.sifc_def.specs.Stmt.{declare_var, array_nodes, initial}
 use Rattle.sifc_step.specs.declared.walk.Limits.{Limits}
 use Rattle.sifc_step.specs.declared.walk.Parser.{Parser}
 use Rattle.sifc_step.specs.declared.walk.Stop.{Stop}
-use Rattle.sifc_step.specs.Abs.{inp, mem_of, kind_in, flag_in, kids_in, among, Does, lifted}
+use Rattle.sifc_step.specs.Abs.{inp, mem_of, kind_in, flag_in, kids_in, among, Ready, Does, lifted}
+use Rattle.sifc_step.specs.Items.{beside}
 
 -- a parser that a value leaves is past token a
 abbrev pub AheadOf : {A : Type 0} → ℕ → Result A Stop → Parser → Type 0
@@ -27,6 +28,23 @@ limited l p x = among (inp p.script.now p.offs.now p.words.now l) (mem_of x) x
 pub record Declares (f : Ctx → Void) (p : Parser) (r : Result (Unit {0}) Refusal) (q : Parser) : Type 0 where
   pub does : Does 0 f p (lifted r) q
   pub whatever : (l : Limits) → Does 0 f (limited l p p) (lifted r) (limited l p q)
+
+-- What a function may assume that looks at no script and no symbol: with some of both in the place of its own the parser is ready.
+-- The tokens' offsets are its own, since a panic is answered with the offset of its token.
+pub record Midst (p : Parser) : Type 0 where
+  pub script : List ℕ
+  pub symbols : List ℕ
+  pub ready : Ready (beside script symbols p)
+
+-- all but the token in front, how many errors are listed, and the nodes
+abbrev pub OnlyBuilds : Parser → Parser → Type 0
+OnlyBuilds p q = q ≡ record p { at = q.at; errors = q.errors; head = q.head; load = q.load; nodes = q.nodes }
+
+-- what such a function promises: f, whatever the script and the symbols are
+pub record DoesAny {A : Type 0} (j : ℕ) (f : Ctx → St → Out A) (p : Parser) (r : Result A Stop) (q : Parser) : Type 0 where
+  pub does : Does j f p r q
+  pub alone : OnlyBuilds p q
+  pub whatever : (s ys : List ℕ) → Does j f (beside s ys p) r (beside s ys q)
 
 -- two tokens, as the definition has them: in a list
 abbrev pub listed : Result (ℕ × ℕ) Stop → Result (List ℕ) Stop

@@ -3,7 +3,7 @@ ghost use Rattle.std.specs.Prelude.{◌≤◌, ◌<◌, IfOk};
 ghost use Rattle.sifc_def.specs.Expr.{fuel, param_list};
 ghost use Rattle.sifc_def.specs.Stmt.{ident_node, param, ident_pair};
 ghost use Rattle.sifc_step.specs.Abs.{Ready, Does};
-ghost use Rattle.sifc_declare.specs.Promise.{listed};
+ghost use Rattle.sifc_declare.specs.Promise.{Midst, DoesAny, listed};
 
 use sifc_def::Why;
 use sifc_def::ast::{self, CHILD, PRIMARY_EXPR};
@@ -14,9 +14,9 @@ use sifc_word::kind::COMMA;
 const IDENT_PAIR: u32 = ast::IDENT_PAIR + 2 * CHILD;
 
 // A name, whose token it answers, and its node, the token taken first: a parameter, or one of ident_pair.
-fn ident_node(p: &mut Parser<'_>) -> Result<usize, Stop>
-    requires { Ready p.old }
-    ensures { Does 0 (λ c. ident_node c) p.old result p.new }
+pub fn ident_node(p: &mut Parser<'_>) -> Result<usize, Stop>
+    requires { Midst p.old }
+    ensures { DoesAny 0 (λ c. ident_node c) p.old result p.new }
 {
     let i = p.match_ident(Why::ExpectedIdent(p.at))?;
     p.push_node(PRIMARY_EXPR, i as u32)?;
@@ -25,8 +25,8 @@ fn ident_node(p: &mut Parser<'_>) -> Result<usize, Stop>
 
 // A parameter.
 fn param(p: &mut Parser<'_>) -> Result<(), Stop>
-    requires { Ready p.old }
-    ensures does { Does 0 (λ c. param c) p.old result p.new }
+    requires { Midst p.old }
+    ensures does { DoesAny 0 (λ c. param c) p.old result p.new }
     ensures more { IfOk result (λ _. (p.old.at < p.new.at) × (p.old.nodes < p.new.nodes)) }
 {
     ident_node(p)?;
@@ -43,8 +43,8 @@ pub fn param_list(p: &mut Parser<'_>) -> Result<usize, Stop>
 
 // The two names of a loop, by their tokens.
 pub fn ident_pair(p: &mut Parser<'_>) -> Result<(usize, usize), Stop>
-    requires { Ready p.old }
-    ensures { Does 0 (λ c. ident_pair c) p.old (listed result) p.new × IfOk result (λ x. (x.0 < 65536) × (x.1 < 65536)) }
+    requires { Midst p.old }
+    ensures { DoesAny 0 (λ c. ident_pair c) p.old (listed result) p.new × IfOk result (λ x. (x.0 < 65536) × (x.1 < 65536)) }
 {
     let first = ident_node(p)?;
     p.expect(COMMA)?;

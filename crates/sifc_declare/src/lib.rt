@@ -6,4 +6,4 @@ mod declare;
 mod ident;
 
 pub use declare::{declare_array, declare_other, declare_var};
-pub use ident::{ident_pair, param_list};
+pub use ident::{ident_node, ident_pair, param_list};

@@ -60,7 +60,7 @@ abbrev Matched : St → Option ℕ → St → Type 0
 Matched s (some i) s' = (i ≡ s.at) × (s'.at ≡ suc s.at) × (s'.nodes ≡ s.nodes)
 Matched s none s' = Unit {0}
 
-abbrev Named : St → ℕ → St → Type 0
+abbrev pub Named : St → ℕ → St → Type 0
 Named s i s' = (i ≡ s.at) × (s'.at ≡ suc s.at) × (s'.nodes ≡ s.nodes)
 
 match-passes : (c : Ctx) (s : St) → Holds (match_ident c s) (Matched s) Any
