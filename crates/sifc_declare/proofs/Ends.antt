@@ -1,6 +1,5 @@
 -- What the proofs of the declarations cite.
-use Rattle.std.specs.Prelude.{ℕ, suc, ◌≤◌, ◌<◌, ◌≡◌, refl, List, [], ◌∷◌, length, false, eqb, Result, Ok, Err as Stopped, IsErr, IsErrAnd, IfOk}
-use Rattle.std.specs.Borrow.{MutBor}
+use Rattle.std.specs.Prelude.{ℕ, suc, ◌≤◌, ◌<◌, ◌≡◌, refl, List, [], ◌∷◌, length, false, eqb, Some, None, Result, Ok, Err as Stopped, IsErr, IsErrAnd, IfOk}
 use Rattle.std.proofs.Common.{subst, arith, sym, ap, ◌∙◌, eq-eqb, ne_eqb}
 use Rattle.sifc_word.specs.Base.{if◌then◌otherwise◌}
 use Rattle.sifc_err.specs.declared.Refusal.{Refusal}
@@ -16,13 +15,14 @@ use Rattle.sifc_step.specs.declared.walk.Parser.{Parser}
 use Rattle.sifc_step.specs.declared.walk.Limits.{Limits}
 use Rattle.sifc_step.specs.declared.walk.Stop.{Stop}
 use Rattle.sifc_step.specs.declared.walk.Stop.TheVariants.{Refused}
-use Rattle.sifc_step.specs.Abs.{Inp, inp, Mem, mem, mem_of, Walk, inp_of, kind_in, flag_in, kids_in, ctx_at, abs_at, ReadyOf, Ready, Paired, among, Does, lifted}
-use Rattle.sifc_step.specs.Small.{OnlyGrows, over, growing, Expects, HeadWord, Pushes, Idents, Puts}
-use Rattle.sifc_step.specs.Items.{beside}
+use Rattle.sifc_step.specs.Abs.{Inp, inp, Mem, mem, mem_of, Walk, inp_of, kind_in, flag_in, kids_in, ctx_at, abs_at, ReadyOf, Ready, Paired, Kept, among, Does, lifted}
+use Rattle.sifc_step.specs.Small.{OnlyGrows, Expects, Pushes, Idents, Puts}
+use Rattle.sifc_step.specs.Items.{beside, Sight, seen, OnlyBuilds}
 use Rattle.sifc_step.proofs.Steps.{nested, ready-after, begin, by, read, go, stop, refused, last, fin, kept-on, blank, length-nodes}
-use Rattle.sifc_step.proofs.Small.{given, handed, pushed-as, least}
+use Rattle.sifc_step.proofs.Small.{given, least}
+use Rattle.sifc_step.proofs.Items.{still-read, still-lent}
 use Rattle.sifc_step.proofs.Told.{Any, Named, told, ident-passes, push-grows}
-use Rattle.sifc_declare.specs.Promise.{freely, limited, Declares, Midst, OnlyBuilds, DoesAny, listed, node_and_name, array_and_name}
+use Rattle.sifc_declare.specs.Promise.{freely, limited, Declares, Midst, DoesAny, listed, node_and_name, array_and_name}
 
 -- a token passed and a node more, which is the token's
 abbrev NodedAs : St → ℕ → St → Type 0
@@ -46,29 +46,19 @@ pub midst : {p : Parser} → Ready p → Midst p
 midst {p} r = record { script = p.script.now; symbols = p.symbols.now; ready = r }
 
 module _ (s ys : List ℕ) where
-  -- a step that leaves what is read, and one that leaves the nodes' words too
-  still-read : (p q : Parser) → inp_of q ≡ inp_of p → growing (inp s p.offs.now p.words.now p.lim) ys q ≡ beside s ys q
-  still-read p q e = ap (λ (I : Inp). growing (inp s I.offs I.words I.lim) ys q) (sym e)
-
-  still-lent : (p q : Parser) → inp_of q ≡ inp_of p → q.head ≡ p.head → q.load ≡ p.load → over s (mem ys p.head.now p.load.now) p q ≡ beside s ys q
-  still-lent p q e a b =
-      ap (λ (x : MutBor (List ℕ)). over s (mem ys x.now p.load.now) p q) (sym a)
-      ∙ ap (λ (x : MutBor (List ℕ)). over s (mem ys q.head.now x.now) p q) (sym b)
-      ∙ still-read p q e
-
   pub named-beside : {p q : Parser} {why : Why} {r : Result ℕ Stop} (y : ℕ → Why) → Idents p why r q → y p.at ≡ why → Does 0 (λ c. ident c y) (beside s ys p) r (beside s ys q)
   named-beside {p} {q} {r = r} y d e =
-      subst (λ (x : Parser). Does 0 (λ c. ident c y) (beside s ys p) r x) (still-lent p q (ap inp_of d.alone) (ap (λ (x : Parser). x.head) d.alone) (ap (λ (x : Parser). x.load) d.alone))
+      subst (λ (x : Parser). Does 0 (λ c. ident c y) (beside s ys p) r x) (still-lent s ys p q (ap inp_of d.alone) (ap (λ (x : Parser). x.head) d.alone) (ap (λ (x : Parser). x.load) d.alone))
       (least (d.whatever s (mem ys p.head.now p.load.now) y e))
 
   pub expect-beside : {p q : Parser} {ty : ℕ} {r : Result (Unit {0}) Stop} → Expects p ty r q → Does 0 (λ c. expect c ty) (beside s ys p) r (beside s ys q)
   expect-beside {p} {q} {ty} {r} d =
-      subst (λ (x : Parser). Does 0 (λ c. expect c ty) (beside s ys p) r x) (still-lent p q (ap inp_of d.alone) (ap (λ (x : Parser). x.head) d.alone) (ap (λ (x : Parser). x.load) d.alone))
+      subst (λ (x : Parser). Does 0 (λ c. expect c ty) (beside s ys p) r x) (still-lent s ys p q (ap inp_of d.alone) (ap (λ (x : Parser). x.head) d.alone) (ap (λ (x : Parser). x.load) d.alone))
       (least (d.whatever s (mem ys p.head.now p.load.now)))
 
   pub push-beside : {p q : Parser} {w t : ℕ} {r : Result (Unit {0}) Refusal} → Pushes p w t r q → Does 0 (λ c. push c (kind_in w) (flag_in w) (kids_in w) t) (beside s ys p) (lifted r) (beside s ys q)
   push-beside {p} {q} {w} {t} {r} d =
-      subst (λ (x : Parser). Does 0 (λ c. push c (kind_in w) (flag_in w) (kids_in w) t) (beside s ys p) (lifted r) x) (still-read p q (ap inp_of d.alone)) (d.whatever (inp s p.offs.now p.words.now p.lim) ys)
+      subst (λ (x : Parser). Does 0 (λ c. push c (kind_in w) (flag_in w) (kids_in w) t) (beside s ys p) (lifted r) x) (still-read s ys p q (ap inp_of d.alone)) (d.whatever (inp s p.offs.now p.words.now p.lim) ys)
 
 -- a parser that was ready is so where a value is given
 pub past : {A : Type 0} {j : ℕ} {f : Ctx → St → Out A} {p q : Parser} {a : A} → Ready p → Does j f p (Ok a) q → Ready q
@@ -98,8 +88,41 @@ expect-builds {p} d = subst (λ (x : Parser). OnlyBuilds p x) (sym d.alone) refl
 pub push-builds : {p q : Parser} {w t : ℕ} {r : Result (Unit {0}) Refusal} → Pushes p w t r q → OnlyBuilds p q
 push-builds {p} d = subst (λ (x : Parser). OnlyBuilds p x) (sym d.alone) refl
 
-pub builds-on : (p q z : Parser) → OnlyBuilds p q → OnlyBuilds q z → OnlyBuilds p z
-builds-on p q z a b = b ∙ ap (λ (x : Parser). record x { at = z.at; errors = z.errors; head = z.head; load = z.load; nodes = z.nodes }) a
+-- what is lent is the same memory and as long, where it is so seen one way
+kept-own : {p q : Parser} (s ys : List ℕ) → OnlyBuilds p q → Kept (beside s ys p) (beside s ys q) → Kept p q
+kept-own s ys a k =
+    record {
+      inp = ap inp_of a;
+      symbols_name = ap (λ (x : Parser). x.symbols.ghost_name) a;
+      head_name = k.head_name;
+      load_name = k.load_name;
+      symbols = ap (λ (x : Parser). length x.symbols.now) a;
+      head = k.head;
+      load = k.load;
+    }
+
+kept-beside : {p q : Parser} (s ys : List ℕ) → Kept p q → Kept (beside s ys p) (beside s ys q)
+kept-beside s ys k =
+    record {
+      inp = ap (λ (I : Inp). inp s I.offs I.words I.lim) k.inp;
+      symbols_name = k.symbols_name;
+      head_name = k.head_name;
+      load_name = k.load_name;
+      symbols = refl;
+      head = k.head;
+      load = k.load;
+    }
+
+-- what is done however the parser is seen
+pub seen-any : {A : Type 0} {f : Ctx → St → Out A} (p q : Parser) {x : Result A Stop} → Midst p → OnlyBuilds p q → ((v : Sight) → Ready (seen v p) → Does 0 f (seen v p) x (seen v q)) → DoesAny 0 f p x q
+seen-any p q m a h =
+    let k = kept-own {p = p} {q = q} m.script m.symbols a (h (Some (m.script, m.symbols)) m.ready).kept in
+    record { does = given k (h None); alone = a; whatever = λ s ys. given (kept-beside s ys k) (h (Some (s, ys))) }
+
+-- and the other way round
+pub any-seen : {A : Type 0} {f : Ctx → St → Out A} {p q : Parser} {x : Result A Stop} (v : Sight) → DoesAny 0 f p x q → Does 0 f (seen v p) x (seen v q)
+any-seen None d = d.does
+any-seen (Some y) d = d.whatever y.0 y.1
 
 -- ── a name and its node, and the same as a parameter ──
 
@@ -148,13 +171,13 @@ module _ {p : Parser} where
         unfolding ident_pair
         pair-refused d =
             given (kept-on (kept-on (kept-on d1.kept d2.kept) d3.kept) d.kept) (λ r.
-                refused (λ c. push c 11 false 2 0) _ (λ c. ident_pair c) (go (λ c. ident_node c) _ (go (λ c. expect c 12) _ (go (λ c. ident_node c) _ (begin 0 (λ c. ident_pair c) r) d1) d2) d3) d refl)
+            refused (λ c. push c 11 false 2 0) _ (λ c. ident_pair c) (go (λ c. ident_node c) _ (go (λ c. expect c 12) _ (go (λ c. ident_node c) _ (begin 0 (λ c. ident_pair c) r) d1) d2) d3) d refl)
 
         pub pair-done : Does 0 (λ c. push c 11 false 2 0) q3 (Ok tt) q4 → Does 0 (λ c. ident_pair c) p (Ok (i ∷ j ∷ [])) q4
         unfolding ident_pair
         pair-done d =
             given (kept-on (kept-on (kept-on d1.kept d2.kept) d3.kept) d.kept) (λ r.
-                fin (λ c. ident_pair c) (go (λ c. push c 11 false 2 0) _ (go (λ c. ident_node c) _ (go (λ c. expect c 12) _ (go (λ c. ident_node c) _ (begin 0 (λ c. ident_pair c) r) d1) d2) d3) d))
+            fin (λ c. ident_pair c) (go (λ c. push c 11 false 2 0) _ (go (λ c. ident_node c) _ (go (λ c. expect c 12) _ (go (λ c. ident_node c) _ (begin 0 (λ c. ident_pair c) r) d1) d2) d3) d))
 
 -- a parser that lists nothing, before and after a node more
 pub free-on : (p q : Parser) → OnlyGrows p q → Paired q → Ready (freely p) → Ready (freely q)

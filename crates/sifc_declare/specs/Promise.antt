@@ -1,5 +1,5 @@
 -- What the functions of this crate promise beside the definition of their own name.
-use Rattle.std.specs.Prelude.{ℕ, ◌<◌, ◌≡◌, List, [], ◌∷◌, Result, Ok, Err as Stopped, IfOk}
+use Rattle.std.specs.Prelude.{ℕ, ◌<◌, List, [], ◌∷◌, Result, Ok, Err as Stopped, IfOk}
 use Rattle.sifc_err.specs.declared.Refusal.{Refusal}
 use Rattle.sifc_def.specs.declared.What.TheVariants.{Other}
 use Rattle.sifc_def.specs.State.{Ctx, St, Out, Void, ◌>>◌, consume, push}
@@ -10,7 +10,7 @@ use Rattle.sifc_step.specs.declared.walk.Limits.{Limits}
 use Rattle.sifc_step.specs.declared.walk.Parser.{Parser}
 use Rattle.sifc_step.specs.declared.walk.Stop.{Stop}
 use Rattle.sifc_step.specs.Abs.{inp, mem_of, kind_in, flag_in, kids_in, among, Ready, Does, lifted}
-use Rattle.sifc_step.specs.Items.{beside}
+use Rattle.sifc_step.specs.Items.{beside, OnlyBuilds}
 
 -- a parser that a value leaves is past token a
 abbrev pub AheadOf : {A : Type 0} → ℕ → Result A Stop → Parser → Type 0
@@ -35,10 +35,6 @@ pub record Midst (p : Parser) : Type 0 where
   pub script : List ℕ
   pub symbols : List ℕ
   pub ready : Ready (beside script symbols p)
-
--- all but the token in front, how many errors are listed, and the nodes
-abbrev pub OnlyBuilds : Parser → Parser → Type 0
-OnlyBuilds p q = q ≡ record p { at = q.at; errors = q.errors; head = q.head; load = q.load; nodes = q.nodes }
 
 -- what such a function promises: f, whatever the script and the symbols are
 pub record DoesAny {A : Type 0} (j : ℕ) (f : Ctx → St → Out A) (p : Parser) (r : Result A Stop) (q : Parser) : Type 0 where

@@ -2,7 +2,6 @@
 ghost use Rattle.std.specs.Prelude.{◌≤◌, ◌<◌, IfOk};
 ghost use Rattle.sifc_def.specs.Expr.{fuel, param_list};
 ghost use Rattle.sifc_def.specs.Stmt.{ident_node, param, ident_pair};
-ghost use Rattle.sifc_step.specs.Abs.{Ready, Does};
 ghost use Rattle.sifc_declare.specs.Promise.{Midst, DoesAny, listed};
 
 use sifc_def::Why;
@@ -35,8 +34,8 @@ fn param(p: &mut Parser<'_>) -> Result<(), Stop>
 
 // The parameters of a function: how many there are.
 pub fn param_list(p: &mut Parser<'_>) -> Result<usize, Stop>
-    requires { Ready p.old }
-    ensures { Does 0 (λ c. param_list c (param c) (fuel c) 0) p.old result p.new × IfOk result (λ n. (n ≤ 64) × (n ≤ p.new.nodes)) }
+    requires { Midst p.old }
+    ensures { DoesAny 0 (λ c. param_list c (param c) (fuel c) 0) p.old result p.new × IfOk result (λ n. (n ≤ 64) × (n ≤ p.new.nodes)) }
 {
     sifc_step::param_list(p, param)
 }

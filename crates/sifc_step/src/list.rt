@@ -3,7 +3,7 @@ ghost use Rattle.std.specs.Prelude.{◌≤◌, IfOk};
 ghost use Rattle.sifc_def.specs.State.{Ctx, Void};
 ghost use Rattle.sifc_def.specs.Expr.{fuel, param_list};
 ghost use Rattle.sifc_step.specs.Abs.{Ready, Does};
-ghost use Rattle.sifc_step.specs.Items.{Reads, Appends};
+ghost use Rattle.sifc_step.specs.Items.{Sight, seen, OnlyBuilds, ReadsAs, Lists, Appends, Builds};
 
 use crate::walk::{Parser, Stop};
 use sifc_def::Why;
@@ -18,12 +18,11 @@ pub fn param_list<F: Fn(&mut Parser<'_>) -> Result<(), Stop>>(
     p: &mut Parser<'_>,
     item: F,
 ) -> Result<usize, Stop>
-    requires ready { Ready p.old }
-    requires callable { (q : _) → Ready q.now → F.pre item q }
-    requires items { (def : Ctx → Void) × Reads (F.post item) def }
-    ensures does { (def : Ctx → Void) → Reads (F.post item) def → Does 0 (λ c. param_list c (def c) (fuel c) 0) p.old result p.new }
+    requires { Lists (F.pre item) (F.post item) p.old }
+    ensures does { (v : Sight) → (def : Ctx → Void) → ReadsAs v (F.post item) def → Ready (seen v p.old) → Does 0 (λ c. param_list c (def c) (fuel c) 0) (seen v p.old) result (seen v p.new) }
     ensures few { IfOk result (λ n. n ≤ 64) }
     ensures nodes { Appends (F.post item) → IfOk result (λ n. n ≤ p.new.nodes) }
+    ensures alone { Builds (F.post item) → OnlyBuilds p.old p.new }
 {
     // The tokens end the loop, in three ways, and not a number of turns: a `for` would be no plainer.
     let mut n = 0;

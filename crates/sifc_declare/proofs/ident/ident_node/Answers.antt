@@ -1,7 +1,8 @@
 use Rattle.std.proofs.Common.{arith, refl}
 use Rattle.sifc_err.specs.declared.parse_err.ParseErrTy.TheVariants.{ExpectedIdent}
 use Rattle.sifc_step.proofs.Small.{named, paired}
-use Rattle.sifc_declare.proofs.Ends.{named-beside, push-beside, name-builds, push-builds, builds-on, past, named-amid, node-stops, node-refused, node-done, conveyed-any}
+use Rattle.sifc_step.proofs.Items.{builds-on}
+use Rattle.sifc_declare.proofs.Ends.{named-beside, push-beside, name-builds, push-builds, past, named-amid, node-stops, node-refused, node-done, conveyed-any}
 use Rattle.sifc_declare.proofs.ident.ident_node.Goals as goal
 
 pub match_ident-requires : goal.match_ident-requires

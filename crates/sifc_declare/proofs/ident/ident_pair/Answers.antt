@@ -1,6 +1,7 @@
 use Rattle.std.proofs.Common.{arith}
 use Rattle.sifc_step.proofs.Small.{least, paired}
-use Rattle.sifc_declare.proofs.Ends.{expect-beside, push-beside, expect-builds, push-builds, builds-on, pair-first, pair-comma, pair-second, pair-refused, pair-done, pair-stops, node-next, past-any, past-expect}
+use Rattle.sifc_step.proofs.Items.{builds-on}
+use Rattle.sifc_declare.proofs.Ends.{expect-beside, push-beside, expect-builds, push-builds, pair-first, pair-comma, pair-second, pair-refused, pair-done, pair-stops, node-next, past-any, past-expect}
 use Rattle.sifc_declare.proofs.ident.ident_pair.Goals as goal
 
 pub returns-in_err-first : goal.returns-in_err-first

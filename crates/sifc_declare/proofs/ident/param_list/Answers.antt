@@ -1,10 +1,24 @@
+use Rattle.std.specs.Prelude.{Some}
 use Rattle.std.proofs.Common.{rules}
 use Rattle.sifc_def.specs.Stmt.{param}
-use Rattle.sifc_declare.proofs.Ends.{few-nodes}
+use Rattle.sifc_declare.proofs.Ends.{few-nodes, any-seen, seen-any}
 use Rattle.sifc_declare.proofs.ident.param_list.Goals as goal
 
-pub param_list-requires-clause-items : goal.param_list-requires-clause-items
-param_list-requires-clause-items c = ((λ x. param x), search rules)
+pub param_list-requires : goal.param_list-requires
+param_list-requires c =
+    let m = c.requires in
+    record {
+      sight = Some (m.script, m.symbols);
+      ready = m.ready;
+      callable = λ q r. record { script = m.script; symbols = m.symbols; ready = r };
+      item = λ x. param x;
+      reads = record { does = λ p q r z x. any-seen (Some (m.script, m.symbols)) x.0; ahead = λ p q z x. x.1.0 };
+    }
 
 pub returns : goal.returns
-returns c = (c.param_list.ensures.does _ (search rules), few-nodes c.param_list.new.p.nodes c.param_list.result c.param_list.ensures.few (c.param_list.ensures.nodes (search rules)))
+returns c =
+    let e = c.param_list.ensures in (
+      seen-any c.args.p.now c.param_list.new.p c.requires (e.alone (search rules))
+          (λ v r. e.does v (λ x. param x) (record { does = λ p q r z x. any-seen v x.0; ahead = λ p q z x. x.1.0 }) r),
+      few-nodes c.param_list.new.p.nodes c.param_list.result e.few (e.nodes (search rules)),
+    )

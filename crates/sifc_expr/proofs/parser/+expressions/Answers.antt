@@ -1,3 +1,4 @@
+use Rattle.std.specs.Prelude.{None}
 use Rattle.std.proofs.Common.{rules, length, ◌-◌, false, true, arith, refl, sym, ap, ◌∙◌, eq-eqb, ne_eqb}
 use Rattle.sifc_err.specs.declared.parse_err.ParseErrTy.TheVariants.{InvalidTkn}
 use Rattle.sifc_def.specs.State.{consume, expect, push, throw_past}
@@ -82,15 +83,25 @@ call-returns-in_err-consume t c =
     let p0 = begin 0 (λ x. call_part x (walkers x c.args.depth) (node_of c.args.target) c.args.p.now.at) c.requires in
     conveyed (refused (λ x. consume x) _ (λ x. call_part x (walkers x c.args.depth) (node_of c.args.target) c.args.p.now.at) p0 c.in_err-consume.ensures.does refl) c.from_residual.ensures
 
-pub call-param_list-requires-clause-items : goal.call-param_list-requires-clause-items
-call-param_list-requires-clause-items t c = ((λ x. (walkers x c.args.depth).assign), reads (λ p q r z x. search rules))
+pub call-param_list-requires : goal.call-param_list-requires
+unfolding call_part
+call-param_list-requires t c =
+    let p0 = begin 0 (λ x. call_part x (walkers x c.args.depth) (node_of c.args.target) c.args.p.now.at) c.requires in
+    let p1 = go (λ x. consume x) _ p0 c.in_ok-consume.ensures.does in
+    record {
+      sight = None;
+      ready = p1.is;
+      callable = λ q r. search rules;
+      item = λ x. (walkers x c.args.depth).assign;
+      reads = reads (λ p q r z x. search rules);
+    }
 
 pub call-expect-requires : goal.call-expect-requires
 unfolding call_part
 call-expect-requires t c =
     let p0 = begin 0 (λ x. call_part x (walkers x c.args.depth) (node_of c.args.target) c.args.p.now.at) c.requires in
     let p1 = go (λ x. consume x) _ p0 c.in_ok-consume.ensures.does in
-    let p2 = go (λ x. param_list x (walkers x c.args.depth).assign (fuel x) 0) _ p1 (c.in_ok-n.ensures.does _ (reads (λ p q r z x. search rules))) in
+    let p2 = go (λ x. param_list x (walkers x c.args.depth).assign (fuel x) 0) _ p1 (c.in_ok-n.ensures.does None _ (reads (λ p q r z x. search rules)) p1.is) in
     p2.is.stands
 
 pub call-call_named-requires : goal.call-call_named-requires
@@ -98,7 +109,7 @@ unfolding call_part
 call-call_named-requires t c =
     let p0 = begin 0 (λ x. call_part x (walkers x c.args.depth) (node_of c.args.target) c.args.p.now.at) c.requires in
     let p1 = go (λ x. consume x) _ p0 c.in_ok-consume.ensures.does in
-    let p2 = go (λ x. param_list x (walkers x c.args.depth).assign (fuel x) 0) _ p1 (c.in_ok-n.ensures.does _ (reads (λ p q r z x. search rules))) in
+    let p2 = go (λ x. param_list x (walkers x c.args.depth).assign (fuel x) 0) _ p1 (c.in_ok-n.ensures.does None _ (reads (λ p q r z x. search rules)) p1.is) in
     let p3 = go (λ x. expect x 2) _ p2 c.in_ok-expect.ensures.does in
     (p3.is, omega (arith, c.requires.stands.here, ap (λ (I : Inp). length I.words) p3.kept.inp), c.in_ok-n.ensures.few)
 
@@ -107,14 +118,14 @@ unfolding call_part
 call-returns-in_err-n t c =
     let p0 = begin 0 (λ x. call_part x (walkers x c.args.depth) (node_of c.args.target) c.args.p.now.at) c.requires in
     let p1 = go (λ x. consume x) _ p0 c.in_ok-consume.ensures.does in
-    conveyed (stop (λ x. param_list x (walkers x c.args.depth).assign (fuel x) 0) _ (λ x. call_part x (walkers x c.args.depth) (node_of c.args.target) c.args.p.now.at) p1 (omega arith) (c.in_err-n.ensures.does _ (reads (λ p q r z x. search rules)))) c.from_residual-in_err-n.ensures
+    conveyed (stop (λ x. param_list x (walkers x c.args.depth).assign (fuel x) 0) _ (λ x. call_part x (walkers x c.args.depth) (node_of c.args.target) c.args.p.now.at) p1 (omega arith) (c.in_err-n.ensures.does None _ (reads (λ p q r z x. search rules)) p1.is)) c.from_residual-in_err-n.ensures
 
 pub call-returns-in_err-expect : goal.call-returns-in_err-expect
 unfolding call_part
 call-returns-in_err-expect t c =
     let p0 = begin 0 (λ x. call_part x (walkers x c.args.depth) (node_of c.args.target) c.args.p.now.at) c.requires in
     let p1 = go (λ x. consume x) _ p0 c.in_ok-consume.ensures.does in
-    let p2 = go (λ x. param_list x (walkers x c.args.depth).assign (fuel x) 0) _ p1 (c.in_ok-n.ensures.does _ (reads (λ p q r z x. search rules))) in
+    let p2 = go (λ x. param_list x (walkers x c.args.depth).assign (fuel x) 0) _ p1 (c.in_ok-n.ensures.does None _ (reads (λ p q r z x. search rules)) p1.is) in
     conveyed (stop (λ x. expect x 2) _ (λ x. call_part x (walkers x c.args.depth) (node_of c.args.target) c.args.p.now.at) p2 (omega arith) c.in_err-expect.ensures.does) c.from_residual-in_err-expect.ensures
 
 pub call-returns : goal.call-returns
@@ -122,7 +133,7 @@ unfolding call_part
 call-returns t c =
     let p0 = begin 0 (λ x. call_part x (walkers x c.args.depth) (node_of c.args.target) c.args.p.now.at) c.requires in
     let p1 = go (λ x. consume x) _ p0 c.in_ok-consume.ensures.does in
-    let p2 = go (λ x. param_list x (walkers x c.args.depth).assign (fuel x) 0) _ p1 (c.in_ok-n.ensures.does _ (reads (λ p q r z x. search rules))) in
+    let p2 = go (λ x. param_list x (walkers x c.args.depth).assign (fuel x) 0) _ p1 (c.in_ok-n.ensures.does None _ (reads (λ p q r z x. search rules)) p1.is) in
     let p3 = go (λ x. expect x 2) _ p2 c.in_ok-expect.ensures.does in
     last (λ x. call_named x (node_of c.args.target) c.args.p.now.at c.in_ok-n.n) (λ x. call_part x (walkers x c.args.depth) (node_of c.args.target) c.args.p.now.at) p3 (omega arith) c.call_named.ensures
 

@@ -15,6 +15,7 @@ use Rattle.sifc_stmt.proofs.Taken.{taken}
 use Rattle.sifc_block.specs.Bound.{names_of, end_block, between}
 use Rattle.sifc_block.proofs.Steps.{conveyed, quiet, goes, stops, lasts, ends, reads, kind-of, if-yes, if-no, booked}
 use Rattle.sifc_block.proofs.Ends.{amid}
+use Rattle.sifc_declare.proofs.Ends.{midst}
 use Rattle.sifc_parse.proofs.Turns.{opens, block-step, block_none, block-named, turning, turn-own, onward, retold}
 use Rattle.sifc_parse.proofs.Inside.{passed, brace, expect-level, moved-nodes, scope-nodes, push-nodes, nodes-more, names-kept, names-same, names-fit, bound-as, here-few}
 use Rattle.sifc_parse.proofs.parser.+declarations.Goals.{branches-in-40+in_ok-elif_stmt-in-40, branches-in-41+in_ok-else_block-in-41}
@@ -325,7 +326,7 @@ fn_decl-param_list-requires t c =
     let g2 = goes (λ x. ident x ExpectedIdent) _ g1 (quiet c.args.book.now (named ExpectedIdent c.in_ok-i.ensures refl)) in
     let g3 = goes (λ x. store x c.in_ok-i.i Placeholder) _ g2 (quiet c.args.book.now (c.in_ok-store_name.ensures.does)) in
     let g4 = goes (λ x. expect x 1) _ g3 (quiet c.args.book.now (c.in_ok-expect-2.ensures.does)) in
-    g4.is
+    midst g4.is
 
 pub fn_decl-returns-in_err-n : goal.fn_decl-returns-in_err-n
 unfolding fn_decl
@@ -335,7 +336,7 @@ fn_decl-returns-in_err-n t c =
     let g2 = goes (λ x. ident x ExpectedIdent) _ g1 (quiet c.args.book.now (named ExpectedIdent c.in_ok-i.ensures refl)) in
     let g3 = goes (λ x. store x c.in_ok-i.i Placeholder) _ g2 (quiet c.args.book.now (c.in_ok-store_name.ensures.does)) in
     let g4 = goes (λ x. expect x 1) _ g3 (quiet c.args.book.now (c.in_ok-expect-2.ensures.does)) in
-    conveyed (stops (λ x. param_list x (param x) (fuel x) 0) _ (λ x. fn_decl x (walkers x c.args.depth)) g4 (omega arith) (quiet c.args.book.now (c.in_err-n.ensures.0))) c.from_residual-in_err-n.ensures
+    conveyed (stops (λ x. param_list x (param x) (fuel x) 0) _ (λ x. fn_decl x (walkers x c.args.depth)) g4 (omega arith) (quiet c.args.book.now (c.in_err-n.ensures.0.does))) c.from_residual-in_err-n.ensures
 
 pub fn_decl-push_node-requires : goal.fn_decl-push_node-requires
 unfolding fn_decl
@@ -345,7 +346,7 @@ fn_decl-push_node-requires t c =
     let g2 = goes (λ x. ident x ExpectedIdent) _ g1 (quiet c.args.book.now (named ExpectedIdent c.in_ok-i.ensures refl)) in
     let g3 = goes (λ x. store x c.in_ok-i.i Placeholder) _ g2 (quiet c.args.book.now (c.in_ok-store_name.ensures.does)) in
     let g4 = goes (λ x. expect x 1) _ g3 (quiet c.args.book.now (c.in_ok-expect-2.ensures.does)) in
-    let g5 = goes (λ x. param_list x (param x) (fuel x) 0) _ g4 (quiet c.args.book.now (c.in_ok-n.ensures.0)) in
+    let g5 = goes (λ x. param_list x (param x) (fuel x) 0) _ g4 (quiet c.args.book.now (c.in_ok-n.ensures.0.does)) in
     let g6 = reads (λ (s : St). reverse (map (λ (y : Node). y.pay) (take c.in_ok-n.n s.nodes))) _ g5 (λ E. refl) in
     paired g6.is
 
@@ -357,7 +358,7 @@ fn_decl-returns-in_err-push_node t c =
     let g2 = goes (λ x. ident x ExpectedIdent) _ g1 (quiet c.args.book.now (named ExpectedIdent c.in_ok-i.ensures refl)) in
     let g3 = goes (λ x. store x c.in_ok-i.i Placeholder) _ g2 (quiet c.args.book.now (c.in_ok-store_name.ensures.does)) in
     let g4 = goes (λ x. expect x 1) _ g3 (quiet c.args.book.now (c.in_ok-expect-2.ensures.does)) in
-    let g5 = goes (λ x. param_list x (param x) (fuel x) 0) _ g4 (quiet c.args.book.now (c.in_ok-n.ensures.0)) in
+    let g5 = goes (λ x. param_list x (param x) (fuel x) 0) _ g4 (quiet c.args.book.now (c.in_ok-n.ensures.0.does)) in
     let g6 = reads (λ (s : St). reverse (map (λ (y : Node). y.pay) (take c.in_ok-n.n s.nodes))) _ g5 (λ E. refl) in
     conveyed (stops (λ x. push x 10 false c.in_ok-n.n 0) _ (λ x. fn_decl x (walkers x c.args.depth)) g6 (omega arith) (quiet c.args.book.now (pushed-as 0 c.head_word.ensures c.in_err-push_node.ensures.does))) c.from_residual-in_err-push_node.ensures
 
@@ -369,7 +370,7 @@ fn_decl-expect-requires-3 t c =
     let g2 = goes (λ x. ident x ExpectedIdent) _ g1 (quiet c.args.book.now (named ExpectedIdent c.in_ok-i.ensures refl)) in
     let g3 = goes (λ x. store x c.in_ok-i.i Placeholder) _ g2 (quiet c.args.book.now (c.in_ok-store_name.ensures.does)) in
     let g4 = goes (λ x. expect x 1) _ g3 (quiet c.args.book.now (c.in_ok-expect-2.ensures.does)) in
-    let g5 = goes (λ x. param_list x (param x) (fuel x) 0) _ g4 (quiet c.args.book.now (c.in_ok-n.ensures.0)) in
+    let g5 = goes (λ x. param_list x (param x) (fuel x) 0) _ g4 (quiet c.args.book.now (c.in_ok-n.ensures.0.does)) in
     let g6 = reads (λ (s : St). reverse (map (λ (y : Node). y.pay) (take c.in_ok-n.n s.nodes))) _ g5 (λ E. refl) in
     let g7 = goes (λ x. push x 10 false c.in_ok-n.n 0) _ g6 (quiet c.args.book.now (pushed-as 0 c.head_word.ensures c.in_ok-push_node.ensures.does)) in
     g7.is.stands
@@ -382,7 +383,7 @@ fn_decl-returns-in_err-expect-3 t c =
     let g2 = goes (λ x. ident x ExpectedIdent) _ g1 (quiet c.args.book.now (named ExpectedIdent c.in_ok-i.ensures refl)) in
     let g3 = goes (λ x. store x c.in_ok-i.i Placeholder) _ g2 (quiet c.args.book.now (c.in_ok-store_name.ensures.does)) in
     let g4 = goes (λ x. expect x 1) _ g3 (quiet c.args.book.now (c.in_ok-expect-2.ensures.does)) in
-    let g5 = goes (λ x. param_list x (param x) (fuel x) 0) _ g4 (quiet c.args.book.now (c.in_ok-n.ensures.0)) in
+    let g5 = goes (λ x. param_list x (param x) (fuel x) 0) _ g4 (quiet c.args.book.now (c.in_ok-n.ensures.0.does)) in
     let g6 = reads (λ (s : St). reverse (map (λ (y : Node). y.pay) (take c.in_ok-n.n s.nodes))) _ g5 (λ E. refl) in
     let g7 = goes (λ x. push x 10 false c.in_ok-n.n 0) _ g6 (quiet c.args.book.now (pushed-as 0 c.head_word.ensures c.in_ok-push_node.ensures.does)) in
     conveyed (stops (λ x. expect x 2) _ (λ x. fn_decl x (walkers x c.args.depth)) g7 (omega arith) (quiet c.args.book.now (c.in_err-expect-3.ensures.does))) c.from_residual-in_err-expect-3.ensures
@@ -395,7 +396,7 @@ fn_decl-block-requires t c =
     let g2 = goes (λ x. ident x ExpectedIdent) _ g1 (quiet c.args.book.now (named ExpectedIdent c.in_ok-i.ensures refl)) in
     let g3 = goes (λ x. store x c.in_ok-i.i Placeholder) _ g2 (quiet c.args.book.now (c.in_ok-store_name.ensures.does)) in
     let g4 = goes (λ x. expect x 1) _ g3 (quiet c.args.book.now (c.in_ok-expect-2.ensures.does)) in
-    let g5 = goes (λ x. param_list x (param x) (fuel x) 0) _ g4 (quiet c.args.book.now (c.in_ok-n.ensures.0)) in
+    let g5 = goes (λ x. param_list x (param x) (fuel x) 0) _ g4 (quiet c.args.book.now (c.in_ok-n.ensures.0.does)) in
     let g6 = reads (λ (s : St). reverse (map (λ (y : Node). y.pay) (take c.in_ok-n.n s.nodes))) _ g5 (λ E. refl) in
     let g7 = goes (λ x. push x 10 false c.in_ok-n.n 0) _ g6 (quiet c.args.book.now (pushed-as 0 c.head_word.ensures c.in_ok-push_node.ensures.does)) in
     let g8 = goes (λ x. expect x 2) _ g7 (quiet c.args.book.now (c.in_ok-expect-3.ensures.does)) in
@@ -410,7 +411,7 @@ fn_decl-returns-in_err-block t c =
     let g2 = goes (λ x. ident x ExpectedIdent) _ g1 (quiet c.args.book.now (named ExpectedIdent c.in_ok-i.ensures refl)) in
     let g3 = goes (λ x. store x c.in_ok-i.i Placeholder) _ g2 (quiet c.args.book.now (c.in_ok-store_name.ensures.does)) in
     let g4 = goes (λ x. expect x 1) _ g3 (quiet c.args.book.now (c.in_ok-expect-2.ensures.does)) in
-    let g5 = goes (λ x. param_list x (param x) (fuel x) 0) _ g4 (quiet c.args.book.now (c.in_ok-n.ensures.0)) in
+    let g5 = goes (λ x. param_list x (param x) (fuel x) 0) _ g4 (quiet c.args.book.now (c.in_ok-n.ensures.0.does)) in
     let g6 = reads (λ (s : St). reverse (map (λ (y : Node). y.pay) (take c.in_ok-n.n s.nodes))) _ g5 (λ E. refl) in
     let g7 = goes (λ x. push x 10 false c.in_ok-n.n 0) _ g6 (quiet c.args.book.now (pushed-as 0 c.head_word.ensures c.in_ok-push_node.ensures.does)) in
     let g8 = goes (λ x. expect x 2) _ g7 (quiet c.args.book.now (c.in_ok-expect-3.ensures.does)) in
@@ -425,7 +426,7 @@ fn_decl-push_node-requires-2 t c =
     let g2 = goes (λ x. ident x ExpectedIdent) _ g1 (quiet c.args.book.now (named ExpectedIdent c.in_ok-i.ensures refl)) in
     let g3 = goes (λ x. store x c.in_ok-i.i Placeholder) _ g2 (quiet c.args.book.now (c.in_ok-store_name.ensures.does)) in
     let g4 = goes (λ x. expect x 1) _ g3 (quiet c.args.book.now (c.in_ok-expect-2.ensures.does)) in
-    let g5 = goes (λ x. param_list x (param x) (fuel x) 0) _ g4 (quiet c.args.book.now (c.in_ok-n.ensures.0)) in
+    let g5 = goes (λ x. param_list x (param x) (fuel x) 0) _ g4 (quiet c.args.book.now (c.in_ok-n.ensures.0.does)) in
     let g6 = reads (λ (s : St). reverse (map (λ (y : Node). y.pay) (take c.in_ok-n.n s.nodes))) _ g5 (λ E. refl) in
     let g7 = goes (λ x. push x 10 false c.in_ok-n.n 0) _ g6 (quiet c.args.book.now (pushed-as 0 c.head_word.ensures c.in_ok-push_node.ensures.does)) in
     let g8 = goes (λ x. expect x 2) _ g7 (quiet c.args.book.now (c.in_ok-expect-3.ensures.does)) in
@@ -441,7 +442,7 @@ fn_decl-returns-in_err-push_node-2 t c =
     let g2 = goes (λ x. ident x ExpectedIdent) _ g1 (quiet c.args.book.now (named ExpectedIdent c.in_ok-i.ensures refl)) in
     let g3 = goes (λ x. store x c.in_ok-i.i Placeholder) _ g2 (quiet c.args.book.now (c.in_ok-store_name.ensures.does)) in
     let g4 = goes (λ x. expect x 1) _ g3 (quiet c.args.book.now (c.in_ok-expect-2.ensures.does)) in
-    let g5 = goes (λ x. param_list x (param x) (fuel x) 0) _ g4 (quiet c.args.book.now (c.in_ok-n.ensures.0)) in
+    let g5 = goes (λ x. param_list x (param x) (fuel x) 0) _ g4 (quiet c.args.book.now (c.in_ok-n.ensures.0.does)) in
     let g6 = reads (λ (s : St). reverse (map (λ (y : Node). y.pay) (take c.in_ok-n.n s.nodes))) _ g5 (λ E. refl) in
     let g7 = goes (λ x. push x 10 false c.in_ok-n.n 0) _ g6 (quiet c.args.book.now (pushed-as 0 c.head_word.ensures c.in_ok-push_node.ensures.does)) in
     let g8 = goes (λ x. expect x 2) _ g7 (quiet c.args.book.now (c.in_ok-expect-3.ensures.does)) in
@@ -457,7 +458,7 @@ fn_decl-store_name-requires-2 t c =
     let g2 = goes (λ x. ident x ExpectedIdent) _ g1 (quiet c.args.book.now (named ExpectedIdent c.in_ok-i.ensures refl)) in
     let g3 = goes (λ x. store x c.in_ok-i.i Placeholder) _ g2 (quiet c.args.book.now (c.in_ok-store_name.ensures.does)) in
     let g4 = goes (λ x. expect x 1) _ g3 (quiet c.args.book.now (c.in_ok-expect-2.ensures.does)) in
-    let g5 = goes (λ x. param_list x (param x) (fuel x) 0) _ g4 (quiet c.args.book.now (c.in_ok-n.ensures.0)) in
+    let g5 = goes (λ x. param_list x (param x) (fuel x) 0) _ g4 (quiet c.args.book.now (c.in_ok-n.ensures.0.does)) in
     let g6 = reads (λ (s : St). reverse (map (λ (y : Node). y.pay) (take c.in_ok-n.n s.nodes))) _ g5 (λ E. refl) in
     let g7 = goes (λ x. push x 10 false c.in_ok-n.n 0) _ g6 (quiet c.args.book.now (pushed-as 0 c.head_word.ensures c.in_ok-push_node.ensures.does)) in
     let g8 = goes (λ x. expect x 2) _ g7 (quiet c.args.book.now (c.in_ok-expect-3.ensures.does)) in
@@ -474,7 +475,7 @@ fn_decl-returns-in_err-store_name-2 t c =
     let g2 = goes (λ x. ident x ExpectedIdent) _ g1 (quiet c.args.book.now (named ExpectedIdent c.in_ok-i.ensures refl)) in
     let g3 = goes (λ x. store x c.in_ok-i.i Placeholder) _ g2 (quiet c.args.book.now (c.in_ok-store_name.ensures.does)) in
     let g4 = goes (λ x. expect x 1) _ g3 (quiet c.args.book.now (c.in_ok-expect-2.ensures.does)) in
-    let g5 = goes (λ x. param_list x (param x) (fuel x) 0) _ g4 (quiet c.args.book.now (c.in_ok-n.ensures.0)) in
+    let g5 = goes (λ x. param_list x (param x) (fuel x) 0) _ g4 (quiet c.args.book.now (c.in_ok-n.ensures.0.does)) in
     let g6 = reads (λ (s : St). reverse (map (λ (y : Node). y.pay) (take c.in_ok-n.n s.nodes))) _ g5 (λ E. refl) in
     let g7 = goes (λ x. push x 10 false c.in_ok-n.n 0) _ g6 (quiet c.args.book.now (pushed-as 0 c.head_word.ensures c.in_ok-push_node.ensures.does)) in
     let g8 = goes (λ x. expect x 2) _ g7 (quiet c.args.book.now (c.in_ok-expect-3.ensures.does)) in
@@ -491,7 +492,7 @@ fn_decl-returns t c =
     let g2 = goes (λ x. ident x ExpectedIdent) _ g1 (quiet c.args.book.now (named ExpectedIdent c.in_ok-i.ensures refl)) in
     let g3 = goes (λ x. store x c.in_ok-i.i Placeholder) _ g2 (quiet c.args.book.now (c.in_ok-store_name.ensures.does)) in
     let g4 = goes (λ x. expect x 1) _ g3 (quiet c.args.book.now (c.in_ok-expect-2.ensures.does)) in
-    let g5 = goes (λ x. param_list x (param x) (fuel x) 0) _ g4 (quiet c.args.book.now (c.in_ok-n.ensures.0)) in
+    let g5 = goes (λ x. param_list x (param x) (fuel x) 0) _ g4 (quiet c.args.book.now (c.in_ok-n.ensures.0.does)) in
     let g6 = reads (λ (s : St). reverse (map (λ (y : Node). y.pay) (take c.in_ok-n.n s.nodes))) _ g5 (λ E. refl) in
     let g7 = goes (λ x. push x 10 false c.in_ok-n.n 0) _ g6 (quiet c.args.book.now (pushed-as 0 c.head_word.ensures c.in_ok-push_node.ensures.does)) in
     let g8 = goes (λ x. expect x 2) _ g7 (quiet c.args.book.now (c.in_ok-expect-3.ensures.does)) in
@@ -506,19 +507,26 @@ for_stmt-returns-in_err-expect t c =
     let g0 = opens 1 (λ x. for_stmt x (walkers x c.args.depth)) c.args.book.now c.requires.0 in
     conveyed (stops (λ x. expect x 42) _ (λ x. for_stmt x (walkers x c.args.depth)) g0 (omega arith) (quiet c.args.book.now (taken 42 c.requires.2 (λ z. omega arith) c.in_err-expect.ensures.does))) c.from_residual.ensures
 
+pub for_stmt-ident_pair-requires : goal.for_stmt-ident_pair-requires
+unfolding for_stmt
+for_stmt-ident_pair-requires t c =
+    let g0 = opens 1 (λ x. for_stmt x (walkers x c.args.depth)) c.args.book.now c.requires.0 in
+    let g1 = goes (λ x. expect x 42) _ g0 (quiet c.args.book.now (taken 42 c.requires.2 (λ z. omega arith) c.in_ok-expect.ensures.does)) in
+    midst g1.is
+
 pub for_stmt-returns-in_err-i : goal.for_stmt-returns-in_err-i
 unfolding for_stmt
 for_stmt-returns-in_err-i t c =
     let g0 = opens 1 (λ x. for_stmt x (walkers x c.args.depth)) c.args.book.now c.requires.0 in
     let g1 = goes (λ x. expect x 42) _ g0 (quiet c.args.book.now (taken 42 c.requires.2 (λ z. omega arith) c.in_ok-expect.ensures.does)) in
-    conveyed (stops (λ x. ident_pair x) _ (λ x. for_stmt x (walkers x c.args.depth)) g1 (omega arith) (quiet c.args.book.now (c.in_err-i.ensures.0))) c.from_residual-in_err-i.ensures
+    conveyed (stops (λ x. ident_pair x) _ (λ x. for_stmt x (walkers x c.args.depth)) g1 (omega arith) (quiet c.args.book.now (c.in_err-i.ensures.0.does))) c.from_residual-in_err-i.ensures
 
 pub for_stmt-returns-in_err-expect-2 : goal.for_stmt-returns-in_err-expect-2
 unfolding for_stmt
 for_stmt-returns-in_err-expect-2 t c =
     let g0 = opens 1 (λ x. for_stmt x (walkers x c.args.depth)) c.args.book.now c.requires.0 in
     let g1 = goes (λ x. expect x 42) _ g0 (quiet c.args.book.now (taken 42 c.requires.2 (λ z. omega arith) c.in_ok-expect.ensures.does)) in
-    let g2 = goes (λ x. ident_pair x) _ g1 (quiet c.args.book.now (c.in_ok-i.ensures.0)) in
+    let g2 = goes (λ x. ident_pair x) _ g1 (quiet c.args.book.now (c.in_ok-i.ensures.0.does)) in
     conveyed (stops (λ x. expect x 43) _ (λ x. for_stmt x (walkers x c.args.depth)) g2 (omega arith) (quiet c.args.book.now (c.in_err-expect-2.ensures.does))) c.from_residual-in_err-expect-2.ensures
 
 pub for_stmt-returns-in_err-expr : goal.for_stmt-returns-in_err-expr
@@ -526,7 +534,7 @@ unfolding for_stmt
 for_stmt-returns-in_err-expr t c =
     let g0 = opens 1 (λ x. for_stmt x (walkers x c.args.depth)) c.args.book.now c.requires.0 in
     let g1 = goes (λ x. expect x 42) _ g0 (quiet c.args.book.now (taken 42 c.requires.2 (λ z. omega arith) c.in_ok-expect.ensures.does)) in
-    let g2 = goes (λ x. ident_pair x) _ g1 (quiet c.args.book.now (c.in_ok-i.ensures.0)) in
+    let g2 = goes (λ x. ident_pair x) _ g1 (quiet c.args.book.now (c.in_ok-i.ensures.0.does)) in
     let g3 = goes (λ x. expect x 43) _ g2 (quiet c.args.book.now (c.in_ok-expect-2.ensures.does)) in
     conveyed (stops (λ x. (walkers x c.args.depth).assign) _ (λ x. for_stmt x (walkers x c.args.depth)) g3 (omega arith) (quiet c.args.book.now (c.in_err-expr.ensures))) c.from_residual-in_err-expr.ensures
 
@@ -535,7 +543,7 @@ unfolding for_stmt
 for_stmt-block-requires t c =
     let g0 = opens 1 (λ x. for_stmt x (walkers x c.args.depth)) c.args.book.now c.requires.0 in
     let g1 = goes (λ x. expect x 42) _ g0 (quiet c.args.book.now (taken 42 c.requires.2 (λ z. omega arith) c.in_ok-expect.ensures.does)) in
-    let g2 = goes (λ x. ident_pair x) _ g1 (quiet c.args.book.now (c.in_ok-i.ensures.0)) in
+    let g2 = goes (λ x. ident_pair x) _ g1 (quiet c.args.book.now (c.in_ok-i.ensures.0.does)) in
     let g3 = goes (λ x. expect x 43) _ g2 (quiet c.args.book.now (c.in_ok-expect-2.ensures.does)) in
     let g4 = goes (λ x. (walkers x c.args.depth).assign) _ g3 (quiet c.args.book.now (c.in_ok-expr.ensures)) in
     (omega (arith, c.decreases), (g4.is, booked c.requires.1 g4, c.in_ok-i.ensures.1))
@@ -545,7 +553,7 @@ unfolding for_stmt
 for_stmt-returns-in_err-block t c =
     let g0 = opens 1 (λ x. for_stmt x (walkers x c.args.depth)) c.args.book.now c.requires.0 in
     let g1 = goes (λ x. expect x 42) _ g0 (quiet c.args.book.now (taken 42 c.requires.2 (λ z. omega arith) c.in_ok-expect.ensures.does)) in
-    let g2 = goes (λ x. ident_pair x) _ g1 (quiet c.args.book.now (c.in_ok-i.ensures.0)) in
+    let g2 = goes (λ x. ident_pair x) _ g1 (quiet c.args.book.now (c.in_ok-i.ensures.0.does)) in
     let g3 = goes (λ x. expect x 43) _ g2 (quiet c.args.book.now (c.in_ok-expect-2.ensures.does)) in
     let g4 = goes (λ x. (walkers x c.args.depth).assign) _ g3 (quiet c.args.book.now (c.in_ok-expr.ensures)) in
     conveyed (stops (λ x. (walkers x c.args.depth).block false (c.in_ok-i.i ∷ c.in_ok-i.j ∷ [])) _ (λ x. for_stmt x (walkers x c.args.depth)) g4 (omega arith) (c.in_err-block.ensures.does 0 (omega arith) (λ z. refl))) c.from_residual-in_err-block.ensures
@@ -555,7 +563,7 @@ unfolding for_stmt
 for_stmt-push_node-requires t c =
     let g0 = opens 1 (λ x. for_stmt x (walkers x c.args.depth)) c.args.book.now c.requires.0 in
     let g1 = goes (λ x. expect x 42) _ g0 (quiet c.args.book.now (taken 42 c.requires.2 (λ z. omega arith) c.in_ok-expect.ensures.does)) in
-    let g2 = goes (λ x. ident_pair x) _ g1 (quiet c.args.book.now (c.in_ok-i.ensures.0)) in
+    let g2 = goes (λ x. ident_pair x) _ g1 (quiet c.args.book.now (c.in_ok-i.ensures.0.does)) in
     let g3 = goes (λ x. expect x 43) _ g2 (quiet c.args.book.now (c.in_ok-expect-2.ensures.does)) in
     let g4 = goes (λ x. (walkers x c.args.depth).assign) _ g3 (quiet c.args.book.now (c.in_ok-expr.ensures)) in
     let g5 = goes (λ x. (walkers x c.args.depth).block false (c.in_ok-i.i ∷ c.in_ok-i.j ∷ [])) _ g4 (c.in_ok-block.ensures.does 0 (omega arith) (λ z. refl)) in
@@ -566,7 +574,7 @@ unfolding for_stmt
 for_stmt-returns-in_err-push_node t c =
     let g0 = opens 1 (λ x. for_stmt x (walkers x c.args.depth)) c.args.book.now c.requires.0 in
     let g1 = goes (λ x. expect x 42) _ g0 (quiet c.args.book.now (taken 42 c.requires.2 (λ z. omega arith) c.in_ok-expect.ensures.does)) in
-    let g2 = goes (λ x. ident_pair x) _ g1 (quiet c.args.book.now (c.in_ok-i.ensures.0)) in
+    let g2 = goes (λ x. ident_pair x) _ g1 (quiet c.args.book.now (c.in_ok-i.ensures.0.does)) in
     let g3 = goes (λ x. expect x 43) _ g2 (quiet c.args.book.now (c.in_ok-expect-2.ensures.does)) in
     let g4 = goes (λ x. (walkers x c.args.depth).assign) _ g3 (quiet c.args.book.now (c.in_ok-expr.ensures)) in
     let g5 = goes (λ x. (walkers x c.args.depth).block false (c.in_ok-i.i ∷ c.in_ok-i.j ∷ [])) _ g4 (c.in_ok-block.ensures.does 0 (omega arith) (λ z. refl)) in
@@ -577,7 +585,7 @@ unfolding for_stmt
 for_stmt-returns t c =
     let g0 = opens 1 (λ x. for_stmt x (walkers x c.args.depth)) c.args.book.now c.requires.0 in
     let g1 = goes (λ x. expect x 42) _ g0 (quiet c.args.book.now (taken 42 c.requires.2 (λ z. omega arith) c.in_ok-expect.ensures.does)) in
-    let g2 = goes (λ x. ident_pair x) _ g1 (quiet c.args.book.now (c.in_ok-i.ensures.0)) in
+    let g2 = goes (λ x. ident_pair x) _ g1 (quiet c.args.book.now (c.in_ok-i.ensures.0.does)) in
     let g3 = goes (λ x. expect x 43) _ g2 (quiet c.args.book.now (c.in_ok-expect-2.ensures.does)) in
     let g4 = goes (λ x. (walkers x c.args.depth).assign) _ g3 (quiet c.args.book.now (c.in_ok-expr.ensures)) in
     let g5 = goes (λ x. (walkers x c.args.depth).block false (c.in_ok-i.i ∷ c.in_ok-i.j ∷ [])) _ g4 (c.in_ok-block.ensures.does 0 (omega arith) (λ z. refl)) in
