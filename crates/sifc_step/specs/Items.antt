@@ -48,8 +48,11 @@ pub record Lists (pre : MutBor Parser → Type 0) (post : MutBor Parser → Resu
   pub reads : ReadsAs sight post item
 
 -- and appends a node
-pub record Appends (post : MutBor Parser → Result (Unit {0}) Stop → MutBor Parser → Type 0) : Type 0 where
-  pub nodes : (p q : MutBor Parser) → post p (Ok tt) q → p.now.nodes < q.now.nodes
+pub record AppendsAs (v : Sight) (post : MutBor Parser → Result (Unit {0}) Stop → MutBor Parser → Type 0) : Type 0 where
+  pub nodes : (p q : MutBor Parser) → Ready (seen v p.now) → post p (Ok tt) q → p.now.nodes < q.now.nodes
+
+abbrev pub Appends : (MutBor Parser → Result (Unit {0}) Stop → MutBor Parser → Type 0) → Type 0
+Appends post = AppendsAs None post
 
 -- and leaves the rest as it was
 pub record Builds (post : MutBor Parser → Result (Unit {0}) Stop → MutBor Parser → Type 0) : Type 0 where

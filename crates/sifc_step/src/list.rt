@@ -3,7 +3,7 @@ ghost use Rattle.std.specs.Prelude.{◌≤◌, IfOk};
 ghost use Rattle.sifc_def.specs.State.{Ctx, Void};
 ghost use Rattle.sifc_def.specs.Expr.{fuel, param_list};
 ghost use Rattle.sifc_step.specs.Abs.{Ready, Does};
-ghost use Rattle.sifc_step.specs.Items.{Sight, seen, OnlyBuilds, ReadsAs, Lists, Appends, Builds};
+ghost use Rattle.sifc_step.specs.Items.{Sight, seen, OnlyBuilds, ReadsAs, Lists, AppendsAs, Builds};
 
 use crate::walk::{Parser, Stop};
 use sifc_def::Why;
@@ -21,7 +21,7 @@ pub fn param_list<F: Fn(&mut Parser<'_>) -> Result<(), Stop>>(
     requires { Lists (F.pre item) (F.post item) p.old }
     ensures does { (v : Sight) → (def : Ctx → Void) → ReadsAs v (F.post item) def → Ready (seen v p.old) → Does 0 (λ c. param_list c (def c) (fuel c) 0) (seen v p.old) result (seen v p.new) }
     ensures few { IfOk result (λ n. n ≤ 64) }
-    ensures nodes { Appends (F.post item) → IfOk result (λ n. n ≤ p.new.nodes) }
+    ensures nodes { (v : Sight) → (def : Ctx → Void) → ReadsAs v (F.post item) def → AppendsAs v (F.post item) → Ready (seen v p.old) → IfOk result (λ n. n ≤ p.new.nodes) }
     ensures alone { Builds (F.post item) → OnlyBuilds p.old p.new }
 {
     // The tokens end the loop, in three ways, and not a number of turns: a `for` would be no plainer.

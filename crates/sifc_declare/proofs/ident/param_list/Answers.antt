@@ -17,8 +17,11 @@ param_list-requires c =
 
 pub returns : goal.returns
 returns c =
-    let e = c.param_list.ensures in (
-      seen-any c.args.p.now c.param_list.new.p c.requires (e.alone (search rules))
+    let e = c.param_list.ensures in
+    let m = c.requires in
+    let v = Some (m.script, m.symbols) in (
+      seen-any c.args.p.now c.param_list.new.p m (e.alone (search rules))
           (λ v r. e.does v (λ x. param x) (record { does = λ p q r z x. any-seen v x.0; ahead = λ p q z x. x.1.0 }) r),
-      few-nodes c.param_list.new.p.nodes c.param_list.result e.few (e.nodes (search rules)),
+      few-nodes c.param_list.new.p.nodes c.param_list.result e.few
+          (e.nodes v (λ x. param x) (record { does = λ p q r z x. any-seen v x.0; ahead = λ p q z x. x.1.0 }) (record { nodes = λ p q z x. x.1.1 }) m.ready),
     )

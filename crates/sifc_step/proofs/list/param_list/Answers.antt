@@ -11,7 +11,7 @@ use Rattle.sifc_step.proofs.Items.{separates-seen, throws-seen, builds-on, separ
 use Rattle.sifc_step.proofs.list.param_list.Goals as goal
 
 pub loop-item-init : goal.loop-item-init
-loop-item-init g c = (λ v def h r. looping (λ x f. param_list x (def x) f 0) r, omega arith, λ a. omega arith, λ b. refl)
+loop-item-init g c = (λ v def h r. looping (λ x f. param_list x (def x) f 0) r, omega arith, λ v def h a r. omega arith, λ b. refl)
 
 pub returns-then-k-eq-RIGHT_PAREN-clause-does : goal.returns-then-k-eq-RIGHT_PAREN-clause-does
 returns-then-k-eq-RIGHT_PAREN-clause-does g c = λ v def h r.
@@ -78,7 +78,9 @@ loop-item-preserved g c =
           let p3 = go (λ x. separator x) _ p2 sep in
           recount def c.loop-item.n (onward (c.loop-item.invariant.0 v def h r) {loop' = λ x f. param_list x (def x) f (suc c.loop-item.n)} (omega (arith, h.ahead _ _ p1.is c.in_ok-item.ensures, (sep.fine p2.is).on)) p3),
       omega (arith, c.if-n-ge-FN_PARAM_MAX_LEN.false),
-      λ a. omega (arith, c.loop-item.invariant.2 a, a.nodes _ _ c.in_ok-item.ensures, same),
+      λ v def h a r.
+          let p1 = listed-item def _ _ (turn-own (c.loop-item.invariant.0 v def h r)) (λ z. c.if-k-eq-RIGHT_PAREN.false (c.kind-k.ensures ∙ z)) (omega (arith, c.if-n-ge-FN_PARAM_MAX_LEN.false)) (λ z. c.if-k-eq-EOF.false (c.kind-k.ensures ∙ z)) in
+          omega (arith, c.loop-item.invariant.2 v def h a r, a.nodes _ _ p1.is c.in_ok-item.ensures, same),
       λ b. builds-on c.args.p.now c.item.new.arg2 c.separator.new.self (builds-on c.args.p.now c.loop-item.p c.item.new.arg2 (c.loop-item.invariant.3 b) (b.alone _ _ _ c.in_ok-item.ensures)) (separates-builds c.in_ok-separator.ensures),
     )
 
