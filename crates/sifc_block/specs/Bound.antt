@@ -1,13 +1,15 @@
 -- The names that a block binds, and its end.
-use Rattle.std.specs.Prelude.{ℕ, zero, suc, ◌+◌, ◌≤◌, ◌<◌, List, [], ◌∷◌, Bool, false, length, get_or, Result, IfOk}
+use Rattle.std.specs.Prelude.{ℕ, zero, suc, ◌+◌, ◌≤◌, ◌<◌, List, [], ◌∷◌, Bool, false, ◌≡◌, length, get_or, Result, Ok, Err as Stopped, IfOk}
 use Rattle.sifc_err.specs.declared.Refusal.{Refusal}
 use Rattle.sifc_word.specs.Kind.{RightBrace}
 use Rattle.sifc_def.specs.Ast.{Block}
 use Rattle.sifc_def.specs.State.{Ctx, Void, ◌>>=◌, ◌>>◌, expect, push}
 use Rattle.sifc_def.specs.Symbols.{level_now, close_scope}
-use Rattle.sifc_def.specs.Stmt.{with_return}
+use Rattle.sifc_def.specs.Stmt.{bind, with_return}
+use Rattle.sifc_symtab.specs.Table.{Holds}
 use Rattle.sifc_step.specs.declared.walk.Parser.{Parser}
 use Rattle.sifc_step.specs.declared.walk.Stop.{Stop}
+use Rattle.sifc_step.specs.declared.walk.Stop.TheVariants.{Refused}
 use Rattle.sifc_step.specs.Abs.{Inp, inp_of, Ready, Does, Paired, lifted}
 use Rattle.sifc_step.specs.Small.{growing}
 use Rattle.sifc_block.specs.Lists.{SameSymbols}
@@ -37,6 +39,36 @@ end_block c body n = do
   close_scope c
   n' ← with_return c body n
   push c Block false n' scope
+
+-- ── what a function promises that is lent the symbols and no parser: the same of any ──
+
+-- the parser with this script, these tokens and symbols, so many of them in use, at this level
+abbrev pub called : List ℕ → List ℕ → List ℕ → List ℕ → ℕ → ℕ → Parser → Parser
+called s os ks ys n level p =
+    record p {
+      script = record (p.script) { now = s };
+      offs = record (p.offs) { now = os };
+      words = record (p.words) { now = ks };
+      symbols = record (p.symbols) { now = ys };
+      stored = n;
+      level = level;
+    }
+
+-- an answer that is a refusal or how many symbols are in use, of which a parser says only whether
+abbrev pub counted : Result ℕ Refusal → Result (Unit {0}) Stop
+counted (Ok m) = Ok tt
+counted (Stopped g) = Stopped (Refused g)
+
+-- and how many it has: where it is refused, as many as before
+abbrev pub in_use : ℕ → Result ℕ Refusal → ℕ
+in_use n (Ok m) = m
+in_use n (Stopped g) = n
+
+-- names stored, from n symbols in the words ys on: ys' are the words then
+pub record Binds (s os ks ys : List ℕ) (n level : ℕ) (names : List ℕ) (r : Result ℕ Refusal) (ys' : List ℕ) : Type 0 where
+  pub long : length ys' ≡ length ys
+  pub holds : IfOk r (λ m. Holds s os ks ys' m)
+  pub does : (p : Parser) → Does 0 (λ c. bind c names) (called s os ks ys n level p) (counted r) (called s os ks ys' (in_use n r) level p)
 
 -- ── what a function promises that looks at no symbol: the same whatever they are ──
 

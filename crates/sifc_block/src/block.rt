@@ -1,14 +1,16 @@
 // The names that a block binds, and its end.
 ghost use Rattle.std.specs.Prelude.{◌≡◌, ◌&&◌, [], ◌∷◌, eqb, ltb, length, ◌+◌, ◌%◌, ◌≤◌, ◌<◌};
 ghost use Rattle.sifc_def.specs.Stmt.{bind as bind_all};
+ghost use Rattle.sifc_symtab.specs.Table.{Holds};
 ghost use Rattle.sifc_step.specs.Abs.{Ready, Does, Paired, lifted};
 ghost use Rattle.sifc_step.specs.Small.{SameNodes};
-ghost use Rattle.sifc_block.specs.Bound.{names_of, NamesFit, between, Amid, Returns, EndsBlock};
+ghost use Rattle.sifc_block.specs.Bound.{names_of, NamesFit, between, Binds, Amid, Returns, EndsBlock};
 
 use sifc_def::What;
 use sifc_def::ast::{BLOCK, RETURN_STMT};
 use sifc_err::Refusal;
 use sifc_step::{Parser, Stop, head_word};
+use sifc_symtab::{Tokens, store};
 use sifc_word::kind::RIGHT_BRACE;
 
 // The tokens of the names that a block binds: none, the two of a loop, or the payloads of so many nodes
@@ -25,32 +27,86 @@ pub fn bind(p: &mut Parser<'_>, names: Names) -> Result<(), Refusal>
     requires { Ready p.old × NamesFit names p.old.load.now }
     ensures { Does 0 (λ c. bind_all c (names_of names p.old.load.now)) p.old (lifted result) p.new × SameNodes p.old p.new }
 {
+    let tokens = Tokens {
+        script: p.script,
+        offs: p.offs,
+        words: p.words,
+    };
+    p.stored = bind_within(tokens, p.symbols, p.stored, p.level, p.load, names)?;
+    Ok(())
+}
+
+// Those of a parser, which lends its payloads as it does its symbols: they are only read.
+fn bind_within(
+    tokens: Tokens<'_>,
+    symbols: &mut [u32],
+    stored: usize,
+    level: usize,
+    load: &mut [u32],
+    names: Names,
+) -> Result<usize, Refusal>
+    requires { Holds tokens.script.now tokens.offs.now tokens.words.now symbols.old stored × (level < 65536) × NamesFit names load.old }
+    ensures { Binds tokens.entry.script.now tokens.entry.offs.now tokens.entry.words.now symbols.old stored level (names_of names load.old) result symbols.new × (load.new ≡ load.old) }
+{
+    bind_names(tokens, symbols, stored, level, load, names)
+}
+
+// The same where the symbols alone are lent to be written, and no parser: how many there are then.
+pub fn bind_names(
+    tokens: Tokens<'_>,
+    symbols: &mut [u32],
+    stored: usize,
+    level: usize,
+    load: &[u32],
+    names: Names,
+) -> Result<usize, Refusal>
+    requires { Holds tokens.script.now tokens.offs.now tokens.words.now symbols.old stored × (level < 65536) × NamesFit names load.now }
+    ensures { Binds tokens.entry.script.now tokens.entry.offs.now tokens.entry.words.now symbols.old stored level (names_of names load.now) result symbols.new }
+{
     match names {
-        Names::Unnamed => Ok(()),
-        Names::Pair(i, j) => bind_pair(p, i, j),
-        Names::Params(first, count) => bind_params(p, first, count),
+        Names::Unnamed => Ok(stored),
+        Names::Pair(i, j) => bind_pair(tokens, symbols, stored, level, i, j),
+        Names::Params(first, count) => {
+            bind_params(tokens, symbols, stored, level, load, first, count)
+        }
     }
 }
 
 // The two names of a loop.
-fn bind_pair(p: &mut Parser<'_>, i: usize, j: usize) -> Result<(), Refusal>
-    requires { Ready p.old × (i < 65536) × (j < 65536) }
-    ensures { Does 0 (λ c. bind_all c (i ∷ j ∷ [])) p.old (lifted result) p.new × SameNodes p.old p.new }
+fn bind_pair(
+    tokens: Tokens<'_>,
+    symbols: &mut [u32],
+    stored: usize,
+    level: usize,
+    i: usize,
+    j: usize,
+) -> Result<usize, Refusal>
+    requires { Holds tokens.script.now tokens.offs.now tokens.words.now symbols.old stored × (level < 65536) × (i < 65536) × (j < 65536) }
+    ensures { Binds tokens.entry.script.now tokens.entry.offs.now tokens.entry.words.now symbols.old stored level (i ∷ j ∷ []) result symbols.new }
 {
-    p.store_name(i, What::Other)?;
-    p.store_name(j, What::Other)
+    let one = store(tokens, symbols, stored, level, i, What::Other)?;
+    store(tokens, symbols, one, level, j, What::Other)
 }
 
 // The parameters of a function.
-fn bind_params(p: &mut Parser<'_>, first: usize, count: usize) -> Result<(), Refusal>
-    requires { Ready p.old × (first + count ≤ length p.old.load.now) }
-    ensures { Does 0 (λ c. bind_all c (between p.old.load.now first count)) p.old (lifted result) p.new × SameNodes p.old p.new }
+fn bind_params(
+    tokens: Tokens<'_>,
+    symbols: &mut [u32],
+    stored: usize,
+    level: usize,
+    load: &[u32],
+    first: usize,
+    count: usize,
+) -> Result<usize, Refusal>
+    requires { Holds tokens.script.now tokens.offs.now tokens.words.now symbols.old stored × (level < 65536) × (first + count ≤ length load.now) }
+    ensures { Binds tokens.entry.script.now tokens.entry.offs.now tokens.entry.words.now symbols.old stored level (between load.now first count) result symbols.new }
 {
+    let mut n = stored;
     for k in first..first + count {
-        let i = p.load[k] as usize;
-        p.store_name(i, What::Other)?;
+        let i = load[k] as usize;
+        n = store(tokens, symbols, n, level, i, What::Other)?;
     }
-    Ok(())
+    Ok(n)
 }
 
 // Whether the last of n declarations is a return statement, by its first word.

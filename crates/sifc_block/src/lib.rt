@@ -4,5 +4,5 @@
 mod block;
 mod book;
 
-pub use block::{Names, bind, end_block};
+pub use block::{Names, bind, bind_names, end_block};
 pub use book::{Book, end_if};
