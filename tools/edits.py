@@ -8,6 +8,11 @@ type may be left out if no other function of the crate has the name. A trait's m
 refuses, has `# definition: sentence`. An edit may change the bodies of several functions; then the prover must
 find a fault in each, since a proof knows of another function its contract alone.
 
+After a `new:` line there may be a line `same: TEXT`, which `rt` doesn't read: a text of the same form as the wrong one that
+changes nothing. With these in place of the wrong texts of the edit's sources the crate must be proved, so that the wrong
+one is refused for what it answers and not for its form. Where a proof can't deal with the form, the edit changes that
+proof too (`file: proofs/..`), and then it must have such a line.
+
 A wrong answer counts for a public function if the edit names it, or names a function of the same crate that it
 reaches through functions that no other crate calls: what these answer is a part of its answer.
 
@@ -23,7 +28,8 @@ by a `for` over what a function of its type gives.
   tools/edits.py --each [CRATE..]   fails where an edit that names several functions leaves one of them without a fault of
                            its own: `rt ci` says the first fault alone, so each such edit is checked here once more, in a
                            copy of its crate, over the libraries that `rt all check` left in out/. Names the functions
-                           whose only faults are names that the edit took away
+                           whose only faults are names that the edit took away. Fails, too, where a crate is not proved
+                           with the lines `same:` of an edit
 """
 
 import os
@@ -168,20 +174,42 @@ class Edit:
         self.bad = [line for line in header if line.strip() and not HEADER.match(line)]
         self.lines = lines
 
-    def applied(self, folder):
-        """The texts of the files that it changes, by their paths below a crate's folder."""
-        texts = {}
+    def changes(self):
+        """What it changes: the file, the old text, the wrong one, and one that changes nothing, or None."""
+        found = []
         for line in self.lines:
             word, _, text = line.partition(" ")
             if word == "file:":
-                path = folder / text.strip()
-                texts.setdefault(path, path.read_text())
+                file = text.strip()
             elif word == "old:":
                 old = text
             elif word == "new:":
-                if texts[path].count(old) != 1:
-                    raise ValueError(f"{self.label}: a text is in {path.name} {texts[path].count(old)} times, and not once")
-                texts[path] = texts[path].replace(old, text)
+                found.append((file, old, text, None))
+            elif word == "same:":
+                found[-1] = (*found[-1][:3], text)
+        return found
+
+    def proves(self):
+        """Whether it changes a proof."""
+        return any(file.startswith("proofs/") for file, *_ in self.changes())
+
+    def compares(self):
+        """Whether it has a text that changes nothing."""
+        return any(same is not None for *_, same in self.changes())
+
+    def applied(self, folder, same=False):
+        """The texts of the files that it changes, by their paths below a crate's folder; or with what changes nothing in
+        place of the wrong texts of its sources."""
+        texts = {}
+        for file, old, wrong, right in self.changes():
+            new = right if same and not file.startswith("proofs/") else wrong
+            if new is None:
+                continue
+            path = folder / file
+            texts.setdefault(path, path.read_text())
+            if texts[path].count(old) != 1:
+                raise ValueError(f"{self.label}: a text is in {path.name} {texts[path].count(old)} times, and not once")
+            texts[path] = texts[path].replace(old, new)
         return texts
 
 
@@ -227,6 +255,8 @@ def faults_of(edit, functions):
     for name in names:
         if len(meant(name, functions)) != 1:
             faults.append(f"{where}: {name} is {'more than one' if meant(name, functions) else 'no'} function of {edit.crate}")
+    if edit.proves() and "definition" not in edit.names and not edit.compares():
+        faults.append(f"{where}: it changes a proof and has no line `same:`")
     if len(set(edit.names)) < len(edit.names) or len(meant_by(edit, functions)) < len(names):
         faults.append(f"{where}: it names a function twice")
     return faults
@@ -310,9 +340,9 @@ class Room:
         ran = subprocess.run(["rt", "check", "--jobs", "1"], cwd=self.folder, capture_output=True, text=True, errors="replace")
         return ran.returncode, ran.stdout + ran.stderr
 
-    def with_edit(self, edit):
-        """The same with an edit; the crate is then as it was."""
-        texts = edit.applied(self.folder)
+    def with_edit(self, edit, same=False):
+        """The same with an edit, or with its lines `same:`; the crate is then as it was."""
+        texts = edit.applied(self.folder, same)
         kept = {path: path.read_text() for path in texts}
         try:
             for path, text in texts.items():
@@ -323,28 +353,47 @@ class Room:
                 path.write_text(text)
 
 
+def same_faults(room, edit):
+    """The fault of an edit whose lines `same:` change something: with them the crate is not proved."""
+    status, said = room.with_edit(edit, same=True)
+    return [f"{room.crate}/{edit.label}: with its lines `same:` the crate is not proved: {said[-600:]}"] if status else []
+
+
+def own_faults(room, edit):
+    """Where an edit leaves a function that it names without a fault of its own; and the notes."""
+    status, said = room.with_edit(edit)
+    where = f"{room.crate}/{edit.label}"
+    faults = [] if status == 1 else [f"{where}: its check ended with status {status}"]
+    notes = []
+    for name in edit.names:
+        found = faults_in(said, name)
+        if not found:
+            faults.append(f"{where}: {name} is not refused for a fault of its own")
+        elif all(GONE.search(fault) for fault in found):
+            notes.append(f"{where}: {name} is refused as its proof names what the edit took away: {found[0][:160]}")
+    return faults, notes
+
+
 def each_of(crate, on, room):
-    """Of a crate's edits that name several functions: how many there are, the faults, and the notes."""
+    """Of a crate's edits that name several functions, and of the lines `same:` of its edits: how many there are, the
+    faults, and the notes."""
     edits = [edit for edit in edits_of(crate) if len(edit.names) > 1]
+    alike = [edit for edit in edits_of(crate) if edit.compares()]
+    count = len(edits) + len(alike)
     faults, notes = [], []
     try:
         room = Room(room, crate, on)
         status, said = room.checked()
         if status:
-            return len(edits), [f"{crate}: a copy of it is not proved: {said[-600:]}"], []
+            return count, [f"{crate}: a copy of it is not proved: {said[-600:]}"], []
+        for edit in alike:
+            faults += same_faults(room, edit)
         for edit in edits:
-            status, said = room.with_edit(edit)
-            if status != 1:
-                faults.append(f"{crate}/{edit.label}: its check ended with status {status}")
-            for name in edit.names:
-                found = faults_in(said, name)
-                if not found:
-                    faults.append(f"{crate}/{edit.label}: {name} is not refused for a fault of its own")
-                elif all(GONE.search(fault) for fault in found):
-                    notes.append(f"{crate}/{edit.label}: {name} is refused as its proof names what the edit took away: {found[0][:160]}")
+            found, noted = own_faults(room, edit)
+            faults, notes = faults + found, notes + noted
     except (OSError, ValueError) as error:
         faults.append(f"{crate}: {error}")
-    return len(edits), faults, notes
+    return count, faults, notes
 
 
 def lanes():
@@ -354,9 +403,10 @@ def lanes():
 
 
 def each_fault(crates):
-    """Where an edit that names several functions leaves one of them without a fault of its own."""
+    """Where an edit that names several functions leaves one of them without a fault of its own, or a line `same:` changes
+    something."""
     on = listed()
-    several = [crate for crate in crates or on if any(len(edit.names) > 1 for edit in edits_of(crate))]
+    several = [crate for crate in crates or on if any(len(edit.names) > 1 or edit.compares() for edit in edits_of(crate))]
     several.sort(key=lambda crate: -sum(path.stat().st_size for path in (CRATES / crate).glob("proofs/**/*.antt")))
     with tempfile.TemporaryDirectory(prefix="sif-edits-") as folder, ThreadPoolExecutor(lanes()) as pool:
         found = list(pool.map(lambda crate: each_of(crate, on, Path(folder) / crate), several))
