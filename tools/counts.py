@@ -1,5 +1,6 @@
 #!/usr/bin/env python3
-"""How much stands in the crates: crates, functions, statements, edits that must fail and wrong answers in them.
+"""How much stands in the crates: crates, functions, statements, edits that must fail, wrong answers in them, and texts
+beside these that change nothing (`same:`, tools/edits.py).
 
 .ci/counts has the numbers, and the gate holds the crates to it: what is taken away shows as a change of that file.
 
@@ -67,6 +68,7 @@ def counted():
         "statements": sum(statements(text) for text in laws()),
         "edits": len(edits),
         "wrong answers": sum(wrong_answers(text) for text in edits),
+        "texts that change nothing": sum(len(re.findall(r"^same: ", text, re.M)) for text in edits),
     }
     return "".join(f"{name}: {number}\n" for name, number in numbers.items())
 

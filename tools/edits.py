@@ -11,7 +11,8 @@ find a fault in each, since a proof knows of another function its contract alone
 After a `new:` line there may be a line `same: TEXT`, which `rt` doesn't read: a text of the same form as the wrong one that
 changes nothing. With these in place of the wrong texts of the edit's sources the crate must be proved, so that the wrong
 one is refused for what it answers and not for its form. Where a proof can't deal with the form, the edit changes that
-proof too (`file: proofs/..`), and then it must have such a line.
+proof too (`file: proofs/..`), and then the function whose proof it is must have such a line. That the form is the same
+is for a reader to see.
 
 A wrong answer counts for a public function if the edit names it, or names a function of the same crate that it
 reaches through functions that no other crate calls: what these answer is a part of its answer.
@@ -21,15 +22,16 @@ a method or another function of a type by `TYPE::NAME`, where it imports the typ
 by a `for` over what a function of its type gives.
 
   tools/edits.py           prints the table (docs/EDITS.md has it)
-  tools/edits.py --check   fails where an edit names no function, where a public function that another crate or
-                           a host calls has fewer than two wrong answers, or where docs/EDITS.md is another table
+  tools/edits.py --check   fails where an edit names no function or has a line that nobody reads, where a public function
+                           that another crate or a host calls has fewer than two wrong answers, or where docs/EDITS.md is
+                           another table
   tools/edits.py --logs LOG   fails where what `rt ci` wrote does not say of each edit that it is refused, by a fault that is
                            more than a name which the edit took away
   tools/edits.py --each [CRATE..]   fails where an edit that names several functions leaves one of them without a fault of
                            its own: `rt ci` says the first fault alone, so each such edit is checked here once more, in a
                            copy of its crate, over the libraries that `rt all check` left in out/. Names the functions
                            whose only faults are names that the edit took away. Fails, too, where a crate is not proved
-                           with the lines `same:` of an edit
+                           with the lines `same:` of an edit, which is then looked into even if it names one function
 """
 
 import os
@@ -38,6 +40,7 @@ import shutil
 import subprocess
 import sys
 import tempfile
+from collections import namedtuple
 from concurrent.futures import ThreadPoolExecutor
 from pathlib import Path
 
@@ -47,6 +50,8 @@ PAGE = ROOT / "docs" / "EDITS.md"
 LEAST = 2
 HEADER = re.compile(r"^# ([\w:]+): \S")
 USE = re.compile(r"^(pub )?use ([^;]*);", re.M)
+# the words that a line of an edit may begin with after the header, each with those of the line before it
+FOLLOWS = {"file:": ("", "new:", "same:"), "old:": ("file:", "new:", "same:"), "new:": ("old:",), "same:": ("new:",)}
 # what `rt ci` says of an edit
 TOLD = re.compile(r"^rt: must-fail (\S+)\.edit: (.*)$", re.M)
 # an error in a file of proofs: the folder, the file, the words
@@ -162,54 +167,60 @@ def called_elsewhere(crates):
     return callers
 
 
+# a change of an edit: the file, the old text, the wrong one, and one that changes nothing, or None
+Change = namedtuple("Change", "file old wrong same")
+
+
+def changes_of(lines):
+    """The changes that the lines of an edit say, and the lines that stand where nobody reads them."""
+    changes, unread, before = [], [], ""
+    for line in lines:
+        word, _, text = line.partition(" ")
+        if line.strip() and before not in FOLLOWS.get(word, ()):
+            unread.append(line)
+        elif word == "file:":
+            file, before = text.strip(), word
+        elif word == "old:":
+            old, before = text, word
+        elif word == "new:":
+            changes.append(Change(file, old, text, None))
+            before = word
+        elif word == "same:":
+            changes[-1] = changes[-1]._replace(same=text)
+            before = word
+    return changes, unread
+
+
 class Edit:
-    """An edit that must fail: its label, and the functions that it names."""
+    """An edit that must fail: its label, the functions that it names, and what it changes."""
 
     def __init__(self, path):
         self.label = path.stem
         self.crate = path.parent.parent.name
         lines = path.read_text().split("\n")
-        header = [line for line in lines[: lines.index(next(l for l in lines if l.startswith("file: ")))]]
+        first = lines.index(next(line for line in lines if line.startswith("file: ")))
+        header = lines[:first]
         self.names = [HEADER.match(line).group(1) for line in header if HEADER.match(line)]
         self.bad = [line for line in header if line.strip() and not HEADER.match(line)]
-        self.lines = lines
-
-    def changes(self):
-        """What it changes: the file, the old text, the wrong one, and one that changes nothing, or None."""
-        found = []
-        for line in self.lines:
-            word, _, text = line.partition(" ")
-            if word == "file:":
-                file = text.strip()
-            elif word == "old:":
-                old = text
-            elif word == "new:":
-                found.append((file, old, text, None))
-            elif word == "same:":
-                found[-1] = (*found[-1][:3], text)
-        return found
-
-    def proves(self):
-        """Whether it changes a proof."""
-        return any(file.startswith("proofs/") for file, *_ in self.changes())
+        self.changes, self.unread = changes_of(lines[first:])
 
     def compares(self):
         """Whether it has a text that changes nothing."""
-        return any(same is not None for *_, same in self.changes())
+        return any(change.same is not None for change in self.changes)
 
     def applied(self, folder, same=False):
         """The texts of the files that it changes, by their paths below a crate's folder; or with what changes nothing in
         place of the wrong texts of its sources."""
         texts = {}
-        for file, old, wrong, right in self.changes():
-            new = right if same and not file.startswith("proofs/") else wrong
+        for change in self.changes:
+            new = change.same if same and not change.file.startswith("proofs/") else change.wrong
             if new is None:
                 continue
-            path = folder / file
+            path = folder / change.file
             texts.setdefault(path, path.read_text())
-            if texts[path].count(old) != 1:
-                raise ValueError(f"{self.label}: a text is in {path.name} {texts[path].count(old)} times, and not once")
-            texts[path] = texts[path].replace(old, new)
+            if texts[path].count(change.old) != 1:
+                raise ValueError(f"{self.label}: a text is in {path.name} {texts[path].count(change.old)} times, and not once")
+            texts[path] = texts[path].replace(change.old, new)
         return texts
 
 
@@ -245,18 +256,43 @@ def meant_by(edit, functions):
     return {full for name in edit.names for full in meant(name, functions)}
 
 
+def holder(crate, file, text):
+    """The name of the function of a source file in which a text stands."""
+    source = (CRATES / crate / file).read_text()
+    starts = [start for start in FUNCTION.finditer(source) if start.start() <= source.find(text)]
+    return starts[-1].group(4) if starts else ""
+
+
+def same_lacks(edit):
+    """What is wrong with an edit's texts that change nothing. An edit that changes a definition may change proofs without."""
+    same = [change for change in edit.changes if change.same is not None]
+    faults = [f"a line `same:` of a proof: {it.same}" for it in same if it.file.startswith("proofs/")]
+    faults += [f"a line `same:` that is the old text: {it.same}" for it in same if it.same == it.old]
+    held = {}
+    for it in same:
+        if it.file.startswith("src/"):
+            name = holder(edit.crate, it.file, it.old)
+            held[name] = held.get(name, False) or it.same != it.wrong
+    faults += [f"the lines `same:` of {name} are the wrong text" for name, others in held.items() if not others]
+    proved = {it.file.split("/")[-2] for it in edit.changes if it.file.startswith("proofs/")}
+    if not any(it.file.startswith("specs/") for it in edit.changes):
+        lacking = [name for name in sorted(proved) if not (held if name.startswith("+") else name in held)]
+        faults += [f"it changes the proof of {name}, which has no line `same:`" for name in lacking]
+    return faults
+
+
 def faults_of(edit, functions):
-    """What is wrong with an edit's header."""
+    """What is wrong with an edit's lines."""
     where = f"{edit.crate}/{edit.label}"
     faults = [f"{where}: a header line without a function: {line}" for line in edit.bad]
+    faults += [f"{where}: a line that nobody reads there: {line}" for line in edit.unread]
+    faults += [f"{where}: {lack}" for lack in same_lacks(edit)]
     if not edit.names:
         faults.append(f"{where}: it names no function")
     names = [name for name in edit.names if name != "definition"]
     for name in names:
         if len(meant(name, functions)) != 1:
             faults.append(f"{where}: {name} is {'more than one' if meant(name, functions) else 'no'} function of {edit.crate}")
-    if edit.proves() and "definition" not in edit.names and not edit.compares():
-        faults.append(f"{where}: it changes a proof and has no line `same:`")
     if len(set(edit.names)) < len(edit.names) or len(meant_by(edit, functions)) < len(names):
         faults.append(f"{where}: it names a function twice")
     return faults
@@ -375,10 +411,10 @@ def own_faults(room, edit):
 
 
 def each_of(crate, on, room):
-    """Of a crate's edits that name several functions, and of the lines `same:` of its edits: how many there are, the
+    """Of a crate's edits that name several functions or have lines `same:`, and of these lines: how many there are, the
     faults, and the notes."""
-    edits = [edit for edit in edits_of(crate) if len(edit.names) > 1]
-    alike = [edit for edit in edits_of(crate) if edit.compares()]
+    edits = [edit for edit in edits_of(crate) if len(edit.names) > 1 or edit.compares()]
+    alike = [edit for edit in edits if edit.compares()]
     count = len(edits) + len(alike)
     faults, notes = [], []
     try:
