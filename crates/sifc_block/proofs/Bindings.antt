@@ -75,13 +75,13 @@ module _ {s os ks ys₀ : List ℕ} {n₀ level : ℕ} where
 
 -- ── parameters: the payloads from number k on ──
 
-between_more : (a : List ℕ) (k end : ℕ) → k < end → between a k (end - k) ≡ get_or a k 0 ∷ between a (k + 1) (end - (k + 1))
+pub between_more : (a : List ℕ) (k end : ℕ) → k < end → between a k (end - k) ≡ get_or a k 0 ∷ between a (k + 1) (end - (k + 1))
 unfolding between
 between_more a k end h =
     let e : end - k ≡ suc (end - (k + 1)) = omega arith in
     ap (between a k) e ∙ ap (λ (m : ℕ). get_or a k 0 ∷ between a m (end - (k + 1))) (sym (add-one k))
 
-between_none : (a : List ℕ) (k end : ℕ) → end ≤ k → between a k (end - k) ≡ []
+pub between_none : (a : List ℕ) (k end : ℕ) → end ≤ k → between a k (end - k) ≡ []
 unfolding between
 between_none a k end h = ap (between a k) (let e : end - k ≡ 0 = omega arith in e)
 

@@ -1,5 +1,5 @@
--- What the proofs of the functions for blocks and listed errors cite.
-use Rattle.std.specs.Prelude.{ℕ, suc, ◌+◌, ◌-◌, ◌≤◌, ◌<◌, ◌≡◌, refl, List, ◌∷◌, Bool, true, false, length, set, eqb, Result, Ok, Err as Stopped}
+-- What the proofs of the functions for blocks and listed errors cite, and laws of the names that a block binds.
+use Rattle.std.specs.Prelude.{ℕ, suc, ◌+◌, ◌-◌, ◌≤◌, ◌<◌, ◌≡◌, refl, List, [], ◌∷◌, Bool, true, false, length, get_or, set, eqb, Result, Ok, Err as Stopped, IsErr, IsErrAnd, IfOk}
 use Rattle.std.proofs.Common.{arith, sym, ap, ◌∙◌, lt-ltb, le-ltb, length-set}
 use Rattle.std.proofs.Math.Path.{subst}
 use Rattle.sifc_err.specs.declared.Refusal.{Refusal}
@@ -8,30 +8,36 @@ use Rattle.sifc_word.specs.Base.{if◌then◌otherwise◌}
 use Rattle.sifc_def.specs.declared.Err.{Err}
 use Rattle.sifc_def.specs.Why.{Why}
 use Rattle.sifc_err.specs.declared.parse_err.ParseErrTy.TheVariants.{InvalidIdent, InvalidTkn, InvalidTknMsg, InvalidAssign, InvalidForStmt, InvalidIfStmt, TknMismatch, FnParmCntExceeded, WrongFnParmCnt, UndeclSym, UnassignedVar, ExpectedIdent}
-use Rattle.sifc_def.specs.State.{err, go_on, list, add_error_w_pos, add_error, push}
-use Rattle.sifc_def.specs.Stmt.{end_if}
+use Rattle.sifc_def.specs.declared.What.TheVariants.{Other}
+use Rattle.sifc_def.specs.State.{Ctx, err, St, Out, done, fail, refuse, go_on, list, add_error_w_pos, add_error, push}
+use Rattle.sifc_def.specs.Symbols.{store}
+use Rattle.sifc_def.specs.Stmt.{bind, with_return, end_if}
 use Rattle.sifc_step.specs.declared.walk.Parser.{Parser}
 use Rattle.sifc_step.specs.declared.walk.Stop.{Stop}
 use Rattle.sifc_step.specs.declared.walk.Stop.TheVariants.{Refused}
-use Rattle.sifc_step.specs.Abs.{inp, mem, kind_in, flag_in, kids_in, listed_by, lifted, Does, Paired}
-use Rattle.sifc_step.specs.Small.{HeadWord, OnlyLists, under, growing, Pushes}
+use Rattle.sifc_step.specs.Abs.{inp, mem, kind_in, flag_in, kids_in, ctx_at, listed_by, lifted, Ready, Does, Paired}
+use Rattle.sifc_step.specs.Small.{HeadWord, OnlyLists, OnlyDeclares, SameNodes, under, growing, Pushes}
 use Rattle.sifc_step.specs.Book.{reason_of}
-use Rattle.sifc_step.proofs.Steps.{begin, by, kept-same, kept-on}
-use Rattle.sifc_step.proofs.Small.{pushed-as}
+use Rattle.sifc_step.proofs.Steps.{At, begin, by, fin, kept-same, kept-on}
+use Rattle.sifc_step.proofs.Small.{handed, pushed-as}
 use Rattle.sifc_step.proofs.Book.{notes-more}
 use Rattle.sifc_block.specs.declared.book.Book.{Book}
-use Rattle.sifc_block.specs.Lists.{Roomy, Writes, Lists, second_else, Elses, Noting, Noted}
+use Rattle.sifc_block.specs.declared.block.Names.{Names}
+use Rattle.sifc_block.specs.declared.block.Names.TheVariants.{Unnamed}
+use Rattle.sifc_block.specs.Bound.{between, names_of, NamesFit}
+use Rattle.sifc_block.specs.Lists.{Roomy, Writes, Lists, SameSymbols, second_else, Elses, Noting, Noted}
 use Rattle.sifc_block.proofs.Steps.{book-same, book-on, listing, ends, given, quiet, goes, stops, lasts}
+use Rattle.sifc_block.proofs.Bindings.{between_more, between_none}
 
 -- ── the second else ──
 
 module _ {p : Parser} {b : Book} {elses : ℕ} where
-  else-none : elses ≤ 1 → Lists 0 (λ c. second_else c elses) p b (Ok tt) p b
+  pub else-none : elses ≤ 1 → Lists 0 (λ c. second_else c elses) p b (Ok tt) p b
   unfolding if◌then◌otherwise◌
   else-none le = given (kept-same p) (book-same b) (λ r. ends (λ c. second_else c elses) (listing b (by (begin 0 (λ c. second_else c elses) r) (λ s. rw (le-ltb 1 elses le) refl))))
 
   module _ (lt : 1 < elses) where
-    else-full : p.lim.errors ≤ p.errors → Lists 0 (λ c. second_else c elses) p b (Stopped (Refused ErrorsFull)) p b
+    pub else-full : p.lim.errors ≤ p.errors → Lists 0 (λ c. second_else c elses) p b (Stopped (Refused ErrorsFull)) p b
     unfolding if◌then◌otherwise◌ add_error add_error_w_pos list go_on
     else-full ge = record {
       kept = kept-same p;
@@ -40,7 +46,7 @@ module _ {p : Parser} {b : Book} {elses : ℕ} where
       tells = λ r E e t. record { errs = E; notes = t; count = tt; same = sym (rw (lt-ltb 1 elses lt, e, le-ltb _ _ ge) refl) };
     }
 
-    else-listed : p.errors < p.lim.errors → Roomy p b → {c : Book} → Writes b p.errors p.at (reason_of InvalidIfStmt) c → Lists 0 (λ c. second_else c elses) p b (Ok tt) (record p { errors = p.errors + 1 }) c
+    pub else-listed : p.errors < p.lim.errors → Roomy p b → {c : Book} → Writes b p.errors p.at (reason_of InvalidIfStmt) c → Lists 0 (λ c. second_else c elses) p b (Ok tt) (record p { errors = p.errors + 1 }) c
     unfolding if◌then◌otherwise◌ add_error add_error_w_pos list go_on
     else-listed lw room {c} d = record {
       kept = record { inp = refl; symbols_name = refl; head_name = refl; load_name = refl; symbols = refl; head = refl; load = refl };
@@ -110,6 +116,67 @@ module _ {b : Book} {n : ℕ} {e : Err} (h : Noting b n e) where
             rw (z, y.places, y.reasons, x.places, x.reasons)
             (notes-more (set b.places.now (n - 1 - 1) e.place) (set b.reasons.now (n - 1 - 1) (reason_of (InvalidIdent e.place))) (err e.place (InvalidIdent e.place) ∷ E) e (n - 1) (omega (arith, l, z)) (simp length-set (omega (arith, h.room, h.listed, z))) (simp length-set (omega (arith, h.room, h.even, h.listed, z))) first);
       }
+
+-- ── the names that a block binds, of one parser; Bindings.antt has the same of any parser that has what a function was lent ──
+
+-- the name of a token that is read where it stood
+pub stored-as : {i k : ℕ} {p q : Parser} {x : Result (Unit {0}) Stop} → i ≡ k → Does 0 (λ c. store c i Other) p x q → Does 0 (λ c. store c k Other) p x q
+stored-as {p = p} {q = q} {x = x} e d = subst (λ (m : ℕ). Does 0 (λ c. store c m Other) p x q) e d
+
+-- nothing follows
+pub and_ok : (o : Out (Unit {0})) → go_on o (λ a s. done tt s) ≡ o
+unfolding go_on
+and_ok (done tt s) = refl
+and_ok (fail e s) = refl
+and_ok (refuse r) = refl
+
+-- what is left of the names, ns at the parser q, gives what all of them were to give
+abbrev pub Binding : List ℕ → Parser → List ℕ → Parser → Type 0
+Binding ns₀ p ns q = At 0 0 (λ s. bind (ctx_at p) ns₀ s) (λ s. bind (ctx_at p) ns s) p q
+
+-- all of them, from the first to the end
+pub binding-from : {p : Parser} (a : List ℕ) (first count : ℕ) → Ready p → Binding (between a first count) p (between a first ((first + count) - first)) p
+binding-from {p} a first count r =
+    subst (λ (m : ℕ). Binding (between a first count) p (between a first m) p) (let z : count ≡ (first + count) - first = omega arith in z) (begin 0 (λ c. bind c (between a first count)) r)
+
+-- the first of the names that are left, and none of them
+module _ (ns a : List ℕ) (k end : ℕ) {p q : Parser} (t : Binding ns p (between a k (end - k)) q) where
+  pub bind-first : k < end → At 0 0 (λ s. bind (ctx_at p) ns s) (λ s. go_on (store (ctx_at p) (get_or a k 0) Other s) (λ x. bind (ctx_at p) (between a (k + 1) (end - (k + 1))))) p q
+  unfolding bind
+  bind-first h = by t (λ s. ap (λ (l : List ℕ). bind (ctx_at p) l s) (between_more a k end h))
+
+  pub bind-end : end ≤ k → At 0 0 (λ s. bind (ctx_at p) ns s) (λ s. done tt s) p q
+  unfolding bind
+  bind-end h = by t (λ s. ap (λ (l : List ℕ). bind (ctx_at p) l s) (between_none a k end h))
+
+-- a name that is stored leaves the nodes' words
+pub nodes-still : (p q : Parser) → OnlyDeclares p q → SameNodes p q
+nodes-still p q a = (ap (λ (y : Parser). y.head) a, ap (λ (y : Parser). y.load) a)
+
+pub nodes-on : (p q x : Parser) → SameNodes p q → SameNodes q x → SameNodes p x
+nodes-on p q x a b = (b.0 ∙ a.0, b.1 ∙ a.1)
+
+-- ── the names, by their case ──
+
+pub names-fit : {n m : Names} (ls : List ℕ) → n ≡ m → NamesFit n ls → NamesFit m ls
+names-fit ls e h = subst (λ (x : Names). NamesFit x ls) e h
+
+pub bind-as : {n m : Names} {p q : Parser} {r : Result (Unit {0}) Stop} (ls : List ℕ) → n ≡ m → Does 0 (λ c. bind c (names_of m ls)) p r q → Does 0 (λ c. bind c (names_of n ls)) p r q
+bind-as {n} {m} {p} {q} {r} ls e d = subst (λ (x : Names). Does 0 (λ c. bind c (names_of x ls)) p r q) (sym e) d
+
+pub bind-none : {n : Names} {p : Parser} (ls : List ℕ) → Ready p → n ≡ Unnamed → Does 0 (λ c. bind c (names_of n ls)) p (Ok tt) p
+unfolding bind
+bind-none ls r e = bind-as ls e (fin (λ c. bind c []) (begin 0 (λ c. bind c []) r))
+
+-- ── the inserted return statement ──
+
+pub body_is : {j k : ℕ} {f : St → Out ℕ} {p q : Parser} (b body : Bool) (m : ℕ) → At j k f (λ s. with_return (ctx_at p) body m s) p q → body ≡ b → At j k f (λ s. with_return (ctx_at p) b m s) p q
+body_is {p = p} b body m t e = by t (λ s. ap (λ (x : Bool). with_return (ctx_at p) x m s) e)
+
+-- of any definition and one parser; Ends.antt has it of `Returns`
+pub return-stops : {f : Ctx → St → Out ℕ} {p q : Parser} {g : Refusal} (x : Result ℕ Refusal) (n : ℕ) → Does 0 f p (Stopped (Refused g)) q → IsErr x × IsErrAnd x (λ h. h ≡ g) → SameSymbols p q → Does 0 f p (lifted x) q × IfOk x (λ m. m ≤ n) × SameSymbols p q
+return-stops (Ok a) n d h e = absurd h.1
+return-stops (Stopped s) n d h e = (handed (Stopped s) d h, tt, e)
 
 -- ── the end of an if statement ──
 

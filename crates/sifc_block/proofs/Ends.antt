@@ -3,18 +3,19 @@ use Rattle.std.specs.Prelude.{ℕ, ◌+◌, ◌%◌, ◌≤◌, ◌<◌, ◌≡�
 use Rattle.std.proofs.Common.{add-one, arith, sym, ap, ◌∙◌}
 use Rattle.std.proofs.Math.Path.{subst}
 use Rattle.sifc_err.specs.declared.Refusal.{Refusal}
-use Rattle.sifc_def.specs.State.{St, Out, expect, push}
+use Rattle.sifc_def.specs.State.{St, expect, push}
 use Rattle.sifc_def.specs.Symbols.{close_scope}
 use Rattle.sifc_def.specs.Stmt.{with_return}
 use Rattle.sifc_step.specs.declared.walk.Parser.{Parser}
 use Rattle.sifc_step.specs.declared.walk.Stop.{Stop}
 use Rattle.sifc_step.specs.declared.walk.Stop.TheVariants.{Refused}
 use Rattle.sifc_step.specs.declared.walk.Target.{Target}
-use Rattle.sifc_step.specs.Abs.{Inp, inp_of, mem, kind_in, flag_in, kids_in, ctx_at, Ready, Does, StandsAt, Paired, lifted}
+use Rattle.sifc_step.specs.Abs.{Inp, inp_of, mem, kind_in, flag_in, kids_in, Ready, Does, StandsAt, Paired, lifted}
 use Rattle.sifc_step.specs.Small.{OnlyMoves, growing, Expects, Pushes, HeadWord, node_of, newest, ClosesScope}
-use Rattle.sifc_step.proofs.Steps.{At, begin, by, fin, go, stop, refused, last, read, aimed, yes, no, kept-same, kept-on}
+use Rattle.sifc_step.proofs.Steps.{begin, by, fin, go, stop, refused, last, read, aimed, yes, no, kept-same, kept-on}
 use Rattle.sifc_step.proofs.Small.{conveyed, handed, given, least, pushed-as, unscoped}
 use Rattle.sifc_block.specs.Bound.{end_block, Amid, Returns, EndsBlock}
+use Rattle.sifc_block.proofs.Blocks.{body_is}
 
 -- ── what a parser with some symbols is ready for ──
 
@@ -37,9 +38,6 @@ pub level-small : {p q : Parser} → Amid p → OnlyMoves p q → q.level < 6553
 level-small {p} {q} a m = omega (arith, ap (λ (y : Parser). y.level) m, a.ready.level, a.ready.stands.here, a.ready.stands.toks.few)
 
 -- ── the inserted return statement ──
-
-body_is : {j k : ℕ} {f : St → Out ℕ} {p q : Parser} (b body : Bool) (m : ℕ) → At j k f (λ s. with_return (ctx_at p) body m s) p q → body ≡ b → At j k f (λ s. with_return (ctx_at p) b m s) p q
-body_is {p = p} b body m t e = by t (λ s. ap (λ (x : Bool). with_return (ctx_at p) x m s) e)
 
 module _ {p : Parser} (body : Bool) (n : ℕ) where
   no-body : body ≡ false → Does 0 (λ c. with_return c body n) p (Ok n) p

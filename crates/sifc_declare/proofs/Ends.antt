@@ -195,9 +195,16 @@ conveyed-any {x = Stopped t} d h = rw h.1 d
 
 -- two names of which one is missing
 pub pair-stops : {f : Ctx → St → Out (List ℕ)} {p q : Parser} {s : Stop} (x : Result (ℕ × ℕ) Stop)
-    → DoesAny 0 f p (Stopped s) q → IsErr x × IsErrAnd x (λ t. t ≡ s) → DoesAny 0 f p (listed x) q × IfOk x (λ y. (y.0 < 65536) × (y.1 < 65536))
+    → Does 0 f p (Stopped s) q → IsErr x × IsErrAnd x (λ t. t ≡ s) → Does 0 f p (listed x) q × IfOk x (λ y. (y.0 < 65536) × (y.1 < 65536))
 pair-stops (Ok a) d h = absurd h.1
 pair-stops (Stopped t) d h = (rw h.1 d, tt)
+
+-- the same, whatever the script and the symbols are
+pub pair-stops-any : {f : Ctx → St → Out (List ℕ)} {p q : Parser} {s : Stop} (x : Result (ℕ × ℕ) Stop)
+    → DoesAny 0 f p (Stopped s) q → IsErr x × IsErrAnd x (λ t. t ≡ s) → DoesAny 0 f p (listed x) q × IfOk x (λ y. (y.0 < 65536) × (y.1 < 65536))
+pair-stops-any x d h =
+    let z = pair-stops x d.does h in
+    (record { does = z.0; alone = d.alone; whatever = λ s ys. (pair-stops x (d.whatever s ys) h).0 }, z.1)
 
 -- how many parameters there are: both bounds
 pub few-nodes : (m : ℕ) (x : Result ℕ Stop) → IfOk x (λ n. n ≤ 64) → IfOk x (λ n. n ≤ m) → IfOk x (λ n. (n ≤ 64) × (n ≤ m))

@@ -6,3 +6,4 @@ pub mod Told
 pub mod Book
 pub mod Items
 pub mod Words
+pub mod Checks

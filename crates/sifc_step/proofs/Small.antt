@@ -112,7 +112,7 @@ pub alike : {A : Type 0} {j : ℕ} (f : Ctx → St → Out A) {g : Ctx → St �
 alike f h d = record { kept = d.kept; same = λ r E e. d.same r E e ∙ h r E e; fine = d.fine }
 
 module _ {p : Parser} where
-  expected : {ty : ℕ} {x : Result (Unit {0}) Stop} {q : Parser} → here p ≡ ty → Does (passes p) (λ c. consume c) p x q → Does (passes_if ty p) (λ c. expect c ty) p x q
+  pub expected : {ty : ℕ} {x : Result (Unit {0}) Stop} {q : Parser} → here p ≡ ty → Does (passes p) (λ c. consume c) p x q → Does (passes_if ty p) (λ c. expect c ty) p x q
   unfolding expect if◌then◌otherwise◌ go_on
   expected {ty} e d = rw (passes_if-yes ty p e) (alike (λ c. consume c) (λ r E l. sym (rw (kind-here p r, eq-eqb (here p) ty e) refl)) d)
 
@@ -254,27 +254,29 @@ unfolding add_error go_on
 added-here p why (Failed e) q d = record { says = λ E l. d.says E l; which = d.which; there = d.there; more = d.more }
 added-here p why (Refused g) q d = λ E l. d E l
 
-here-at : {p : Parser} {why : Why} {s : Stop} {q : Parser} → Throwing (throw_at p.at why) (throw_at p.at why) (λ c. add_error_w_pos c p.at why) why p s q → Throwing (λ c. throw c why) (λ c. throw c why) (λ c. add_error c why) why p s q
+-- an error that is listed here: what is promised of it for one parser
+abbrev pub ThrowingHere : Parser → Why → Stop → Parser → Type 0
+ThrowingHere p why stop q = Throwing (λ c. throw c why) (λ c. throw c why) (λ c. add_error c why) why p stop q
+
+pub here-at : {p : Parser} {why : Why} {s : Stop} {q : Parser} → Throwing (throw_at p.at why) (throw_at p.at why) (λ c. add_error_w_pos c p.at why) why p s q → ThrowingHere p why s q
 unfolding throw add_error go_on
 here-at {p} {why} {s} {q} d = record { does = alike (throw_at p.at why) (λ r E l. refl) d.does; counts = alike (throw_at p.at why) (λ r E l. refl) d.counts; adds = added-here p why s q d.adds }
 
 pub throw-here : {p : Parser} {why : Why} {s : Stop} {q : Parser} → ThrowsAt p p.at why s q → Throws p why s q
 throw-here {p} {why} {s} {q} d =
-    let h : Throwing (λ c. throw c why) (λ c. throw c why) (λ c. add_error c why) why p s q = here-at (record { does = d.does; counts = d.counts; adds = d.adds }) in
+    let h : ThrowingHere p why s q = here-at (record { does = d.does; counts = d.counts; adds = d.adds }) in
     record { does = h.does; counts = h.counts; adds = h.adds; alone = d.alone; whatever = λ t os ks M. here-at (d.whatever t os ks M) }
 
--- what is promised of an error that is listed, over another script and other arrays
-throws-over : {p q : Parser} {why : Why} {stop : Stop} (s : List ℕ) (M : Mem) → Throws p why stop q → Throws (over s M p p) why stop (over s M p q)
-throws-over {p} {q} s M t =
-    let h = t.whatever s p.offs.now p.words.now M in
-    record { does = h.does; counts = h.counts; adds = h.adds; alone = ap (λ (x : Parser). over s M p x) t.alone; whatever = λ v os ks N. t.whatever v os ks N }
+-- what a step that throws here promises, of one parser
+pub throwing-here : {p q : Parser} {why : Why} {stop : Stop} → Throws p why stop q → ThrowingHere p why stop q
+throwing-here t = record { does = t.does; counts = t.counts; adds = t.adds }
 
 -- ── an error whose token is passed ──
 
-counts-pass : (p q : Parser) → OnlyLists p q → OnlyPasses p q
+pub counts-pass : (p q : Parser) → OnlyLists p q → OnlyPasses p q
 counts-pass p q a = a ∙ ap (λ (y : Parser). record p { at = y.at; errors = q.errors }) (sym a)
 
-moves-pass : (p q : Parser) → OnlyMoves p q → OnlyPasses p q
+pub moves-pass : (p q : Parser) → OnlyMoves p q → OnlyPasses p q
 moves-pass p q a = a ∙ ap (λ (y : Parser). record p { at = q.at; errors = y.errors }) (sym a)
 
 at_of : {A : Type 0} → Out A → ℕ
@@ -305,36 +307,39 @@ broke-ready {p} {q} r k f =
       room = f.room;
     })
 
-past_full : {p : Parser} (why : Why) {q : Parser} {g : Refusal} → Throws p why (Refused g) q → Does {A = Unit {0}} 1 (λ c. throw_past c why) p (Stopped (Refused g)) q
+pub past-full-does : {p : Parser} (why : Why) {q : Parser} {g : Refusal} → ThrowingHere p why (Refused g) q → Does {A = Unit {0}} 1 (λ c. throw_past c why) p (Stopped (Refused g)) q
 unfolding throw_past go_on
-past_full {p} why t = refuses t.does.kept (λ r E l. ap (λ (o : Out Err). go_on o (λ y s. go_on (consume (ctx_at p) s) (λ a. raise (ctx_at p) y))) (t.adds E l))
+past-full-does {p} why t = refuses t.does.kept (λ r E l. ap (λ (o : Out Err). go_on o (λ y s. go_on (consume (ctx_at p) s) (λ a. raise (ctx_at p) y))) (t.adds E l))
 
 pub past-full : {p : Parser} (why : Why) {q : Parser} {g : Refusal} → Throws p why (Refused g) q → Pasts p why (Refused g) q
-past-full {p} why {q} t = record { does = past_full why t; alone = counts-pass p q t.alone; whatever = λ s M. past_full why (throws-over s M t) }
+past-full {p} why {q} t = record { does = past-full-does why (throwing-here t); alone = counts-pass p q t.alone; whatever = λ s M. past-full-does why (t.whatever s p.offs.now p.words.now M) }
 
 -- two steps that leave all but the token and how many errors are listed
-passes-on : (p q x : Parser) → OnlyLists p q → OnlyMoves q x → OnlyPasses p x
+pub passes-on : (p q x : Parser) → OnlyLists p q → OnlyMoves q x → OnlyPasses p x
 passes-on p q x a b = b ∙ ap (λ (y : Parser). record y { at = x.at }) a ∙ ap (λ (y : Parser). record p { at = x.at; errors = y.errors }) (sym b)
 
 -- where it stood it stands
-pub stands-on : {p : Parser} {why : Why} {e : Err} {q : Parser} → Throws p why (Failed e) q → StandsAt p → StandsAt q
-stands-on {p} {why} {e} {q} t s = subst StandsAt (sym t.alone) (record { toks = s.toks; here = s.here; calm = s.calm })
+pub stands-listed : (p q : Parser) → OnlyLists p q → StandsAt p → StandsAt q
+stands-listed p q a s = subst StandsAt (sym a) (record { toks = s.toks; here = s.here; calm = s.calm })
 
-module _ {p : Parser} (why : Why) (lw : listed_by why ≡ 1) {e : Err} {q : Parser} (t : Throws p why (Failed e) q) where
+pub stands-on : {p : Parser} {why : Why} {e : Err} {q : Parser} → Throws p why (Failed e) q → StandsAt p → StandsAt q
+stands-on {p} {why} {e} {q} t = stands-listed p q t.alone
+
+module _ {p : Parser} (why : Why) (lw : listed_by why ≡ 1) {e : Err} {q : Parser} (t : ThrowingHere p why (Failed e) q) where
   ready : Ready p → Ready q
   ready r = broke-ready r t.does.kept (t.does.fine r)
 
-  past_refused : {x : Parser} {g : Refusal} → Does (passes q) (λ c. consume c) q (Stopped (Refused g)) x → Does {A = Unit {0}} 1 (λ c. throw_past c why) p (Stopped (Refused g)) x
+  pub past-refused-does : {x : Parser} {g : Refusal} → Does (passes q) (λ c. consume c) q (Stopped (Refused g)) x → Does {A = Unit {0}} 1 (λ c. throw_past c why) p (Stopped (Refused g)) x
   unfolding throw_past add_error go_on
-  past_refused {x} {g} d =
+  past-refused-does {x} {g} d =
       refuses (kept-on t.does.kept d.kept)
       (λ r E l. ap (λ (o : Out Err). go_on o (λ y s. go_on (consume (ctx_at p) s) (λ a. raise (ctx_at p) y))) (t.adds.says E l)
       ∙ ap (λ (c : Ctx). go_on (consume c (abs_at (e ∷ E) q)) (λ a. raise (ctx_at p) e)) (sym (ctx-kept t.does.kept))
       ∙ ap (λ (o : Out (Unit {0})). go_on o (λ a. raise (ctx_at p) e)) (sym (d.same (ready r) (e ∷ E) (ap suc l ∙ sym (add-one p.errors) ∙ sym t.adds.more))))
 
-  past_fails : {x : Parser} → Does (passes q) (λ c. consume c) q (Ok tt) x → Does {A = Unit {0}} 1 (λ c. throw_past c why) p (Stopped (Failed e)) x
+  pub past-fails-does : {x : Parser} → Does (passes q) (λ c. consume c) q (Ok tt) x → Does {A = Unit {0}} 1 (λ c. throw_past c why) p (Stopped (Failed e)) x
   unfolding throw_past add_error go_on raise
-  past_fails {x} d =
+  past-fails-does {x} d =
       let ew = t.adds.which in
       let k = kept-on t.does.kept d.kept in
       record {
@@ -379,16 +384,16 @@ over-on p {q} {x} {r} s M i d = subst (λ (J : Inp). Does (passes (among (inp s 
 module _ {p : Parser} (why : Why) (lw : listed_by why ≡ 1) {e : Err} {q : Parser} (t : Throws p why (Failed e) q) where
   pub past-refused : {x : Parser} {g : Refusal} → Consumes q (Stopped g) x → Pasts p why (Refused g) x
   past-refused d = record {
-    does = past_refused why lw t d.does;
+    does = past-refused-does why lw (throwing-here t) d.does;
     alone = passes-on p q _ t.alone d.alone;
-    whatever = λ s M. past_refused why lw (throws-over s M t) (over-on p s M t.does.kept.inp d);
+    whatever = λ s M. past-refused-does why lw (t.whatever s p.offs.now p.words.now M) (over-on p s M t.does.kept.inp d);
   }
 
   pub past-fails : {x : Parser} → Consumes q (Ok tt) x → Pasts p why (Failed e) x
   past-fails d = record {
-    does = past_fails why lw t d.does;
+    does = past-fails-does why lw (throwing-here t) d.does;
     alone = passes-on p q _ t.alone d.alone;
-    whatever = λ s M. past_fails why lw (throws-over s M t) (over-on p s M t.does.kept.inp d);
+    whatever = λ s M. past-fails-does why lw (t.whatever s p.offs.now p.words.now M) (over-on p s M t.does.kept.inp d);
   }
 
 -- ── what a step asks, of a parser that is ready ──
@@ -456,11 +461,11 @@ module _ {p : Parser} where
 -- ── names ──
 
 -- how far a name is passed
-abbrev named_if : Parser → ℕ
+abbrev pub named_if : Parser → ℕ
 named_if p = elim (eqb (here p) 31) [ true ↦ 1 | false ↦ 0 ]
 
 module _ {p : Parser} (y : ℕ → Why) where
-  ident-taken : here p ≡ 31 → {q : Parser} → Does (passes p) (λ c. consume c) p (Ok tt) q → Does (named_if p) (λ c. ident c y) p (Ok p.at) q
+  pub ident-taken : here p ≡ 31 → {q : Parser} → Does (passes p) (λ c. consume c) p (Ok tt) q → Does (named_if p) (λ c. ident c y) p (Ok p.at) q
   unfolding ident match_ident or_throw if◌then◌otherwise◌ go_on
   ident-taken e {q} d = rw (named_if, eq-eqb (here p) 31 e) (record {
     kept = d.kept;
@@ -468,7 +473,7 @@ module _ {p : Parser} (y : ℕ → Why) where
     fine = λ r. subst (λ (j : ℕ). Fine (inp_of p) (mem_of q) (j + p.at) p.errors (walk_of q)) (passes-one p (λ z. let v : ⊥ = omega (arith, e, z) in v)) (d.fine r);
   })
 
-  ident-refused : here p ≡ 31 → {q : Parser} {g : Refusal} → Does (passes p) (λ c. consume c) p (Stopped (Refused g)) q → Does (named_if p) (λ c. ident c y) p (Stopped (Refused g)) q
+  pub ident-refused : here p ≡ 31 → {q : Parser} {g : Refusal} → Does (passes p) (λ c. consume c) p (Stopped (Refused g)) q → Does (named_if p) (λ c. ident c y) p (Stopped (Refused g)) q
   unfolding ident match_ident or_throw if◌then◌otherwise◌ go_on
   ident-refused e {q} d = refuses d.kept (λ r E l. rw (kind-here p r, eq-eqb (here p) 31 e, sym (d.same r E l)) refl)
 
@@ -551,37 +556,43 @@ module _ {p q : Parser} (k : ℕ) (f : Bool) (n t : ℕ) (r : Ready p) (d : Does
 
 -- ── a node for the token in front, which is passed ──
 
-grown-past : (p q z : Parser) → OnlyGrows p q → OnlyMoves q z → OnlyGrowsPast p z
+pub grown-stays : (p q : Parser) → OnlyGrows p q → OnlyGrowsPast p q
+grown-stays p q a = a ∙ ap (λ (n : ℕ). record p { at = n; head = q.head; load = q.load; nodes = q.nodes }) (sym (ap (λ (y : Parser). y.at) a))
+
+pub grown-past : (p q z : Parser) → OnlyGrows p q → OnlyMoves q z → OnlyGrowsPast p z
 grown-past p q z a b = b ∙ ap (λ (y : Parser). record y { at = z.at }) a ∙ ap (λ (y : Parser). record p { at = z.at; head = y.head; load = y.load; nodes = y.nodes }) (sym b)
 
+pub stands-with : (p q : Parser) → OnlyGrows p q → StandsAt p → StandsAt q
+stands-with p q a s = subst StandsAt (sym a) (record { toks = s.toks; here = s.here; calm = s.calm })
+
 pub stands-grown : {p : Parser} {h t : ℕ} {r : Result (Unit {0}) Refusal} {q : Parser} → Pushes p h t r q → StandsAt p → StandsAt q
-stands-grown {p} {h} {t} {r} {q} d s = subst StandsAt (sym d.alone) (record { toks = s.toks; here = s.here; calm = s.calm })
+stands-grown {p} {h} {t} {r} {q} d = stands-with p q d.alone
 
 module _ {p : Parser} where
   begun : Ready p → At (passes p) (passes p) (λ s. literal (ctx_at p) p.at s) (λ s. go_on (push (ctx_at p) 24 false 0 p.at s) (λ a. consume (ctx_at p))) p p
   unfolding literal
   begun r = begin (passes p) (λ c s. literal c p.at s) r
 
-  stopped : {q : Parser} {g : Refusal} → Does 0 (λ c. push c 24 false 0 p.at) p (Stopped (Refused g)) q → Does (passes p) (λ c. literal c p.at) p (Stopped (Refused g)) q
+  pub literal-stops : {q : Parser} {g : Refusal} → Does 0 (λ c. push c 24 false 0 p.at) p (Stopped (Refused g)) q → Does (passes p) (λ c. literal c p.at) p (Stopped (Refused g)) q
   unfolding literal go_on
-  stopped d = refuses d.kept (λ r E l. ap (λ (o : Out (Unit {0})). go_on o (λ a. consume (ctx_at p))) (sym (d.same r E l)))
+  literal-stops d = refuses d.kept (λ r E l. ap (λ (o : Out (Unit {0})). go_on o (λ a. consume (ctx_at p))) (sym (d.same r E l)))
 
-  passed-on : (x : Result (Unit {0}) Refusal) {q z : Parser} → Does 0 (λ c. push c 24 false 0 p.at) p (Ok tt) q → Does (passes q) (λ c. consume c) q (lifted x) z → Does (passes p) (λ c. literal c p.at) p (lifted x) z
-  passed-on x {q} {z} d e = given (kept-on d.kept e.kept) (λ r. last (λ c. consume c) (λ c. literal c p.at) (go (λ c. push c 24 false 0 p.at) _ (begun r) d) (pushed-passes 24 false 0 p.at r d) e)
+  pub literal-passes : (x : Result (Unit {0}) Refusal) {q z : Parser} → Does 0 (λ c. push c 24 false 0 p.at) p (Ok tt) q → Does (passes q) (λ c. consume c) q (lifted x) z → Does (passes p) (λ c. literal c p.at) p (lifted x) z
+  literal-passes x {q} {z} d e = given (kept-on d.kept e.kept) (λ r. last (λ c. consume c) (λ c. literal c p.at) (go (λ c. push c 24 false 0 p.at) _ (begun r) d) (pushed-passes 24 false 0 p.at r d) e)
 
 module _ {p : Parser} where
   pub literal-refused : {q : Parser} {g : Refusal} (x : Result (Unit {0}) Refusal) → Pushes p 24 p.at (Stopped g) q → IsErr x × IsErrAnd x (λ h. h ≡ g) → Literals p x q
   literal-refused {q} x d h = record {
-    does = handed x (stopped d.does) h;
-    alone = d.alone ∙ ap (λ (n : ℕ). record p { at = n; head = q.head; load = q.load; nodes = q.nodes }) (sym (ap (λ (y : Parser). y.at) d.alone));
-    whatever = λ s ys. handed x (stopped (d.whatever (inp s p.offs.now p.words.now p.lim) ys)) h;
+    does = handed x (literal-stops d.does) h;
+    alone = grown-stays p q d.alone;
+    whatever = λ s ys. handed x (literal-stops (d.whatever (inp s p.offs.now p.words.now p.lim) ys)) h;
   }
 
   pub literal-done : {q z : Parser} {x : Result (Unit {0}) Refusal} → Pushes p 24 p.at (Ok tt) q → Consumes q x z → Literals p x z
   literal-done {q} {z} {x} d e = record {
-    does = passed-on x d.does e.does;
+    does = literal-passes x d.does e.does;
     alone = grown-past p q z d.alone e.alone;
-    whatever = λ s ys. passed-on x (d.whatever (inp s p.offs.now p.words.now p.lim) ys) (grown-on s ys);
+    whatever = λ s ys. literal-passes x (d.whatever (inp s p.offs.now p.words.now p.lim) ys) (grown-on s ys);
   }
     where
       -- the nodes' words are those that the token's passing left

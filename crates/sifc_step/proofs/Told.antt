@@ -100,10 +100,13 @@ pub record Next (p : Parser) (i : ℕ) (q : Parser) : Type 0 where
   pub at : q.at ≡ suc p.at
   pub nodes : q.nodes ≡ p.nodes
 
-pub name-next : {p q : Parser} {why : Why} {i : ℕ} (y : ℕ → Why) → Ready p → Idents p why (Ok i) q → y p.at ≡ why → Next p i q
-name-next {p} {q} y r d e =
-    let z = told (Named (abs_at (blank p.errors) p)) r (d.does y e) (λ E. ident-passes (ctx_at p) y (abs_at E p)) in
+pub name-next-does : {j : ℕ} {p q : Parser} {i : ℕ} (y : ℕ → Why) → Ready p → Does j (λ c. ident c y) p (Ok i) q → Next p i q
+name-next-does {p = p} {q = q} y r d =
+    let z = told (Named (abs_at (blank p.errors) p)) r d (λ E. ident-passes (ctx_at p) y (abs_at E p)) in
     record { value = z.0; at = z.1; nodes = nodes-same p q z.2 }
+
+pub name-next : {p q : Parser} {why : Why} {i : ℕ} (y : ℕ → Why) → Ready p → Idents p why (Ok i) q → y p.at ≡ why → Next p i q
+name-next y r d e = name-next-does y r (d.does y e)
 
 pub separator-nodes : {j : ℕ} {p q : Parser} → Ready p → Does j (λ c. separator c) p (Ok tt) q → q.nodes ≡ p.nodes
 separator-nodes {p = p} {q = q} r d = nodes-same p q (told (λ a s. s.nodes ≡ nodes_of p.nodes p.head.now p.load.now) r d (λ E. separator-keeps (ctx_at p) (abs_at E p)))

@@ -1,13 +1,13 @@
 use Rattle.std.proofs.Common.{arith}
 use Rattle.sifc_step.proofs.Small.{least, paired}
 use Rattle.sifc_step.proofs.Items.{builds-on}
-use Rattle.sifc_declare.proofs.Ends.{expect-beside, push-beside, expect-builds, push-builds, pair-first, pair-comma, pair-second, pair-refused, pair-done, pair-stops, node-next, past-any, past-expect}
+use Rattle.sifc_declare.proofs.Ends.{expect-beside, push-beside, expect-builds, push-builds, pair-first, pair-comma, pair-second, pair-refused, pair-done, pair-stops-any, node-next, past-any, past-expect}
 use Rattle.sifc_declare.proofs.ident.ident_pair.Goals as goal
 
 pub returns-in_err-first : goal.returns-in_err-first
 returns-in_err-first c =
     let a = c.in_err-first.ensures in
-    pair-stops c.from_residual.result (record { does = pair-first a.does; alone = a.alone; whatever = λ s ys. pair-first (a.whatever s ys) }) c.from_residual.ensures
+    pair-stops-any c.from_residual.result (record { does = pair-first a.does; alone = a.alone; whatever = λ s ys. pair-first (a.whatever s ys) }) c.from_residual.ensures
 
 pub expect-requires : goal.expect-requires
 expect-requires c = (past-any c.requires c.in_ok-first.ensures).ready.stands
@@ -16,7 +16,7 @@ pub returns-in_err-expect : goal.returns-in_err-expect
 returns-in_err-expect c =
     let a = c.in_ok-first.ensures in
     let b = c.in_err-expect.ensures in
-    pair-stops c.from_residual-in_err-expect.result (record {
+    pair-stops-any c.from_residual-in_err-expect.result (record {
       does = pair-comma a.does (least b.does);
       alone = builds-on c.args.p.now c.ident_node.new.p c.expect.new.self a.alone (expect-builds b);
       whatever = λ s ys. pair-comma (a.whatever s ys) (expect-beside s ys b);
@@ -30,7 +30,7 @@ returns-in_err-second c =
     let a = c.in_ok-first.ensures in
     let b = c.in_ok-expect.ensures in
     let d = c.in_err-second.ensures in
-    pair-stops c.from_residual-in_err-second.result (record {
+    pair-stops-any c.from_residual-in_err-second.result (record {
       does = pair-second a.does (least b.does) d.does;
       alone = builds-on c.args.p.now c.expect.new.self c.ident_node-2.new.p (builds-on c.args.p.now c.ident_node.new.p c.expect.new.self a.alone (expect-builds b)) d.alone;
       whatever = λ s ys. pair-second (a.whatever s ys) (expect-beside s ys b) (d.whatever s ys);
@@ -45,7 +45,7 @@ returns-in_err-push_node c =
     let b = c.in_ok-expect.ensures in
     let d = c.in_ok-second.ensures in
     let e = c.in_err-push_node.ensures in
-    pair-stops c.from_residual-in_err-push_node.result (record {
+    pair-stops-any c.from_residual-in_err-push_node.result (record {
       does = pair-refused a.does (least b.does) d.does e.does;
       alone = builds-on c.args.p.now c.ident_node-2.new.p c.push_node.new.self (builds-on c.args.p.now c.expect.new.self c.ident_node-2.new.p (builds-on c.args.p.now c.ident_node.new.p c.expect.new.self a.alone (expect-builds b)) d.alone) (push-builds e);
       whatever = λ s ys. pair-refused (a.whatever s ys) (expect-beside s ys b) (d.whatever s ys) (push-beside s ys e);
